@@ -97,7 +97,7 @@ taken labels v l d e [] (q ∷ xs) x h = absurd h
 taken labels v l d e (a ∷ all) [] x h = absurd h
 taken labels v l d e (a ∷ all) (q ∷ xs) x h = choices (is_named l (from_end a)) (is_node v q.tail) (number_on x a) _ _ (named_as labels v l (from_end a) q.tail d e h.0.from) (taken labels v l d e all xs x h.1)
 
-inflow_is : (labels : List Label) (v : ℕ) (l : Label) → IsDistinct same_label labels → slice_get labels v ≡ Some l → (all : List Arc) (xs : List InstArc) (x : Assignment) → AllZip (HasEndsOf labels) all xs → net_inflow all x l ≡ by_number.net_inflow xs (numbers_on x all) v
+pub inflow_is : (labels : List Label) (v : ℕ) (l : Label) → IsDistinct same_label labels → slice_get labels v ≡ Some l → (all : List Arc) (xs : List InstArc) (x : Assignment) → AllZip (HasEndsOf labels) all xs → net_inflow all x l ≡ by_number.net_inflow xs (numbers_on x all) v
 inflow_is labels v l d e all xs x h = ap (λ (m : ℤ). m -ℤ flow_at_ends from_end l all x) (brought labels v l d e all xs x h) ∙ ap (λ (m : ℤ). flow_on (enters v) xs (numbers_on x all) -ℤ m) (taken labels v l d e all xs x h)
 
 -- ---- bounds
@@ -131,10 +131,10 @@ within_from x (a ∷ all) (q ∷ xs) h k = (
 
 -- ---- conditions
 
-in_range_to : (r : NodeRange) (y : ℤ) → IsInRange r y → IsInSides (sides_of r) y
+pub in_range_to : (r : NodeRange) (y : ℤ) → IsInRange r y → IsInSides (sides_of r) y
 in_range_to r y h = record { low = h.low; high = h.high }
 
-in_range_from : (r : NodeRange) (y : ℤ) → IsInSides (sides_of r) y → IsInRange r y
+pub in_range_from : (r : NodeRange) (y : ℤ) → IsInSides (sides_of r) y → IsInRange r y
 in_range_from r y h = record { low = h.low; high = h.high }
 
 -- the v-th node and its range
@@ -158,7 +158,7 @@ met_from f all x (n ∷ ns) (q ∷ rs) h same k = (
   met_from (λ u. f (suc u)) all x ns rs h.1 (λ u m j. same (suc u) m j) (λ u r j. k (suc u) r j),
 )
 
-label_get : (ns : List Node) (v : ℕ) (n : Node) → slice_get ns v ≡ Some n → slice_get (map (λ u. u.label) ns) v ≡ Some n.label
+pub label_get : (ns : List Node) (v : ℕ) (n : Node) → slice_get ns v ≡ Some n → slice_get (map (λ u. u.label) ns) v ≡ Some n.label
 label_get [] v n e = absurd (let h = e in cc)
 label_get (m ∷ ns) zero n e = let same : m ≡ n = cc in ap (λ (z : Node). Some z.label) same
 label_get (m ∷ ns) (suc v) n e = label_get ns v n e

@@ -1,5 +1,5 @@
 -- An assignment is feasible in the model exactly when the network's linear forms say so.
-use Rattle.std.specs.Prelude.{◌≡◌, ◌↔◌, ◌+◌, ℕ, Bool, List, [], ◌∷◌, map, take, Option, None, Some, if◌then◌else◌, Ok, ℤ, pos, ◌+ℤ◌, ◌≤ℤ◌}
+use Rattle.std.specs.Prelude.{◌≡◌, ◌↔◌, ◌+◌, ℕ, zero, suc, Bool, List, [], ◌∷◌, map, slice_get, take, Option, None, Some, if◌then◌else◌, Ok, ℤ, pos, ◌+ℤ◌, ◌≤ℤ◌}
 use Rattle.std.specs.List.{AllByRecursion, AllZip}
 use Rattle.std.proofs.Common.{refl, ap, sym, ◌∙◌, subst, arith}
 use Rattle.std.proofs.lemmas.Int.{ints}
@@ -9,30 +9,32 @@ use Rattle.net_tree.specs.Declarations.{AreDeclarations}
 use Rattle.net_tree.specs.Erasure.{clause}
 use Rattle.net_tree.specs.Syntax.{Clause, absent, present}
 use Rattle.net_tree.specs.Tree.{Declaration, set, param, check, node, arc, objective}
-use Rattle.net_normal.specs.Assignments.{IsFeasibleAssignment, value_of}
+use Rattle.net_normal.specs.Assignments.{net_inflow, IsWithinBounds, IsInRange, IsFeasibleAssignment, value_of}
 use Rattle.net_normal.specs.declared.instance.InstArc.{InstArc}
+use Rattle.net_normal.specs.declared.instance.NodeRange.{NodeRange}
 use Rattle.net_expr.specs.declared.row.Row.{Row}
 use Rattle.net_expr.specs.Worlds.{Name, World}
 use Rattle.net_linear.specs.declared.condition.Sides.{Sides}
 use Rattle.net_linear.specs.Conditions.{Holds, sides_in, uncrossed}
-use Rattle.net_linear.proofs.ConditionsSound.{conditions_are_sound}
+use Rattle.net_linear.proofs.ConditionsSound.{conditions_are_sound, sides_have_numbers}
 use Rattle.net_meaning.specs.Network as meaning
-use Rattle.net_meaning.specs.Network.{is_at, IsSatisfied, IsExpressionValue}
+use Rattle.net_meaning.specs.Network.{is_at, with_inflow, HasSides, IsSatisfied, IsSatisfiedBy, IsExpressionValue}
 use Rattle.net_meaning.specs.Operators as values
 use Rattle.net_meaning.specs.Values.{Env, env_of}
 use Rattle.net_meaning.proofs.Unique.{values_are_unique, number_same}
 use Rattle.net_inst.specs.AsWritten as written
 use Rattle.net_inst.specs.AsWritten.{is_named, from_end, to_end, number_on, IsWithin, IsMet, in_order, nodes_of, rows_of, node_at_row}
 use Rattle.net_inst.specs.Indexings.{indexing_in}
-use Rattle.net_inst.specs.Laws.{IsBoundedAs}
+use Rattle.net_inst.specs.Laws.{IsBoundedAs, IsRangeOf}
+use Rattle.net_inst.specs.Nodes.{sides_of}
 use Rattle.net_inst.specs.Instances.{seen_as}
 use Rattle.net_inst.specs.Readings.{Objective, part_value, prices}
 use Rattle.net_inst.specs.Readings.{value_of as objective_value}
-use Rattle.net_inst.specs.Soundness.{IsSameNode, IsSameArc, HasBounds, AssignmentsAreSound}
+use Rattle.net_inst.specs.Soundness.{IsSameNode, IsSameArc, HasBounds, IsRangeAt, AssignmentsAreSound}
 use Rattle.net_inst.proofs.Agreement.{IsFinished, network_is}
 use Rattle.net_inst.proofs.Aiming.{have_objective, objective_valued}
 use Rattle.net_inst.proofs.Built.{HasRange}
-use Rattle.net_inst.proofs.Feasible.{amount_of, have_feasible}
+use Rattle.net_inst.proofs.Feasible.{amount_of, in_range_to, in_range_from, inflow_is, label_get, have_feasible}
 use Rattle.net_inst.proofs.KeysOnce.{are_distinct_in_sets}
 use Rattle.net_inst.proofs.Once.{all_join}
 use Rattle.net_inst.proofs.SoundEnds.{as_label}
@@ -41,7 +43,7 @@ use Rattle.net_inst.proofs.SoundGoals.{some_is}
 use Rattle.net_inst.proofs.SoundNames.{nodes_once, arcs_once, objectives_once}
 use Rattle.net_inst.proofs.SoundNetworks.{IsFound, network_found}
 use Rattle.net_inst.proofs.SoundPrices.{terms_are, all_prices}
-use Rattle.net_inst.proofs.Written.{all_written, have_bounds}
+use Rattle.net_inst.proofs.Written.{all_written, have_bounds, have_ends, have_exact_ranges}
 use Rattle.net_inst.proofs.Zips.{ok_then}
 
 -- ---- flows
@@ -131,6 +133,20 @@ one_condition n v r y same good range =
     (subst (λ c. IsSatisfied (env_of n.env n.scope) c y ↔ Holds n.env n.scope n.condition y) (sym same.condition)
     (conditions_are_sound no_flows n.env n.scope n.condition s y (condition_plain y n.condition good) i)))
 
+-- the sides of a node's condition have numbers
+one_has_sides : (n : written.Node) (v : meaning.Node) (r : Sides) (y : ℤ) → IsSameNode n v → IsCondition n.condition → HasRange n r → HasSides (with_inflow v.env y) v.condition
+one_has_sides n v r y same good range =
+    ok_then (sides_in n.env n.scope n.condition) (λ s. Ok (uncrossed s)) (Some r) range.is (λ s i j.
+    subst (λ e. HasSides (with_inflow e y) v.condition) (sym same.env)
+    (subst (λ c. HasSides (with_inflow (env_of n.env n.scope) y) c) (sym same.condition) (sides_have_numbers no_flows n.env n.scope n.condition s y (condition_plain y n.condition good) i)))
+
+all_have_sides : (y : ℤ) (ns : List written.Node) (vs : List meaning.Node) (rs : List Sides) → AllZip IsSameNode ns vs → AllByRecursion HasCondition ns → AllZip HasRange ns rs → AllByRecursion (λ (v : meaning.Node). HasSides (with_inflow v.env y) v.condition) vs
+all_have_sides y [] [] rs same good ranges = tt
+all_have_sides y [] (v ∷ vs) rs same good ranges = absurd same
+all_have_sides y (n ∷ ns) [] rs same good ranges = absurd same
+all_have_sides y (n ∷ ns) (v ∷ vs) [] same good ranges = absurd ranges
+all_have_sides y (n ∷ ns) (v ∷ vs) (r ∷ rs) same good ranges = (one_has_sides n v r y same.0 good.0 ranges.0, all_have_sides y ns vs rs same.1 good.1 ranges.1)
+
 -- what a node's label is as written
 label_is : (n : written.Node) (v : meaning.Node) → IsSameNode n v → v.label ≡ as_label n.label
 label_is n v same =
@@ -160,6 +176,59 @@ module _ (xs : List written.Arc) (all : List meaning.Arc) (x : meaning.Assignmen
   conditions_from (n ∷ ns) (v ∷ vs) [] same good ranges h = absurd ranges
   conditions_from (n ∷ ns) (v ∷ vs) (r ∷ rs) same good ranges h = ((node_alike n v r same.0 good.0 ranges.0).1 h.0, conditions_from ns vs rs same.1 good.1 ranges.1 h.1)
 
+-- ---- bounds and ranges by number
+
+limits_to : (all : List meaning.Arc) (is : List InstArc) (x : meaning.Assignment) → AllZip HasBounds all is → AllByRecursion (Bounded x) all → AllZip IsWithinBounds is (map (meaning.flow_on x) all)
+limits_to [] [] x has h = tt
+limits_to [] (i ∷ is) x has h = absurd has
+limits_to (a ∷ all) [] x has h = absurd has
+limits_to (a ∷ all) (i ∷ is) x has h =
+    let low = has.0.lower in
+    let high = has.0.upper in (record { lower = search (arith, ints, low, h.0.0); upper = search (arith, ints, high, h.0.1) }, limits_to all is x has.1 h.1)
+
+limits_from : (all : List meaning.Arc) (is : List InstArc) (x : meaning.Assignment) → AllZip HasBounds all is → AllZip IsWithinBounds is (map (meaning.flow_on x) all) → AllByRecursion (Bounded x) all
+limits_from [] [] x has h = tt
+limits_from [] (i ∷ is) x has h = absurd has
+limits_from (a ∷ all) [] x has h = absurd has
+limits_from (a ∷ all) (i ∷ is) x has h =
+    let low = has.0.lower in
+    let high = has.0.upper in
+    let lower = h.0.lower in
+    let upper = h.0.upper in ((search (arith, ints, low, lower), search (arith, ints, high, upper)), limits_from all is x has.1 h.1)
+
+-- the node with number i, as written, with its range
+record IsFoundAt (ns : List written.Node) (v : meaning.Node) (rs : List Sides) (ranges : List NodeRange) (i : ℕ) : Type 0 where
+  node : written.Node
+  at : slice_get ns i ≡ Some node
+  same : IsSameNode node v
+  good : IsCondition node.condition
+  sides : Sides
+  has : HasRange node sides
+  range : NodeRange
+  range_at : slice_get ranges i ≡ Some range
+  exact : IsRangeOf node (sides_of range)
+
+found_at : (i : ℕ) (ns : List written.Node) (vs : List meaning.Node) (rs : List Sides) (ranges : List NodeRange) (v : meaning.Node) → AllZip IsSameNode ns vs → AllByRecursion HasCondition ns → AllZip HasRange ns rs → AllZip IsRangeOf ns (map sides_of ranges)
+    → slice_get vs i ≡ Some v → IsFoundAt ns v rs ranges i
+found_at i ns [] rs ranges v same good has exact e = absurd (let h = e in cc)
+found_at i [] (u ∷ vs) rs ranges v same good has exact e = absurd same
+found_at i (n ∷ ns) (u ∷ vs) [] ranges v same good has exact e = absurd has
+found_at i (n ∷ ns) (u ∷ vs) (r ∷ rs) [] v same good has exact e = absurd exact
+found_at zero (n ∷ ns) (u ∷ vs) (r ∷ rs) (q ∷ ranges) v same good has exact e =
+    let is : u ≡ v = cc in
+    record { node = n; at = refl; same = subst (IsSameNode n) is same.0; good = good.0; sides = r; has = has.0; range = q; range_at = refl; exact = exact.0 }
+found_at (suc i) (n ∷ ns) (u ∷ vs) (r ∷ rs) (q ∷ ranges) v same good has exact e =
+    let more = found_at i ns vs rs ranges v same.1 good.1 has.1 exact.1 e in
+    record { node = more.node; at = more.at; same = more.same; good = more.good; sides = more.sides; has = more.has; range = more.range; range_at = more.range_at; exact = more.exact }
+
+-- the condition is true of a net inflow exactly when this is in the range
+condition_alike : (ns : List written.Node) (v : meaning.Node) (rs : List Sides) (ranges : List NodeRange) (i : ℕ) (f : IsFoundAt ns v rs ranges i) (y : ℤ) → IsSatisfied v.env v.condition y ↔ IsInRange f.range y
+condition_alike ns v rs ranges i f y =
+    let one = one_condition f.node v f.sides y f.same f.good f.has in (
+      (λ h. in_range_from f.range y ((f.exact y).1 (one.0 h))),
+      (λ h. one.1 ((f.exact y).0 (in_range_to f.range y h))),
+    )
+
 -- ---- feasible assignments
 
 pub feasible_alike : (w : World) (ds : List Declaration) (vs : List meaning.Node) (all : List meaning.Arc) (rs : List Sides) (is : List InstArc) (x : meaning.Assignment) → AreDeclarations ds → AllZip IsSameNode (written.nodes w ds) vs → AllZip IsSameArc (written.arcs w ds) all
@@ -174,7 +243,17 @@ expression_unique e absent k m h j = h ∙ sym j
 expression_unique e (present x) k m h j = number_same k m (values_are_unique e x (values.number k) (values.number m) h j)
 
 pub assignments_are_sound : AssignmentsAreSound
-assignments_are_sound requested w ds n sets names good e = record { has = found.has; feasible = feasible; value = value }
+assignments_are_sound requested w ds n sets names good e = record {
+    has = found.has;
+    evaluated = record {
+      conditions = λ y. all_have_sides y (written.nodes w ds) found.has.nodes f.drawing.nodes.ranges found.has.same_nodes (conditions_of w 0 ds good) all_ranges;
+      objective = λ x. (value_of n.instance (map (meaning.flow_on x) found.has.arcs), (value x _).1 refl);
+    };
+    bounds = λ x. (limits_to found.has.arcs n.instance.arcs.items x found.has.bounds, limits_from found.has.arcs n.instance.arcs.items x found.has.bounds);
+    ranges = ranges;
+    feasible = feasible;
+    value = value;
+  }
   where
     found : IsFound requested w ds (seen_as n)
     found = network_found requested w ds (seen_as n) sets names e
@@ -188,10 +267,25 @@ assignments_are_sound requested w ds n sets names good e = record { has = found.
     flows : (x : meaning.Assignment) → map (meaning.flow_on x) found.has.arcs ≡ map (number_on x) (written.arcs w ds)
     flows x = flows_same (written.arcs w ds) found.has.arcs x found.has.same_arcs
 
+    all_ranges : AllZip HasRange (written.nodes w ds) f.drawing.nodes.ranges
+    all_ranges = (all_written requested w ds f.drawing f.is_built).nodes.ranges
+
+    ranges : (i : ℕ) (v : meaning.Node) → slice_get found.has.nodes i ≡ Some v → IsRangeAt n.instance found.has.arcs i v
+    ranges i v at = (one.range, one.range_at, λ x. subst (λ y. IsSatisfiedBy found.has.arcs x v ↔ IsInRange one.range y) (inflow x) (condition_alike (written.nodes w ds) v f.drawing.nodes.ranges n.instance.nodes.items i one (meaning.net_inflow found.has.arcs x v.label)))
+      where
+        one : IsFoundAt (written.nodes w ds) v f.drawing.nodes.ranges n.instance.nodes.items i
+        one = found_at i (written.nodes w ds) found.has.nodes f.drawing.nodes.ranges n.instance.nodes.items v found.has.same_nodes (conditions_of w 0 ds good) all_ranges (have_exact_ranges requested w ds (seen_as n) e) at
+
+        inflow : (x : meaning.Assignment) → meaning.net_inflow found.has.arcs x v.label ≡ net_inflow n.instance.arcs.items (map (meaning.flow_on x) found.has.arcs) i
+        inflow x =
+            ap (meaning.net_inflow found.has.arcs x) (label_is one.node v one.same)
+            ∙ inflow_same (written.arcs w ds) found.has.arcs x one.node.label found.has.same_arcs
+            ∙ inflow_is (map (λ u. u.label) (written.nodes w ds)) i one.node.label apart.nodes (label_get (written.nodes w ds) i one.node one.at) (written.arcs w ds) n.instance.arcs.items x (have_ends requested w ds (seen_as n) e apart)
+            ∙ ap (λ (ys : List ℤ). net_inflow n.instance.arcs.items ys i) (sym (flows x))
+
     feasible : (x : meaning.Assignment) → meaning.IsFeasible found.has.nodes found.has.arcs x ↔ IsFeasibleAssignment n.instance (map (meaning.flow_on x) found.has.arcs)
     feasible x =
-        let ranges = (all_written requested w ds f.drawing f.is_built).nodes.ranges in
-        let alike = feasible_alike w ds found.has.nodes found.has.arcs f.drawing.nodes.ranges n.instance.arcs.items x good found.has.same_nodes found.has.same_arcs ranges found.has.bounds (have_bounds requested w ds (seen_as n) e) in
+        let alike = feasible_alike w ds found.has.nodes found.has.arcs f.drawing.nodes.ranges n.instance.arcs.items x good found.has.same_nodes found.has.same_arcs all_ranges found.has.bounds (have_bounds requested w ds (seen_as n) e) in
         let by_number = have_feasible requested w ds n e apart x in (
           (λ h. subst (IsFeasibleAssignment n.instance) (sym (flows x)) (by_number.0 (alike.0 h))),
           (λ h. alike.1 (by_number.1 (subst (IsFeasibleAssignment n.instance) (flows x) h))),

@@ -6,17 +6,19 @@ use Rattle.std.proofs.lemmas.Int.{ints}
 use Rattle.std.proofs.lemmas.List.{length-append, length-map}
 use Rattle.std.proofs.lemmas.Bool.Decides.{Decides-int_eq}
 use Rattle.net_sets.specs.Sets.{Tuple}
-use Rattle.net_normal.specs.Assignments.{IsWithinBounds, IsFeasibleAssignment, value_of}
+use Rattle.net_normal.specs.Assignments.{net_inflow, IsInRange, IsFeasibleAssignment, value_of}
 use Rattle.net_normal.specs.declared.instance.InstArc.{InstArc}
 use Rattle.net_normal.specs.declared.instance.NodeRange.{NodeRange}
 use Rattle.net_normal.specs.declared.instance.Sense.{Sense}
 use Rattle.net_normal.specs.declared.problem.FlowArc.{FlowArc}
 use Rattle.net_normal.specs.declared.profile.Profile.{Profile}
 use Rattle.net_normal.specs.declared.profile.Profile.TheVariants.{Plain, Lean}
-use Rattle.net_normal.specs.Flows.{IsFeasibleFlow, cost_of}
-use Rattle.net_normal.specs.Links.{mapped_back, value_at}
+use Rattle.net_normal.specs.Flows.{cost_of}
+use Rattle.net_normal.specs.Links.{mapped_back, mapped_back_by, value_at}
 use Rattle.net_normal.specs.NormalForm.{offset_of, is_left_out, numbers_from, flow_arc_of, written_arcs, slack_arcs_from, supplies_from}
 use Rattle.net_normal.specs.Sums.{sum_of}
+use Rattle.net_normal.proofs.ArcMapsBack.{length-offsets}
+use Rattle.net_normal.proofs.Written.{length-numbers}
 use Rattle.net_expr.specs.Worlds.{Name}
 use Rattle.net_meaning.specs.Network as meaning
 use Rattle.net_meaning.specs.Network.{is_at, flow_on}
@@ -31,6 +33,7 @@ use Rattle.net_inst.specs.Soundness.{IsSameNode, IsSameArc, HasBounds, HasAssign
 use Rattle.net_inst.proofs.Built.{node_labels}
 use Rattle.net_inst.proofs.KeysOnce.{are_distinct_in_sets}
 use Rattle.net_inst.proofs.SoundAssignments.{assignments_are_sound}
+use Rattle.net_inst.proofs.SoundBalances.{in_range, carried_by, cost_is_value}
 use Rattle.net_inst.proofs.SoundEnds.{both_same}
 use Rattle.net_inst.proofs.SoundNames.{nodes_once, arcs_once}
 use Rattle.net_inst.proofs.Written.{have_ends, have_exact_ranges}
@@ -135,6 +138,11 @@ flows_are (a ∷ all) (y ∷ ys) d l =
     let rest = flows_stay a y all ys all d.0 ∙ flows_are all ys d.1 (omega (arith, l)) in
     λ t. one t ∷ rest t
 
+mapped_back_long : (ns : List ℕ) (offsets flows : List ℤ) → length ns ≡ length offsets → length (mapped_back_by ns offsets flows) ≡ length ns
+mapped_back_long [] offsets flows e = refl
+mapped_back_long (n ∷ ns) [] flows e = absurd (omega (arith, e))
+mapped_back_long (n ∷ ns) (y ∷ offsets) flows e = ap suc (mapped_back_long ns offsets flows (omega (arith, e)))
+
 supplies_long : (p : Profile) (arcs : List InstArc) (v : ℕ) (ranges : List NodeRange) → length (supplies_from p arcs v ranges) ≡ length ranges
 supplies_long p arcs v [] = refl
 supplies_long p arcs v (r ∷ ranges) = ap suc (supplies_long p arcs (suc v) ranges)
@@ -148,12 +156,22 @@ problems_represent requested w ds n p problem link sets names good e form one = 
     sense = form.sense ∙ sym a.has.same_sense;
     nodes = counted;
     arcs = arcs;
-    forward = λ flows h. (a.feasible (assignment_of all link flows)).1 (subst (IsFeasibleAssignment n.instance) (sym (numbers flows h)) (one.forward flows h));
+    forward = λ flows h. (a.feasible (assignment_of all link flows)).1 (subst (IsFeasibleAssignment n.instance) (sym (numbers flows)) (one.forward flows h));
     onto = λ x h.
         let found = one.onto (map (flow_on x) all) ((a.feasible x).0 h) in
-        (found.0, found.1, numbers found.0 found.1 ∙ found.2);
-    injective = λ flows others h k same. one.injective flows others h k (sym (numbers flows h) ∙ same ∙ numbers others k);
-    value = λ flows h. (a.value (assignment_of all link flows) (value_at link (cost_of problem flows))).1 (sym (one.value flows h) ∙ ap (value_of n.instance) (sym (numbers flows h)));
+        (found.0, found.1, numbers found.0 ∙ found.2);
+    injective = λ flows others h k same. one.injective flows others h k (sym (numbers flows) ∙ same ∙ numbers others);
+    value = λ flows long. (a.value (assignment_of all link flows) (value_at link (cost_of problem flows))).1 (sym (cost_is_value p n.instance problem link form flows long) ∙ ap (value_of n.instance) (sym (numbers flows)));
+    satisfied = λ flows i v held at sent.
+        let range = a.ranges i v at in
+        (range.2 (assignment_of all link flows)).1 (subst (λ (ys : List ℤ). IsInRange range.0 (net_inflow is ys i)) (sym (numbers flows)) (in_range p n.instance problem link form flows i range.0 held range.1 sent));
+    balanced = λ x within.
+        let found = carried_by p n.instance problem link form (map (flow_on x) all) ((a.bounds x).0 within) in (
+          found.flows,
+          found.capacity,
+          numbers found.flows ∙ found.back,
+          λ i v at h. let range = a.ranges i v at in found.balances i range.0 range.1 ((range.2 x).0 h),
+        );
   },
 )
   where
@@ -198,5 +216,8 @@ problems_represent requested w ds n p problem link sets names good e form one = 
         (subst (λ l. AreEncoded vs (written_arcs p n.instance.sense (length vs) is ++ rooms (length vs)) all l link.numbers.items) (sym form.offsets)
         (subst (λ l. AreEncoded vs (written_arcs p n.instance.sense (length vs) is ++ rooms (length vs)) all (map (offset_of p) is) l) (sym form.numbers) (encoded p n.instance.sense vs (rooms (length vs)) is all a.has.bounds nodes [])))
 
-    numbers : (flows : List ℤ) → IsFeasibleFlow problem flows → map (flow_on (assignment_of all link flows)) all ≡ mapped_back link flows
-    numbers flows h = flows_are all (mapped_back link flows) a.has.is_network.arcs_apart (zip_long IsWithinBounds is (mapped_back link flows) (one.forward flows h).bounds ∙ zip_long HasBounds all is a.has.bounds)
+    counts : length link.numbers.items ≡ length link.offsets.items
+    counts = ap length form.numbers ∙ length-numbers p 1 is ∙ sym (length-offsets p is) ∙ sym (ap length form.offsets)
+
+    numbers : (flows : List ℤ) → map (flow_on (assignment_of all link flows)) all ≡ mapped_back link flows
+    numbers flows = flows_are all (mapped_back link flows) a.has.is_network.arcs_apart (mapped_back_long link.numbers.items link.offsets.items flows counts ∙ ap length form.numbers ∙ length-numbers p 1 is ∙ zip_long HasBounds all is a.has.bounds)

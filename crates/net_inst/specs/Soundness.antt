@@ -1,12 +1,14 @@
 -- Laws that relate the network that the code computes to the meaning of the model.
-use Rattle.std.specs.Prelude.{◌≡◌, ◌⊎◌, ◌↔◌, List, [], ◌∷◌, map, Option, Ok, ⊤, ℤ}
+use Rattle.std.specs.Prelude.{◌≡◌, ◌⊎◌, ◌↔◌, ℕ, List, [], ◌∷◌, map, slice_get, Option, Some, Ok, ⊤, ℤ}
 use Rattle.std.specs.List.{AllByRecursion, AllZip, IsDistinct}
 use Rattle.std.specs.Str.{bytes_eq}
 use Rattle.net_tree.specs.Erasure.{condition}
 use Rattle.net_tree.specs.Tree.{Body, plain, valued, priced, Phrase, Declaration, set, param, check, node, arc, objective}
 use Rattle.net_tree.specs.Declarations.{AreDeclarations}
-use Rattle.net_normal.specs.Assignments.{IsFeasibleAssignment, value_of}
+use Rattle.net_normal.specs.Assignments.{net_inflow, IsWithinBounds, IsInRange, IsFeasibleAssignment, value_of}
 use Rattle.net_normal.specs.declared.instance.InstArc.{InstArc}
+use Rattle.net_normal.specs.declared.instance.Instance.{Instance}
+use Rattle.net_normal.specs.declared.instance.NodeRange.{NodeRange}
 use Rattle.net_expr.specs.SetValues.{HasSets}
 use Rattle.net_expr.specs.Worlds.{Name, World}
 use Rattle.net_meaning.specs.OfTrees.{IsNetwork}
@@ -88,10 +90,19 @@ pub record HasNetwork (requested : Option Name) (w : World) (ds : List Declarati
   pub same_arcs : AllZip IsSameArc (written.arcs w ds) arcs
   pub bounds : AllZip HasBounds arcs n.arcs
 
--- the network of the model; an assignment is feasible if and only if its flows are within the bounds and ranges of the network n, and it has
--- exactly one value, which the constant and the coefficients of n give
+-- the node with number i has a range, and its condition is true of an assignment if and only if its net inflow is in this range
+abbrev pub IsRangeAt : Instance → List meaning.Arc → ℕ → meaning.Node → Type 0
+IsRangeAt instance all i v = (r : NodeRange) × (slice_get instance.nodes.items i ≡ Some r)
+    × ((x : meaning.Assignment) → meaning.IsSatisfiedBy all x v ↔ IsInRange r (net_inflow instance.arcs.items (map (flow_on x) all) i))
+
+-- the network of the model, in which everything has a value; an assignment is within the bounds, satisfies a condition, or is feasible if and
+-- only if its flows are within the bounds, in the range, or both in the network n, and it has exactly one value, which the constant and the
+-- coefficients of n give
 pub record HasAssignments (requested : Option Name) (w : World) (ds : List Declaration) (n : Named) : Type 0 where
   pub has : HasNetwork requested w ds (seen_as n)
+  pub evaluated : meaning.IsEvaluated has.nodes has.arcs has.objective
+  pub bounds : (x : meaning.Assignment) → meaning.AreWithinBounds has.arcs x ↔ AllZip IsWithinBounds n.instance.arcs.items (map (flow_on x) has.arcs)
+  pub ranges : (i : ℕ) (v : meaning.Node) → slice_get has.nodes i ≡ Some v → IsRangeAt n.instance has.arcs i v
   pub feasible : (x : meaning.Assignment) → meaning.IsFeasible has.nodes has.arcs x ↔ IsFeasibleAssignment n.instance (map (flow_on x) has.arcs)
   pub value : (x : meaning.Assignment) (m : ℤ) → HasValue has.objective has.arcs x m ↔ (m ≡ value_of n.instance (map (flow_on x) has.arcs))
 
