@@ -10,7 +10,7 @@ use Rattle.net_data.specs.GrammarLaws as data_laws
 use Rattle.net_expr.specs.Worlds.{Name}
 use Rattle.net_eval.specs.Soundness.{WorldsAreSound}
 use Rattle.net_meaning.specs.Network as meaning
-use Rattle.net_meaning.specs.Network.{IsNetwork}
+use Rattle.net_meaning.specs.Network.{IsNetwork, IsEvaluated}
 use Rattle.net_meaning.specs.Represents.{Represents}
 use Rattle.net_meaning.proofs.Erased.{indexed_is}
 use Rattle.net_inst.specs.AsWritten as written
@@ -107,8 +107,9 @@ module _ (represent : ProblemsRepresent) (worlds : WorldsAreSound) (models : mod
         world = h.world;
         is_world = is_world worlds m d h.declarations h.accepts.tables h.world h.accepts.model h.accepts.statements h.accepts.world;
         is_network = has.is_network;
+        evaluated = found.1;
       };
-      represents = found.1;
+      represents = found.2;
       names = record {
         objective = ap (λ n. n.objective) h.names ∙ sym has.same_name;
         nodes = subst (λ names. AreNames names (map (λ (v : meaning.Node). listed_label v.label) has.nodes) c.names.nodes) (sym (nodes_are_declared h.declarations))
@@ -123,7 +124,7 @@ module _ (represent : ProblemsRepresent) (worlds : WorldsAreSound) (models : mod
     has.is_network,
   )
     where
-      found : (has : HasNetwork wanted h.world h.declarations (seen_as h.made)) × Represents has.nodes has.arcs has.objective c.problem c.link
+      found : (has : HasNetwork wanted h.world h.declarations (seen_as h.made)) × IsEvaluated has.nodes has.arcs has.objective × Represents has.nodes has.arcs has.objective c.problem c.link
       found = represent wanted h.world h.declarations h.made (profile_of lean) c.problem c.link (sets_of lean wanted m d c h) (names_of lean wanted m d c h) h.accepts.model.means.level h.has_network h.normal h.by_number
 
       has : HasNetwork wanted h.world h.declarations (seen_as h.made)

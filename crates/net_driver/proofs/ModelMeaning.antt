@@ -44,7 +44,7 @@ module _ (lean : Bool) (wanted : Option Name) (m d : List ℕ) (c : Compiled) (h
 pub compiled_represent : ProblemsRepresent → CompiledProblemsRepresent
 compiled_represent represent lean wanted m d c h =
     let found = represent wanted h.world h.declarations h.made (profile_of lean) c.problem c.link (sets_of lean wanted m d c h) (names_of lean wanted m d c h) h.accepts.model.means.level h.has_network h.normal h.by_number in
-    record { nodes = found.0.nodes; arcs = found.0.arcs; objective = found.0.objective; is_network = found.0.is_network; represents = found.1 }
+    record { nodes = found.0.nodes; arcs = found.0.arcs; objective = found.0.objective; is_network = found.0.is_network; represents = found.2 }
 
 -- ---- answers
 
@@ -123,7 +123,6 @@ answers_solve represent sound fits aims lean wanted m d a h = record { network =
           each = k.best.each ∙ zip_length IsSameArc xs s.has.arcs s.has.same_arcs;
           feasible = (feasible x).1 (subst (written.IsFeasible ns xs) (sym same) k.best.feasible);
           has_value = (s.value x value).1 (sym (is_value x ∙ ap (readings.value_of p.objective) same ∙ k.best.is_value));
-          valued = λ y f. (value_of p.made.instance (map (flow_on y) s.has.arcs), (s.value y (value_of p.made.instance (map (flow_on y) s.has.arcs))).1 refl);
           none_better = λ y other f v.
               subst (λ o. IsAsGood o value other) (sym sense)
               (subst (IsAsGood p.objective.sense value) (sym ((s.value y other).0 v ∙ is_value y)) (k.best.none_better y ((feasible y).0 f)));

@@ -18,7 +18,7 @@ use Rattle.net_inst.specs.AsWritten as written
 use Rattle.net_inst.specs.declared.names.Declared.{Declared}
 use Rattle.net_inst.specs.declared.names.Names.{Names}
 use Rattle.net_inst.specs.Laws.{AreNames}
-use Rattle.net_meaning.specs.Network.{Label, Node, Arc, Objective, Assignment, IsNetwork, IsFeasible, HasValue}
+use Rattle.net_meaning.specs.Network.{Label, Node, Arc, Objective, Assignment, IsNetwork, IsEvaluated, IsFeasible, HasValue}
 use Rattle.net_meaning.specs.Represents.{Represents, by_label}
 use Rattle.net_meaning.specs.World.{IsWorld}
 use Rattle.net_report.specs.Cuts.{cut_text}
@@ -46,7 +46,7 @@ pub record ContainsData (text : List ℕ) (tables : Tables) : Type 0 where
 
 -- The two inputs mean this network. The model contains these declarations, and the data these statements. Together they give each set its
 -- members and each parameter its values: this is the world. In it the declarations have these nodes, arcs and objective, which is the
--- requested one, or the only one.
+-- requested one, or the only one, and nothing in this network is without a value.
 pub record MeanNetwork (requested : Option Name) (model_text data_text : List ℕ) (vs : List Node) (all : List Arc) (o : Objective) : Type 0 where
   pub declarations : List Declaration
   pub model : ContainsModel model_text declarations
@@ -55,6 +55,7 @@ pub record MeanNetwork (requested : Option Name) (model_text data_text : List �
   pub world : World
   pub is_world : IsWorld declarations tables.statements world
   pub is_network : IsNetwork requested world declarations vs all o
+  pub evaluated : IsEvaluated vs all o
 
 -- ---- compiled models
 
@@ -94,13 +95,12 @@ pub record IsCompilation (requested : Option Name) (model_text data_text : List 
 
 -- ---- solved models
 
--- there is a flow for each arc, in order; the assignment of these flows is feasible and has this value; each feasible assignment has a value, and
--- none has a better one
+-- there is a flow for each arc, in order; the assignment of these flows is feasible and has this value, and no feasible assignment has a better
+-- one
 pub record IsOptimal (vs : List Node) (all : List Arc) (o : Objective) (flows : List ℤ) (value : ℤ) : Type 0 where
   pub each : length flows ≡ length all
   pub feasible : IsFeasible vs all (by_label all flows)
   pub has_value : HasValue o all (by_label all flows) value
-  pub valued : (x : Assignment) → IsFeasible vs all x → (other : ℤ) × HasValue o all x other
   pub none_better : (x : Assignment) (other : ℤ) → IsFeasible vs all x → HasValue o all x other → IsAsGood o.sense value other
 
 -- a displayed plan is optimal in the network; if the outcome is a cut, no assignment is feasible

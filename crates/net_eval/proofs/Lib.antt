@@ -22,6 +22,7 @@ pub mod WorldFaults
 mod SoundRestrictions
 mod SoundChecks
 pub mod SoundRows
+pub mod SoundGroups
 pub mod SoundTaken
 mod SoundValues
 mod SoundParameters

@@ -43,6 +43,7 @@ use Rattle.net_eval.proofs.Claiming.{inside_all}
 use Rattle.net_eval.proofs.HeldEntries.{IsEntry, bound_set_is}
 use Rattle.net_eval.proofs.NamesDeclared.{NamesNoParameter}
 use Rattle.net_eval.proofs.RowsTaken.{then_ok, is_ok, AreOfSize, rows_sized}
+use Rattle.net_eval.proofs.SoundGroups.{HasGroups, rows_grouped, set_rows_whole}
 use Rattle.net_eval.proofs.SetItems.{IsInside, items_inside, all_take, all_drop, item_rows, item_rows_made}
 use Rattle.net_eval.proofs.SetRowsSound.{IsCell, mentions_are, rows_given, rows_in, rows_of_statements, no_data, one_data, members_added, rows_values}
 use Rattle.net_eval.proofs.SoundSets.{AreClaimed, claims_are, assigned_alike, all_own, all_satisfied}
@@ -91,6 +92,10 @@ judged_parts s ss e = go (judged s) refl e
     go : (o : _) → judged s ≡ o → texts.and_then o (all_judged ss) ≡ Ok tt → (judged s ≡ Ok tt) × (all_judged ss ≡ Ok tt)
     go (Ok x) f g = (f, g)
     go (Err r) f g = cc
+
+each_judged : (ss : List Statement) → all_judged ss ≡ Ok tt → AllByRecursion (λ s. judged s ≡ Ok tt) ss
+each_judged [] e = tt
+each_judged (s ∷ ss) e = let parts = judged_parts s ss e in (parts.0, each_judged ss parts.1)
 
 all_sound : (ds : Declared) (i : ℕ) (n : Name) (ss : List Statement) → AllByRecursion IsStatement ss → all_judged ss ≡ Ok tt → AllByRecursion HaveValues ss → AllByRecursion IsSoundData (data_for ds i n ss)
 all_sound ds i n [] w j v = tt
@@ -152,9 +157,9 @@ rows_are widths d word (given.Grid g) rows h e = (sym (is_ok [] rows e), subst (
 -- ---- a set
 
 -- the members of a set without `:=`
-from_data : (widths : List ℕ) (d : ℕ) (ds : Declared) (i : ℕ) (n : Name) (ss : List Statement) (ts : List Tuple) → AllByRecursion IsSoundData (data_for ds i n ss) → AllByRecursion (NamesNoParameter n) ss
+from_data : (widths : List ℕ) (d : ℕ) (ds : Declared) (i : ℕ) (n : Name) (ss : List Statement) (ts : List Tuple) → all_judged ss ≡ Ok tt → AllByRecursion IsSoundData (data_for ds i n ss) → AllByRecursion (NamesNoParameter n) ss
     → AllByRecursion (λ t. length t ≡ d) ts → given_set widths d false (data_for ds i n ss) ≡ Ok (Some ts) → AreGivenMembers ss n d ts None
-from_data widths d ds i n ss ts sound none long e =
+from_data widths d ds i n ss ts whole sound none long e =
     let h = one_data widths d (data_for ds i n ss) ts e in
     let (are, cells) = rows_are widths d h.only.word h.only.given h.rows (subst (AllByRecursion IsSoundData) h.is sound).0 h.given in
     let members : ts ≡ map tuple_in h.rows = members_added h.only.word h.rows [] ts h.taken in
@@ -162,20 +167,21 @@ from_data widths d ds i n ss ts sound none long e =
     let stated_rows : flat_map (set_rows_of d n) ss ≡ h.rows =
     rows_of_statements d ds i n ss none ∙ ap (flat_map (rows_in d)) h.is ∙ append-nil (rows_in d h.only) ∙ sym are in (
       mentions_are ds i n ss ∙ ap (λ (z : List NamedData). length z) h.is,
+      set_rows_whole ds i d n ss (each_judged ss whole) none (subst (AllByRecursion (λ (m : NamedData). HasGroups d m.given)) (sym h.is) (rows_grouped widths d h.only.word h.only.given h.rows h.given, tt)),
       subst (λ z. AllZip AreDataValues (flat_map (set_rows_of d n) ss) z) (sym members)
           (subst (λ z. AllZip AreDataValues z (map tuple_in h.rows)) (sym stated_rows) (rows_values d h.rows sized (subst (AllByRecursion (λ t. length t ≡ d)) members long) cells)),
     )
 
 -- the expression after `:=`, or else the data
-members_are : (widths : List ℕ) (d : ℕ) (ds : Declared) (i : ℕ) (name : Token) (ss : List Statement) (ts : List Tuple) → AllByRecursion IsSoundData (data_for ds i name.text ss) → AllByRecursion (NamesNoParameter name.text) ss
+members_are : (widths : List ℕ) (d : ℕ) (ds : Declared) (i : ℕ) (name : Token) (ss : List Statement) (ts : List Tuple) → all_judged ss ≡ Ok tt → AllByRecursion IsSoundData (data_for ds i name.text ss) → AllByRecursion (NamesNoParameter name.text) ss
     → AllByRecursion (λ t. length t ≡ d) ts → (x : Option Tree) (o found : Option (List Tuple)) → is_some x ≡ is_some o → given_set widths d (is_some o) (data_for ds i name.text ss) ≡ Ok found → one_of name o found ≡ Ok ts
     → AreGivenMembers ss name.text d ts (option_map expression x)
-members_are widths d ds i name ss ts sound none long (Some x) None found s e f = cc
-members_are widths d ds i name ss ts sound none long None (Some us) found s e f = cc
-members_are widths d ds i name ss ts sound none long (Some x) (Some us) found s e f =
+members_are widths d ds i name ss ts whole sound none long (Some x) None found s e f = cc
+members_are widths d ds i name ss ts whole sound none long None (Some us) found s e f = cc
+members_are widths d ds i name ss ts whole sound none long (Some x) (Some us) found s e f =
     mentions_are ds i name.text ss ∙ ap (λ (z : List NamedData). length z) (no_data widths d (data_for ds i name.text ss) found e)
-members_are widths d ds i name ss ts sound none long None None None s e f = cc
-members_are widths d ds i name ss ts sound none long None None (Some us) s e f = from_data widths d ds i name.text ss ts sound none long (e ∙ ap (λ z. Ok (Some z)) (is_ok us ts f))
+members_are widths d ds i name ss ts whole sound none long None None None s e f = cc
+members_are widths d ds i name ss ts whole sound none long None None (Some us) s e f = from_data widths d ds i name.text ss ts whole sound none long (e ∙ ap (λ z. Ok (Some z)) (is_ok us ts f))
 
 -- the set of `:=` is the set
 own_members : (name : Token) (o found : Option (List Tuple)) (ts us : List Tuple) → one_of name o found ≡ Ok ts → o ≡ Some us → us ≡ ts
@@ -221,6 +227,6 @@ set_is w widths name ps ds i ss x sets (well, dimens, once) are whole valued non
         phrases = all_satisfied w c.dimension d ts (one_dimension c.dimension) ps c.phrases claimed (inside_all name ts c.phrases u a) own;
         members =
             subst (AreGivenMembers ss name.text d ts) (sym (phrase_value_is is_becomes ps))
-            (members_are widths d ds i name ss ts (all_sound ds i name.text ss are whole valued) none entry.1 (phrase_value is_becomes ps) (assigned c.phrases) found (assigned_alike w c.dimension ps c.phrases claimed) h j);
+            (members_are widths d ds i name ss ts whole (all_sound ds i name.text ss are whole valued) none entry.1 (phrase_value is_becomes ps) (assigned c.phrases) found (assigned_alike w c.dimension ps c.phrases claimed) h j);
       },
     )))))

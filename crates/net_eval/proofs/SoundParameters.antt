@@ -43,6 +43,7 @@ use Rattle.net_eval.specs.Soundness.{ParametersAreSound}
 use Rattle.net_eval.proofs.HeldParameters.{IsIndex, index_is, said_keeps, parameter_is}
 use Rattle.net_eval.proofs.Products.{has_union}
 use Rattle.net_eval.proofs.RowsTaken.{then_ok, is_ok}
+use Rattle.net_eval.proofs.SoundGroups.{parameter_rows_whole}
 use Rattle.net_eval.proofs.SoundChecks.{as_key, keys_are_indexed}
 use Rattle.net_eval.proofs.SoundRows.{IsMember, all_both, rows_are, defaults_of, defaults_are, mentions_are}
 use Rattle.net_eval.proofs.SoundTaken.{IsWhole, data_members, default_members, AreAccepted, are_accepted}
@@ -218,6 +219,7 @@ parameters_are_sound w ws name b ps ds i ss x sets forms numerals no_sets h =
       values = all_valued w ss n ps size ms y.table reads tokens given (default_is ms ∙ ap first_of (defaults_are ds i n ss)) y.keys.rows valued;
       only = in_keys keys y.table held.inside;
       fits = rows_fit w name count ps (source_text s.1) (source_at name.span s) y.all.0.1 y.table y.keys.rows tt (table_fits w name count ps s y.keys.rows y.all y.table y.holds);
+      whole = parameter_rows_whole ds i size n ss no_sets accepted.whole;
       subscripts = subscripts_of rows;
       read = all_read rows reads;
       inside = within;

@@ -33,6 +33,7 @@ use Rattle.net_eval.specs.ParameterValues.{rows_across, rows_given, default_give
 use Rattle.net_eval.specs.Rows.{Taken, All, pair_of, has_two, shaped, with_rows, taken, either, with_statement}
 use Rattle.net_eval.specs.SetData.{begins_at, without_points, whole_group, whole_groups, cut, leading_size, agrees, doubled}
 use Rattle.net_eval.proofs.RowsTaken.{then_ok, is_ok}
+use Rattle.net_eval.proofs.SoundGroups.{IsWholeFor, shape_whole}
 use Rattle.net_eval.proofs.SoundRows.{IsMember, all_flat, all_both, all_take, all_at, all_cut, given_of, defaults_of}
 
 -- ---- the tokens of the data
@@ -214,6 +215,7 @@ counted None = 0
 counted (Some t) = 1
 
 pub record AreAccepted (size : ℕ) (a : Bool) (before : Option Token) (ms : List NamedData) : Type 0 where
+  pub whole : AllByRecursion (IsWholeFor size) ms
   pub rows : AllByRecursion (IsWhole size) (flat_map (given_of size) ms)
   pub assigned : (a ≡ false) ⊎ (ms ≡ [])
   pub defaults : length (defaults_of ms) + counted before ≤ 1
@@ -234,7 +236,7 @@ one_default (Some d) None ts a e h = omega (arith, h)
 one_default (Some d) (Some b) ts a e h = let not_so = no_second a true true e refl in cc
 
 pub are_accepted : (widths : List ℕ) (n : Option ℕ) (index : List Tuple) (size : ℕ) (a : Bool) (ms : List NamedData) (all more : All) → AllByRecursion AreMembers ms → each (with_statement widths n index size a) ms all ≡ Ok more → AreAccepted size a all.1 ms
-are_accepted widths n index size a [] all more h e = record { rows = tt; assigned = inr refl; defaults = one all.1 }
+are_accepted widths n index size a [] all more h e = record { whole = tt; rows = tt; assigned = inr refl; defaults = one all.1 }
   where
     one : (o : Option Token) → 0 + counted o ≤ 1
     one None = omega arith
@@ -244,6 +246,7 @@ are_accepted widths n index size a (m ∷ ms) all more h e =
     let first = statement_accepted widths n index size a m all next i in
     let rest = are_accepted widths n index size a ms next more h.1 k in
     record {
+      whole = (shape_whole widths size m first.given first.shape, rest.whole);
       rows = all_join (IsWhole size) (given_of size m) (flat_map (given_of size) ms) (rows_whole widths size m.word m.given first.given first.shape h.0.0) rest.rows;
       assigned = inl (no_first a (is_some m.default && is_some all.1) first.once);
       defaults = one_default m.default all.1 (defaults_of ms) a first.once (subst (λ o. length (defaults_of ms) + counted o ≤ 1) first.default rest.defaults);

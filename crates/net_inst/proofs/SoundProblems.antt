@@ -152,6 +152,7 @@ supplies_long p arcs v (r ∷ ranges) = ap suc (supplies_long p arcs (suc v) ran
 pub problems_represent : ProblemsRepresent
 problems_represent requested w ds n p problem link sets names good e form one = (
   a.has,
+  a.evaluated,
   record {
     sense = form.sense ∙ sym a.has.same_sense;
     nodes = counted;

@@ -9,12 +9,13 @@ use Rattle.net_normal.specs.declared.profile.Profile.{Profile}
 use Rattle.net_normal.specs.NormalForm.{IsFormIn}
 use Rattle.net_expr.specs.SetValues.{HasSets}
 use Rattle.net_expr.specs.Worlds.{Name, World}
+use Rattle.net_meaning.specs.Network.{IsEvaluated}
 use Rattle.net_meaning.specs.Represents.{Represents}
 use Rattle.net_inst.specs.declared.network.Named.{Named}
 use Rattle.net_inst.specs.Instances.{network, seen_as}
 use Rattle.net_inst.specs.Soundness.{IsNamedOnce, HasNetwork}
 
--- the normal form or the lean form of the computed network represents the network of the model
+-- everything in the network of the model has a value, and the normal form or the lean form of the computed network represents it
 abbrev pub ProblemsRepresent : Type 0
 ProblemsRepresent = (requested : Option Name) (w : World) (ds : List Declaration) (n : Named) (p : Profile) (problem : Problem) (link : Link) → HasSets w → IsNamedOnce ds → AreDeclarations ds → network requested w ds ≡ Ok (seen_as n)
-    → IsFormIn p n.instance problem link → CorrespondsOneToOne n.instance problem link → (has : HasNetwork requested w ds (seen_as n)) × Represents has.nodes has.arcs has.objective problem link
+    → IsFormIn p n.instance problem link → CorrespondsOneToOne n.instance problem link → (has : HasNetwork requested w ds (seen_as n)) × IsEvaluated has.nodes has.arcs has.objective × Represents has.nodes has.arcs has.objective problem link

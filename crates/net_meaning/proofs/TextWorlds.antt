@@ -66,7 +66,7 @@ module _ (P : List ℕ → Type 0) where
   given_members_hold : (w : World) (ss : List Statement) (n : Name) (d : ℕ) (ts : List Tuple) (o : Option Expression) → WorldHolds P w → StatementsHold P ss → ForSome o (ExpressionHolds P)
       → AreMembersOf w ts o → AreGivenMembers ss n d ts o → TuplesHold P ts
   given_members_hold w ss n d ts (Some x) h k t is m = value_holds P (env_of w []) x (Many ts) (env_holds w h) (t x refl) (is x refl)
-  given_members_hold w ss n d ts None h k t is (once, z) = lines_hold P _ ts (all_set_rows_hold P d n ss k) z
+  given_members_hold w ss n d ts None h k t is (once, whole, z) = lines_hold P _ ts (all_set_rows_hold P d n ss k) z
 
   set_holds : (w : World) (ss : List Statement) (n : Name) (ps : List Phrase) (d : ℕ) (ts : List Tuple) → WorldHolds P w → StatementsHold P ss → PhrasesHold P ps → IsSet w ss n ps d ts → TuplesHold P ts
   set_holds w ss n ps d ts h k p is =

@@ -1,7 +1,7 @@
 -- The sets and parameters of a model with its data (AMPL book, chapters 5, 7 and 9; appendix A.12): which declaration or statement gives the
 -- members of each set, and the value of each parameter at each key.
 use Rattle.std.specs.Prelude.{◌≡◌, ◌⊎◌, ◌+◌, ◌≤◌, ◌||◌, ℕ, Bool, true, false, List, [], ◌∷◌, ◌++◌, map, length, Option, None, Some, if◌then◌else◌, ⊤, ℤ, pos, IsTrue}
-use Rattle.std.specs.List.{AllByRecursion, AllZip, IsDistinct, Contains, flat_map, filter_map}
+use Rattle.std.specs.List.{AllByRecursion, AllZip, IsDistinct, Contains, flat_map, filter_map, list_any}
 use Rattle.std.specs.Option.{ForSome}
 use Rattle.std.specs.Str.{bytes_eq}
 use Rattle.net_lex.specs.Limits.{limits}
@@ -13,7 +13,7 @@ use Rattle.net_data.specs.declared.statement.DefaultValue.{DefaultValue}
 use Rattle.net_data.specs.declared.statement.NamedSet.{NamedSet}
 use Rattle.net_data.specs.declared.statement.Statement.{Statement}
 use Rattle.net_data.specs.declared.statement.Statement.TheVariants as statements
-use Rattle.net_data.specs.Rows.{Row, rows, set_rows, key_rows}
+use Rattle.net_data.specs.Rows.{Row, groups, rows, set_rows, key_rows}
 use Rattle.net_sets.specs.declared.member.Member.{Member}
 use Rattle.net_sets.specs.declared.member.Member.TheVariants as member
 use Rattle.net_sets.specs.Operations.{union, is_within}
@@ -31,7 +31,7 @@ use Rattle.net_expr.specs.declared.world.Entry.{Entry}
 use Rattle.net_expr.specs.declared.world.Entry.TheVariants.{Set, Parameter}
 use Rattle.net_expr.specs.Worlds.{Name, World}
 use Rattle.net_meaning.specs.Operators.{Value, One, Many, Truth, number, IsResult}
-use Rattle.net_meaning.specs.Values.{Env, Key, start, env_of, IsValue, AreKeys}
+use Rattle.net_meaning.specs.Values.{Whether, Env, Key, start, env_of, IsValue, AreKeys}
 
 -- ---- phrases of declarations
 
@@ -89,6 +89,18 @@ set_rows_of d n (statements.List l) = []
 set_rows_of d n (statements.Table t) = []
 set_rows_of d n (statements.Columns c) = if is_set_named c.set n then key_rows d (statements.Columns c) else []
 
+-- the cells form whole groups of this size
+abbrev pub AreWhole : ℕ → List Token → Type 0
+AreWhole size cells = AllByRecursion (λ group. length group ≡ size) (groups size cells)
+
+-- a statement that names n, with this number of keys, has whole rows: the keys, and a value for each column
+abbrev pub HasWholeRows : ℕ → Name → Statement → Type 0
+HasWholeRows size n (statements.Set s) = ⊤
+HasWholeRows size n (statements.List l) = Whether (bytes_eq l.name.text n) (ForSome l.given (λ g. AreWhole (size + 1) g.cells)) ⊤
+HasWholeRows size n (statements.Table t) = Whether (bytes_eq t.name.text n) (AreWhole (length t.columns + 1) t.cells) ⊤
+HasWholeRows size n (statements.Columns c) =
+    Whether (is_set_named c.set n || list_any (λ (t : Token). bytes_eq t.text n) c.names) (AreWhole (size + length c.names) c.cells) ⊤
+
 abbrev pub default_token : Option DefaultValue → Option Token
 default_token None = None
 default_token (Some d) = Some d.value
@@ -133,7 +145,7 @@ Satisfies w d ts p = ForSome (expression_of p.body) (SatisfiesRole w d ts p.word
 -- names it
 abbrev pub AreGivenMembers : List Statement → Name → ℕ → List Tuple → Option Expression → Type 0
 AreGivenMembers ss n d ts (Some x) = mentions n ss ≡ 0
-AreGivenMembers ss n d ts None = (mentions n ss ≡ 1) × AllZip AreDataValues (flat_map (set_rows_of d n) ss) ts
+AreGivenMembers ss n d ts None = (mentions n ss ≡ 1) × AllByRecursion (HasWholeRows d n) ss × AllZip AreDataValues (flat_map (set_rows_of d n) ss) ts
 
 pub record IsSet (w : World) (ss : List Statement) (n : Name) (ps : List Phrase) (d : ℕ) (ts : List Tuple) : Type 0 where
   pub distinct : IsDistinct same_tuple ts
@@ -221,7 +233,8 @@ pub record IsParameter (w : World) (ss : List Statement) (n : Name) (b : Option 
   -- the table has no other keys
   pub only : AllByRecursion (λ (r : Tuple × Member). IsTrue (has (keys_of keys) r.0)) table
   pub fits : AllByRecursion (λ (k : Key). ForSome (at_key table k.key) (λ m. AllByRecursion (Fits k.env m) ps × IsOfKind ps m)) keys
-  -- each row of the data is for one of the keys, and no key has two rows
+  -- each row of the data is whole and for one of the keys, and no key has two rows
+  pub whole : AllByRecursion (HasWholeRows size n) ss
   pub subscripts : List Tuple
   pub read : AllZip (λ (r : Row) key. AreDataValues r.keys key) (data_rows size n ss) subscripts
   pub inside : AllByRecursion (λ key. IsTrue (has (keys_of keys) key)) subscripts
