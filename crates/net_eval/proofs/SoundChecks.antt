@@ -14,6 +14,7 @@ use Rattle.net_expr.specs.declared.row.Row.{Row}
 use Rattle.net_expr.specs.declared.value.Value.{Value}
 use Rattle.net_expr.specs.declared.value.Value.TheVariants as found
 use Rattle.net_expr.specs.Operators.{truth}
+use Rattle.net_expr.specs.SetValues.{HasSets}
 use Rattle.net_expr.specs.Values.{value}
 use Rattle.net_expr.specs.Worlds.{World}
 use Rattle.net_eval.specs.Binding.{judged, hold}
@@ -30,9 +31,9 @@ use Rattle.net_meaning.proofs.Meaning.{evaluation_is_sound, keys_are_sound}
 abbrev pub as_key : World → Row → Key
 as_key w r = record { key = r.key; env = env_of w r.scope }
 
-pub keys_are_indexed : (w : World) (b : Option Braces) (k : Keys) → keys_in w b ≡ Ok k → AreIndexed w b (map (as_key w) k.rows)
-keys_are_indexed w None k e = sym (ap (λ (z : Keys). map (as_key w) z.rows) (is_ok single_key k e))
-keys_are_indexed w (Some b) k e = keys_are_sound w [] b k e
+pub keys_are_indexed : (w : World) (b : Option Braces) (k : Keys) → HasSets w → keys_in w b ≡ Ok k → AreIndexed w b (map (as_key w) k.rows)
+keys_are_indexed w None k sets e = sym (ap (λ (z : Keys). map (as_key w) z.rows) (is_ok single_key k e))
+keys_are_indexed w (Some b) k sets e = keys_are_sound w [] b k sets e
 
 judged_true : (x : Tree) (b : Bool) (u : Unit {0}) → judged x b ≡ Ok u → b ≡ true
 judged_true x true u e = refl
@@ -44,14 +45,14 @@ truth_is at (found.Several t) b e = cc
 truth_is at (found.Many d ts) b e = cc
 truth_is at (found.Truth c) b e = ap found.Truth (is_ok c b e)
 
-all_hold : (w : World) (x : Tree) (rows : List Row) (u : Unit {0}) → hold w x rows ≡ Ok u → AllByRecursion (λ (k : Key). IsValue k.env x (Truth true)) (map (as_key w) rows)
-all_hold w x [] u e = tt
-all_hold w x (r ∷ rows) u e =
+all_hold : (w : World) → HasSets w → (x : Tree) (rows : List Row) (u : Unit {0}) → hold w x rows ≡ Ok u → AllByRecursion (λ (k : Key). IsValue k.env x (Truth true)) (map (as_key w) rows)
+all_hold w sets x [] u e = tt
+all_hold w sets x (r ∷ rows) u e =
     then_ok (and_then (and_then (value w r.scope x) (truth (span_of x))) (judged x)) (λ v. hold w x rows) u e (λ v i k.
     then_ok (and_then (value w r.scope x) (truth (span_of x))) (judged x) v i (λ b j l.
     then_ok (value w r.scope x) (truth (span_of x)) b j (λ y f g.
     let is : y ≡ found.Truth true = truth_is (span_of x) y b g ∙ ap found.Truth (judged_true x b v l) in
-    (subst (λ z. IsValue (env_of w r.scope) x (meaning_of z)) is (evaluation_is_sound w r.scope x y f), all_hold w x rows u k))))
+    (subst (λ z. IsValue (env_of w r.scope) x (meaning_of z)) is (evaluation_is_sound w r.scope x y sets f), all_hold w sets x rows u k))))
 
 pub checks_are_sound : ChecksAreSound
-checks_are_sound w b x e = then_ok (keys_in w b) (λ k. hold w x k.rows) tt e (λ k i h. (map (as_key w) k.rows, keys_are_indexed w b k i, all_hold w x k.rows tt h))
+checks_are_sound w b x sets e = then_ok (keys_in w b) (λ k. hold w x k.rows) tt e (λ k i h. (map (as_key w) k.rows, keys_are_indexed w b k sets i, all_hold w sets x k.rows tt h))

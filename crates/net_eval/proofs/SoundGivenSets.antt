@@ -224,7 +224,7 @@ set_is w widths name ps ds i ss x sets (well, dimens, once) are whole valued non
         distinct = entry.0;
         lengths = entry.1;
         dimension = single_dimension w ps c f;
-        phrases = all_satisfied w c.dimension d ts (one_dimension c.dimension) ps c.phrases claimed (inside_all name ts c.phrases u a) own;
+        phrases = all_satisfied w sets c.dimension d ts (one_dimension c.dimension) ps c.phrases claimed (inside_all name ts c.phrases u a) own;
         members =
             subst (AreGivenMembers ss name.text d ts) (sym (phrase_value_is is_becomes ps))
             (members_are widths d ds i name ss ts whole (all_sound ds i name.text ss are whole valued) none entry.1 (phrase_value is_becomes ps) (assigned c.phrases) found (assigned_alike w c.dimension ps c.phrases claimed) h j);

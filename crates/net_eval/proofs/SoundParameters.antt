@@ -157,17 +157,17 @@ is_none : {A : Type 0} (o : Option A) → is_some o ≡ false → o ≡ None
 is_none None e = refl
 is_none (Some x) e = cc
 
-all_valued : (w : World) (ss : List Statement) (n : Name) (ps : List Phrase) (size : ℕ) (ms : List NamedData) (t : Table) → AllByRecursion IsRead (data_rows size n ss) → AllByRecursion IsMember (data_defaults n ss)
+all_valued : (w : World) → HasSets w → (ss : List Statement) (n : Name) (ps : List Phrase) (size : ℕ) (ms : List NamedData) (t : Table) → AllByRecursion IsRead (data_rows size n ss) → AllByRecursion IsMember (data_defaults n ss)
     → values_given size ms ≡ map row_value (data_rows size n ss) → default_given ms ≡ first_of (data_defaults n ss) → (rows : List Row) → AllByRecursion (IsValueAt w ps (values_given size ms) ms t) rows
     → AllByRecursion (λ (k : Key). IsParameterValue ss n ps size k (at_key t k.key)) (map (as_key w) rows)
-all_valued w ss n ps size ms t h k e f [] v = tt
-all_valued w ss n ps size ms t h k e f (r ∷ rows) v = (
-  value_is_meant w ss n ps size r (at_key t r.key) h k
+all_valued w sets ss n ps size ms t h k e f [] v = tt
+all_valued w sets ss n ps size ms t h k e f (r ∷ rows) v = (
+  value_is_meant w sets ss n ps size r (at_key t r.key) h k
       (subst (λ said. IsValue (at_key said r.key) (bound.from_source w r.scope (source (phrase_value is_becomes ps) (first_of (data_defaults n ss)) (phrase_value is_default ps))) (at_key t r.key)) e
       (subst (λ c. IsValue (at_key (values_given size ms) r.key) (bound.from_source w r.scope (source (phrase_value is_becomes ps) c (phrase_value is_default ps))) (at_key t r.key)) f
       (subst (λ d. IsValue (at_key (values_given size ms) r.key) (bound.from_source w r.scope (source (phrase_value is_becomes ps) (default_given ms) d)) (at_key t r.key)) (phrase_is gives.Default is_default wants_default ps)
       (subst (λ a. IsValue (at_key (values_given size ms) r.key) (bound.from_source w r.scope (source a (default_given ms) (bound.phrase_value gives.Default ps))) (at_key t r.key)) (phrase_is gives.Becomes is_becomes wants_becomes ps) v.0)))),
-  all_valued w ss n ps size ms t h k e f rows v.1,
+  all_valued w sets ss n ps size ms t h k e f rows v.1,
 )
 
 unassigned : (ps : List Phrase) (ds : Declared) (i : ℕ) (n : Name) (ss : List Statement) → (is_some (bound.phrase_value gives.Becomes ps) ≡ false) ⊎ (data_for ds i n ss ≡ [])
@@ -213,12 +213,12 @@ parameters_are_sound w ws name b ps ds i ss x sets forms numerals no_sets h =
       keys = map (as_key w) y.keys.rows;
       size = size;
       table = y.table;
-      indexed = keys_are_indexed w b y.keys y.indexed;
+      indexed = keys_are_indexed w b y.keys sets y.indexed;
       lengths = all_keys w (λ (k : Key). length k.key ≡ size) y.keys.rows (rows_long size y.keys.rows long);
       entry = y.entry ∙ ap (λ l. Parameter count l y.table) list ∙ ap (λ c. Parameter c (union [] keys) y.table) (size_is b y.keys);
-      values = all_valued w ss n ps size ms y.table reads tokens given (default_is ms ∙ ap first_of (defaults_are ds i n ss)) y.keys.rows valued;
+      values = all_valued w sets ss n ps size ms y.table reads tokens given (default_is ms ∙ ap first_of (defaults_are ds i n ss)) y.keys.rows valued;
       only = in_keys keys y.table held.inside;
-      fits = rows_fit w name count ps (source_text s.1) (source_at name.span s) y.all.0.1 y.table y.keys.rows tt (table_fits w name count ps s y.keys.rows y.all y.table y.holds);
+      fits = rows_fit w sets name count ps (source_text s.1) (source_at name.span s) y.all.0.1 y.table y.keys.rows tt (table_fits w name count ps s y.keys.rows y.all y.table y.holds);
       whole = parameter_rows_whole ds i size n ss no_sets accepted.whole;
       subscripts = subscripts_of rows;
       read = all_read rows reads;

@@ -23,11 +23,13 @@ use Rattle.net_expr.specs.declared.value.Value.{Value}
 use Rattle.net_expr.specs.declared.value.Value.TheVariants as found
 use Rattle.net_expr.specs.Numbers.{number}
 use Rattle.net_expr.specs.Operators.{same, belongs, apply, decided}
+use Rattle.net_expr.specs.SetValues.{HasSets}
 use Rattle.net_expr.specs.Values.{value}
 use Rattle.net_expr.specs.Worlds.{World, Scope}
 use Rattle.net_expr.proofs.Parting.{then_ok, is_ok}
 use Rattle.net_eval.specs.Soundness.{RestrictionsAreSound}
 use Rattle.net_eval.specs.Restrictions.{restricting, relation_as, related, holding, restricted_by, restricted_in, restricted}
+use Rattle.net_expr.proofs.SetsGiven.{IsSetValue, Gives, gives}
 use Rattle.net_meaning.specs.OfTrees.{IsValue}
 use Rattle.net_meaning.specs.Laws.{meaning_of}
 use Rattle.net_meaning.specs.Operators.{One, Truth, IsResult}
@@ -50,8 +52,8 @@ denied : (o : Outcome Bool) → and_then o (λ b. Ok (not b)) ≡ Ok true → an
 denied (Ok b) e = ap (λ t. Ok (found.Truth t)) (is_ok (not b) true e)
 denied (Err r) e = cc
 
-by_applying : (o : BinOp) (at : Span) (m : Member) (v : Value) → decided o at (found.One m) ≡ Ok None → apply o at (found.One m) v ≡ Ok (found.Truth true) → IsResult o (One m) (meaning_of v) (Truth true)
-by_applying o at m v d e = gives_ok (λ z. IsResult o (One m) (meaning_of v) (meaning_of z)) (apply o at (found.One m) v) (found.Truth true) (makes o at (found.One m) v d) e
+by_applying : (o : BinOp) (at : Span) (m : Member) (v : Value) → IsSetValue v → decided o at (found.One m) ≡ Ok None → apply o at (found.One m) v ≡ Ok (found.Truth true) → IsResult o (One m) (meaning_of v) (Truth true)
+by_applying o at m v i d e = gives_ok (λ z. IsResult o (One m) (meaning_of v) (meaning_of z)) (apply o at (found.One m) v) (found.Truth true) (makes o at (found.One m) v tt i d) e
 
 held : (at : Span) (d : Detail) (o : Outcome Bool) → and_then o (holding at d) ≡ Ok tt → o ≡ Ok true
 held at d (Ok true) e = refl
@@ -59,37 +61,37 @@ held at d (Ok false) e = cc
 held at d (Err r) e = cc
 
 -- a relation that restricts, as an operator
-by_value : (w : World) (s : Scope) (d : Detail) (m : Member) (r : Relation) (o : BinOp) (x : Tree) → ((v : Value) → related (span_of x) r m v ≡ Ok true → IsResult o (One m) (meaning_of v) (Truth true))
+by_value : (w : World) → HasSets w → (s : Scope) (d : Detail) (m : Member) (r : Relation) (o : BinOp) (x : Tree) → ((v : Value) → IsSetValue v → related (span_of x) r m v ≡ Ok true → IsResult o (One m) (meaning_of v) (Truth true))
     → restricted_by w s d m (Some r) x ≡ Ok tt → FitsBy (env_of w s) m (Some o) (Some (expression x))
-by_value w s d m r o x make e =
-    then_ok (value w s x) _ tt e (λ v h i. (meaning_of v, evaluation_is_sound w s x v h, make v (held (span_of x) d (related (span_of x) r m v) i)))
+by_value w sets s d m r o x make e =
+    then_ok (value w s x) _ tt e (λ v h i. (meaning_of v, evaluation_is_sound w s x v sets h, make v (subst Gives h (gives w sets s x)) (held (span_of x) d (related (span_of x) r m v) i)))
 
-fits_by : (w : World) (s : Scope) (d : Detail) (m : Member) (r : Role) (x : Tree) → restricted_by w s d m (relation_as r) x ≡ Ok tt → FitsBy (env_of w s) m (world.restriction_operator r) (Some (expression x))
-fits_by w s d m (roles.Relation relations.Less) x e = by_value w s d m relations.Less op.Less x (λ v k. by_applying op.Less (span_of x) m v refl (in_order (number (span_of x) (found.One m)) (number (span_of x) v) int_lt k)) e
-fits_by w s d m (roles.Relation relations.AtMost) x e = by_value w s d m relations.AtMost op.AtMost x (λ v k. by_applying op.AtMost (span_of x) m v refl (in_order (number (span_of x) (found.One m)) (number (span_of x) v) int_le k)) e
-fits_by w s d m (roles.Relation relations.Greater) x e =
-    by_value w s d m relations.Greater op.Greater x (λ v k. by_applying op.Greater (span_of x) m v refl (in_order (number (span_of x) (found.One m)) (number (span_of x) v) (λ a b. int_lt b a) k)) e
-fits_by w s d m (roles.Relation relations.AtLeast) x e =
-    by_value w s d m relations.AtLeast op.AtLeast x (λ v k. by_applying op.AtLeast (span_of x) m v refl (in_order (number (span_of x) (found.One m)) (number (span_of x) v) (λ a b. int_le b a) k)) e
-fits_by w s d m (roles.Relation relations.Unequal) x e = by_value w s d m relations.Unequal op.Unequal x (λ v k. by_applying op.Unequal (span_of x) m v refl (denied (same (span_of x) (found.One m) v) k)) e
-fits_by w s d m (roles.Relation relations.In) x e = by_value w s d m relations.In op.In x (λ v k. by_applying op.In (span_of x) m v refl (truly (belongs (span_of x) (found.One m) v) k)) e
-fits_by w s d m (roles.Relation relations.Equal) x e = tt
-fits_by w s d m (roles.Relation relations.Within) x e = tt
-fits_by w s d m _ x e = tt
+fits_by : (w : World) → HasSets w → (s : Scope) (d : Detail) (m : Member) (r : Role) (x : Tree) → restricted_by w s d m (relation_as r) x ≡ Ok tt → FitsBy (env_of w s) m (world.restriction_operator r) (Some (expression x))
+fits_by w sets s d m (roles.Relation relations.Less) x e = by_value w sets s d m relations.Less op.Less x (λ v i k. by_applying op.Less (span_of x) m v i refl (in_order (number (span_of x) (found.One m)) (number (span_of x) v) int_lt k)) e
+fits_by w sets s d m (roles.Relation relations.AtMost) x e = by_value w sets s d m relations.AtMost op.AtMost x (λ v i k. by_applying op.AtMost (span_of x) m v i refl (in_order (number (span_of x) (found.One m)) (number (span_of x) v) int_le k)) e
+fits_by w sets s d m (roles.Relation relations.Greater) x e =
+    by_value w sets s d m relations.Greater op.Greater x (λ v i k. by_applying op.Greater (span_of x) m v i refl (in_order (number (span_of x) (found.One m)) (number (span_of x) v) (λ a b. int_lt b a) k)) e
+fits_by w sets s d m (roles.Relation relations.AtLeast) x e =
+    by_value w sets s d m relations.AtLeast op.AtLeast x (λ v i k. by_applying op.AtLeast (span_of x) m v i refl (in_order (number (span_of x) (found.One m)) (number (span_of x) v) (λ a b. int_le b a) k)) e
+fits_by w sets s d m (roles.Relation relations.Unequal) x e = by_value w sets s d m relations.Unequal op.Unequal x (λ v i k. by_applying op.Unequal (span_of x) m v i refl (denied (same (span_of x) (found.One m) v) k)) e
+fits_by w sets s d m (roles.Relation relations.In) x e = by_value w sets s d m relations.In op.In x (λ v i k. by_applying op.In (span_of x) m v i refl (truly (belongs (span_of x) (found.One m) v) k)) e
+fits_by w sets s d m (roles.Relation relations.Equal) x e = tt
+fits_by w sets s d m (roles.Relation relations.Within) x e = tt
+fits_by w sets s d m _ x e = tt
 
-fits_body : (w : World) (s : Scope) (d : Detail) (m : Member) (p : Phrase) (b : Body) → restricted_in w s d m p.word b ≡ Ok tt → FitsBy (env_of w s) m (world.restriction_operator (role_of p.word)) (world.expression_of (erased.body b))
-fits_body w s d m p plain e = nothing_asked (world.restriction_operator (role_of p.word))
+fits_body : (w : World) → HasSets w → (s : Scope) (d : Detail) (m : Member) (p : Phrase) (b : Body) → restricted_in w s d m p.word b ≡ Ok tt → FitsBy (env_of w s) m (world.restriction_operator (role_of p.word)) (world.expression_of (erased.body b))
+fits_body w sets s d m p plain e = nothing_asked (world.restriction_operator (role_of p.word))
   where
     nothing_asked : (o : Option BinOp) → FitsBy (env_of w s) m o None
     nothing_asked None = tt
     nothing_asked (Some o) = tt
-fits_body w s d m p (valued x) e = fits_by w s d m (role_of p.word) x e
-fits_body w s d m p (priced n x) e = nothing_asked (world.restriction_operator (role_of p.word))
+fits_body w sets s d m p (valued x) e = fits_by w sets s d m (role_of p.word) x e
+fits_body w sets s d m p (priced n x) e = nothing_asked (world.restriction_operator (role_of p.word))
   where
     nothing_asked : (o : Option BinOp) → FitsBy (env_of w s) m o None
     nothing_asked None = tt
     nothing_asked (Some o) = tt
 
 pub restrictions_are_sound : RestrictionsAreSound
-restrictions_are_sound w s d m [] e = tt
-restrictions_are_sound w s d m (p ∷ ps) e = then_ok (restricted_in w s d m p.word p.body) _ tt e (λ u h i. (fits_body w s d m p p.body h, restrictions_are_sound w s d m ps i))
+restrictions_are_sound w s d m [] sets e = tt
+restrictions_are_sound w s d m (p ∷ ps) sets e = then_ok (restricted_in w s d m p.word p.body) _ tt e (λ u h i. (fits_body w sets s d m p p.body h, restrictions_are_sound w s d m ps sets i))

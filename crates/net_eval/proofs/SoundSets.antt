@@ -1,5 +1,5 @@
 -- The sets that the code binds are those that AMPL defines.
-use Rattle.std.specs.Prelude.{◌≡◌, ◌≤◌, ℕ, suc, Bool, true, false, List, [], ◌∷◌, ◌++◌, map, nat_eq, unsigned_abs, is_some, Option, None, Some, if◌then◌else◌, Ok, ℤ, pos, negsuc}
+use Rattle.std.specs.Prelude.{◌≡◌, ◌≤◌, ℕ, suc, Bool, true, false, List, [], ◌∷◌, ◌++◌, map, length, nat_eq, unsigned_abs, is_some, Option, None, Some, if◌then◌else◌, Ok, ℤ, pos, negsuc}
 use Rattle.std.specs.List.{AllByRecursion, AllZip}
 use Rattle.std.proofs.Common.{refl, ap, sym, ◌∙◌, subst, arith, append_assoc, append-nil}
 use Rattle.std.proofs.lemmas.Bool.{eqb-true}
@@ -21,8 +21,10 @@ use Rattle.net_tree.specs.Syntax.{Expression}
 use Rattle.net_tree.specs.Tree.{Tree, Body, plain, valued, priced, Phrase}
 use Rattle.net_expr.specs.declared.value.Value.{Value}
 use Rattle.net_expr.specs.declared.value.Value.TheVariants.{One, Several, Many, Truth}
+use Rattle.net_expr.specs.SetValues.{IsSetOf, HasSets}
 use Rattle.net_expr.specs.Values.{value}
 use Rattle.net_expr.specs.Worlds.{World}
+use Rattle.net_expr.proofs.SetsGiven.{keeps_sets}
 use Rattle.net_meaning.specs.OfTrees.{IsValue, expression_of, phrase_value, SatisfiesRole}
 use Rattle.net_meaning.specs.Operators as meant
 use Rattle.net_meaning.specs.Values.{env_of}
@@ -194,46 +196,51 @@ whole_dimension : (n : ℤ) → is_dimension n ≡ true → n ≡ pos (unsigned_
 whole_dimension (pos n) e = refl
 whole_dimension (negsuc n) e = cc
 
-satisfied : (w : World) (o : Option ℕ) (d : ℕ) (ts : List Tuple) → ((n : ℕ) → o ≡ Some n → n ≡ d) → (r : Role) (x : Tree) (v : Value) (c : Claim) → value w [] x ≡ Ok v → claimed (set_word r) (span_of x) v ≡ Ok c
+-- the tuples of a superset have the dimension of the set
+set_long : (o : Option ℕ) (us : List Tuple) (d : ℕ) → IsSetOf o us → ((n : ℕ) → o ≡ Some n → n ≡ d) → AllByRecursion (λ t. length t ≡ d) us
+set_long None us d h k = subst (AllByRecursion (λ (t : Tuple). length t ≡ d)) (sym h) tt
+set_long (Some n) us d h k = subst (λ m. AllByRecursion (λ (t : Tuple). length t ≡ m) us) (k n refl) h.1
+
+satisfied : (w : World) → HasSets w → (o : Option ℕ) (d : ℕ) (ts : List Tuple) → ((n : ℕ) → o ≡ Some n → n ≡ d) → (r : Role) (x : Tree) (v : Value) (c : Claim) → value w [] x ≡ Ok v → claimed (set_word r) (span_of x) v ≡ Ok c
     → ((n : ℕ) → dimension_of c ≡ Some n → o ≡ Some n) → is_allowed ts c ≡ true → ((us : List Tuple) → becomes c None ≡ Some us → us ≡ ts) → SatisfiesRole w d ts r x
-satisfied w o d ts k (roles.Phrase begins.Dimen) x (One (Number n)) c e f a i own = go (is_dimension n) refl f
+satisfied w sets o d ts k (roles.Phrase begins.Dimen) x (One (Number n)) c e f a i own = go (is_dimension n) refl f
   where
     go : (b : Bool) → is_dimension n ≡ b → (if b then (let u : Outcome Claim = Ok (claims.Dimension (unsigned_abs n)) in u) else rejected Arity (span_of x)) ≡ Ok c → IsValue (env_of w []) x (meant.number (pos d))
     go true s g =
         let claim = is_ok (claims.Dimension (unsigned_abs n)) c g in
         let size : unsigned_abs n ≡ d = k (unsigned_abs n) (a (unsigned_abs n) (ap dimension_of (sym claim))) in
-        subst (λ z. IsValue (env_of w []) x (meant.number z)) (whole_dimension n s ∙ ap pos size) (evaluation_is_sound w [] x (One (Number n)) e)
+        subst (λ z. IsValue (env_of w []) x (meant.number z)) (whole_dimension n s ∙ ap pos size) (evaluation_is_sound w [] x (One (Number n)) sets e)
     go false s g = cc
-satisfied w o d ts k (roles.Phrase begins.Dimen) x (One (Text t)) c e f a i own = cc
-satisfied w o d ts k (roles.Phrase begins.Dimen) x (Several t) c e f a i own = cc
-satisfied w o d ts k (roles.Phrase begins.Dimen) x (Many m us) c e f a i own = cc
-satisfied w o d ts k (roles.Phrase begins.Dimen) x (Truth b) c e f a i own = cc
-satisfied w o d ts k (roles.Relation relations.Within) x (Many m us) c e f a i own =
-    (us, evaluation_is_sound w [] x (Many m us) e, subst (λ z. is_allowed ts z ≡ true) (sym (is_ok (claims.Within m us) c f)) i)
-satisfied w o d ts k (roles.Relation relations.Within) x (One m) c e f a i own = cc
-satisfied w o d ts k (roles.Relation relations.Within) x (Several t) c e f a i own = cc
-satisfied w o d ts k (roles.Relation relations.Within) x (Truth b) c e f a i own = cc
-satisfied w o d ts k roles.Becomes x (Many m us) c e f a i own =
-    subst (λ z. IsValue (env_of w []) x (meant.Many z)) (own us (ap (λ z. becomes z None) (sym (is_ok (claims.Becomes m us) c f)))) (evaluation_is_sound w [] x (Many m us) e)
-satisfied w o d ts k roles.Becomes x (One m) c e f a i own = cc
-satisfied w o d ts k roles.Becomes x (Several t) c e f a i own = cc
-satisfied w o d ts k roles.Becomes x (Truth b) c e f a i own = cc
-satisfied w o d ts k _ x v c e f a i own = tt
+satisfied w sets o d ts k (roles.Phrase begins.Dimen) x (One (Text t)) c e f a i own = cc
+satisfied w sets o d ts k (roles.Phrase begins.Dimen) x (Several t) c e f a i own = cc
+satisfied w sets o d ts k (roles.Phrase begins.Dimen) x (Many m us) c e f a i own = cc
+satisfied w sets o d ts k (roles.Phrase begins.Dimen) x (Truth b) c e f a i own = cc
+satisfied w sets o d ts k (roles.Relation relations.Within) x (Many m us) c e f a i own =
+    (us, evaluation_is_sound w [] x (Many m us) sets e, set_long m us d (keeps_sets w sets [] x m us e) (λ n s. k n (a n (ap dimension_of (sym (is_ok (claims.Within m us) c f)) ∙ s))), subst (λ z. is_allowed ts z ≡ true) (sym (is_ok (claims.Within m us) c f)) i)
+satisfied w sets o d ts k (roles.Relation relations.Within) x (One m) c e f a i own = cc
+satisfied w sets o d ts k (roles.Relation relations.Within) x (Several t) c e f a i own = cc
+satisfied w sets o d ts k (roles.Relation relations.Within) x (Truth b) c e f a i own = cc
+satisfied w sets o d ts k roles.Becomes x (Many m us) c e f a i own =
+    subst (λ z. IsValue (env_of w []) x (meant.Many z)) (own us (ap (λ z. becomes z None) (sym (is_ok (claims.Becomes m us) c f)))) (evaluation_is_sound w [] x (Many m us) sets e)
+satisfied w sets o d ts k roles.Becomes x (One m) c e f a i own = cc
+satisfied w sets o d ts k roles.Becomes x (Several t) c e f a i own = cc
+satisfied w sets o d ts k roles.Becomes x (Truth b) c e f a i own = cc
+satisfied w sets o d ts k _ x v c e f a i own = tt
 
-satisfied_in : (w : World) (o : Option ℕ) (d : ℕ) (ts : List Tuple) → ((n : ℕ) → o ≡ Some n → n ≡ d) → (p : Phrase) (q : SetPhrase) → IsClaimedIn w o (role_of p.word) p.body q.claim → is_allowed ts q.claim ≡ true → IsOwn ts q → Satisfies w d ts (erased.phrase p)
-satisfied_in w o d ts k p q h i own = λ x e. go x p.body e h
+satisfied_in : (w : World) → HasSets w → (o : Option ℕ) (d : ℕ) (ts : List Tuple) → ((n : ℕ) → o ≡ Some n → n ≡ d) → (p : Phrase) (q : SetPhrase) → IsClaimedIn w o (role_of p.word) p.body q.claim → is_allowed ts q.claim ≡ true → IsOwn ts q → Satisfies w d ts (erased.phrase p)
+satisfied_in w sets o d ts k p q h i own = λ x e. go x p.body e h
   where
     go : (x : Expression) (b : Body) → world.expression_of (erased.body b) ≡ Some x → IsClaimedIn w o (role_of p.word) b q.claim → world.SatisfiesRole w d ts (role_of p.word) x
     go x plain e h = absurd h
     go x (priced n y) e h = absurd h
-    go x (valued y) e h = subst (world.SatisfiesRole w d ts (role_of p.word)) (same (expression y) x e) (satisfied w o d ts k (role_of p.word) y h.found q.claim h.value h.claim h.agrees i own)
+    go x (valued y) e h = subst (world.SatisfiesRole w d ts (role_of p.word)) (same (expression y) x e) (satisfied w sets o d ts k (role_of p.word) y h.found q.claim h.value h.claim h.agrees i own)
       where
         same : (y x : Expression) → Some y ≡ Some x → y ≡ x
         same y x e = cc
 
-pub all_satisfied : (w : World) (o : Option ℕ) (d : ℕ) (ts : List Tuple) → ((n : ℕ) → o ≡ Some n → n ≡ d) → (ps : List Phrase) (qs : List SetPhrase) → AreClaimed w o ps qs → AllByRecursion (λ (q : SetPhrase). is_allowed ts q.claim ≡ true) qs
+pub all_satisfied : (w : World) → HasSets w → (o : Option ℕ) (d : ℕ) (ts : List Tuple) → ((n : ℕ) → o ≡ Some n → n ≡ d) → (ps : List Phrase) (qs : List SetPhrase) → AreClaimed w o ps qs → AllByRecursion (λ (q : SetPhrase). is_allowed ts q.claim ≡ true) qs
     → AllByRecursion (IsOwn ts) qs → AllByRecursion (Satisfies w d ts) (map erased.phrase ps)
-all_satisfied w o d ts k [] [] h i own = tt
-all_satisfied w o d ts k [] (q ∷ qs) h i own = absurd h
-all_satisfied w o d ts k (p ∷ ps) [] h i own = absurd h
-all_satisfied w o d ts k (p ∷ ps) (q ∷ qs) h i own = (satisfied_in w o d ts k p q h.0 i.0 own.0, all_satisfied w o d ts k ps qs h.1 i.1 own.1)
+all_satisfied w sets o d ts k [] [] h i own = tt
+all_satisfied w sets o d ts k [] (q ∷ qs) h i own = absurd h
+all_satisfied w sets o d ts k (p ∷ ps) [] h i own = absurd h
+all_satisfied w sets o d ts k (p ∷ ps) (q ∷ qs) h i own = (satisfied_in w sets o d ts k p q h.0 i.0 own.0, all_satisfied w sets o d ts k ps qs h.1 i.1 own.1)

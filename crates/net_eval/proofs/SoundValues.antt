@@ -28,6 +28,7 @@ use Rattle.net_expr.specs.declared.row.Row.{Row}
 use Rattle.net_expr.specs.declared.value.Value.{Value}
 use Rattle.net_expr.specs.declared.value.Value.TheVariants as found
 use Rattle.net_expr.specs.Operators.{member as member_of}
+use Rattle.net_expr.specs.SetValues.{HasSets}
 use Rattle.net_expr.specs.Values.{value}
 use Rattle.net_expr.specs.Worlds.{Name, World, Scope, reference}
 use Rattle.net_eval.specs.declared.given.NamedData.{NamedData}
@@ -166,22 +167,22 @@ record IsGiven (w : World) (s : Scope) (x : Tree) (o : Option Member) : Type 0 w
   pub is : Some one ≡ o
   pub holds : trees.IsValue (env_of w s) x (One one)
 
-expression_given : (w : World) (s : Scope) (x : Tree) (found : Option Member) → and_then (and_then (value w s x) (member_of (span_of x))) some ≡ Ok found → IsGiven w s x found
-expression_given w s x found e =
+expression_given : (w : World) → HasSets w → (s : Scope) (x : Tree) (found : Option Member) → and_then (and_then (value w s x) (member_of (span_of x))) some ≡ Ok found → IsGiven w s x found
+expression_given w sets s x found e =
     then_ok (and_then (value w s x) (member_of (span_of x))) some found e (λ m i k.
     then_ok (value w s x) (member_of (span_of x)) m i (λ v j l.
-    record { one = m; is = is_ok (Some m) found k; holds = subst (trees.IsValue (env_of w s) x) (member_is (span_of x) v m l) (evaluation_is_sound w s x v j) }))
+    record { one = m; is = is_ok (Some m) found k; holds = subst (trees.IsValue (env_of w s) x) (member_is (span_of x) v m l) (evaluation_is_sound w s x v sets j) }))
 
-module _ (w : World) (ss : List Statement) (n : Name) (ps : List Phrase) (size : ℕ) where
+module _ (w : World) (sets : HasSets w) (ss : List Statement) (n : Name) (ps : List Phrase) (size : ℕ) where
   by_source : (r : Row) (found : Option Member) (a : Option Tree) (ds : List Token) (d : Option Tree) → trees.phrase_value is_becomes ps ≡ a → data_defaults n ss ≡ ds → trees.phrase_value is_default ps ≡ d → AllByRecursion IsMember ds
       → HasNoRow size n ss r.key → from_source w r.scope (source a (first_of ds) d) ≡ Ok found → IsParameterValue ss n ps size (as_key w r) found
   by_source r found (Some x) ds d ea eds ed h none e =
-      let g = expression_given w r.scope x found e in
+      let g = expression_given w sets r.scope x found e in
       subst (IsParameterValue ss n ps size (as_key w r)) g.is (assigned (expression x) g.one none (phrase_some is_becomes ps x ea) g.holds)
   by_source r found None (t ∷ ds) d ea eds ed h none e =
       subst (IsParameterValue ss n ps size (as_key w r)) (is_ok (Some (member_in t)) found e) (data_default t (member_in t) none (phrase_none is_becomes ps ea) (subst (λ l. Contains l t) (sym eds) (0, omega arith, refl)) (value_in t h.0))
   by_source r found None [] (Some y) ea eds ed h none e =
-      let g = expression_given w r.scope y found e in
+      let g = expression_given w sets r.scope y found e in
       subst (IsParameterValue ss n ps size (as_key w r)) g.is (default (expression y) g.one none (phrase_none is_becomes ps ea) eds (phrase_some is_default ps y ed) g.holds)
   by_source r found None [] None ea eds ed h none e = subst (IsParameterValue ss n ps size (as_key w r)) (is_ok None found e) (nothing none (phrase_none is_becomes ps ea) eds (phrase_none is_default ps ed))
 
@@ -210,16 +211,16 @@ kind_is ps text at cell (member.Name t) u e = sym (texts_are ps) ∙ go (takes_t
     go false None i = cc
     go false (Some s) i = cc
 
-pub rows_fit : (w : World) (name : Token) (n : Option ℕ) (ps : List Phrase) (text : Language) (at : Span) (cells : List Span) (t : Table) (rows : List Row) (u : Unit {0}) → fit_values w name n ps text at cells t rows ≡ Ok u
+pub rows_fit : (w : World) → HasSets w → (name : Token) (n : Option ℕ) (ps : List Phrase) (text : Language) (at : Span) (cells : List Span) (t : Table) (rows : List Row) (u : Unit {0}) → fit_values w name n ps text at cells t rows ≡ Ok u
     → AllByRecursion (λ (k : Key). ForSome (at_key t k.key) (λ m. AllByRecursion (Fits k.env m) (map erased.phrase ps) × IsOfKind ps m)) (map (as_key w) rows)
-rows_fit w name n ps text at cells t [] u e = tt
-rows_fit w name n ps text at cells t (r ∷ rows) u e =
-    then_ok (fit_row w name n ps text at cells t r) (λ v. fit_values w name n ps text at cells t rows) u e (λ v i k. (fits v i, rows_fit w name n ps text at cells t rows u k))
+rows_fit w sets name n ps text at cells t [] u e = tt
+rows_fit w sets name n ps text at cells t (r ∷ rows) u e =
+    then_ok (fit_row w name n ps text at cells t r) (λ v. fit_values w name n ps text at cells t rows) u e (λ v i k. (fits v i, rows_fit w sets name n ps text at cells t rows u k))
   where
     fit_one : (v : Unit {0}) (m : Member) → fit_value w name n ps text at cells t r (Some m) ≡ Ok v → AllByRecursion (Fits (env_of w r.scope) m) (map erased.phrase ps) × IsOfKind ps m
     fit_one v m e =
         then_ok (fit_kind (takes_texts ps) text at (cell_of cells (place_of (keys_with t) r.key)) m) (λ x. restricted w r.scope (reference name.text n r.key) m ps) v e (λ x i k.
-        (restrictions_are_sound w r.scope (reference name.text n r.key) m ps k, kind_is ps text at (cell_of cells (place_of (keys_with t) r.key)) m x i))
+        (restrictions_are_sound w r.scope (reference name.text n r.key) m ps sets k, kind_is ps text at (cell_of cells (place_of (keys_with t) r.key)) m x i))
 
     fits : (v : Unit {0}) → fit_row w name n ps text at cells t r ≡ Ok v → ForSome (at_key t r.key) (λ m. AllByRecursion (Fits (env_of w r.scope) m) (map erased.phrase ps) × IsOfKind ps m)
     fits v e m f = fit_one v m (subst (λ o. fit_value w name n ps text at cells t r o ≡ Ok v) f e)

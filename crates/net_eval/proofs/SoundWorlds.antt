@@ -12,6 +12,7 @@ use Rattle.net_tree.specs.Phrases.{AreSetPhrases}
 use Rattle.net_tree.specs.Tree.{Tree, Braces, Phrase, Declaration, set, param, check, node, arc, objective}
 use Rattle.net_expr.specs.declared.world.Entry.{Entry}
 use Rattle.net_expr.specs.declared.world.Entry.TheVariants.{Set}
+use Rattle.net_expr.specs.SetValues.{HasSets}
 use Rattle.net_expr.specs.Worlds.{Name, World}
 use Rattle.net_meaning.specs.OfTrees.{IsValue, AreIndexed, IsSet, IsParameter, Binds}
 use Rattle.net_meaning.specs.Operators.{Truth}
@@ -117,11 +118,11 @@ module _ (all : List Declaration) (ss : List Statement) (given : Sorted) (new : 
         sym (is_ok (before ++ (n.text, x) ∷ []) next g),
       ))
 
-  check_next : (w before : World) (b : Option Braces) (x : Tree) (known next : ℕ) → take known w ≡ before → and_then (checked (take known w) b x) (λ u. Ok known) ≡ Ok next
+  check_next : (w before : World) → HasSets before → (b : Option Braces) (x : Tree) (known next : ℕ) → take known w ≡ before → and_then (checked (take known w) b x) (λ u. Ok known) ≡ Ok next
       → (keys : List Key) × AreIndexed before b keys × AllByRecursion (λ (k : Key). IsValue k.env x (Truth true)) keys × (known ≡ next)
-  check_next w before b x known next same e =
+  check_next w before sets b x known next same e =
       then_ok (checked (take known w) b x) (λ u. Ok known) next e (λ u f g.
-      let (keys, indexed, hold) = checks_are_sound before b x (ap (λ z. checked z b x) (sym same) ∙ f) in
+      let (keys, indexed, hold) = checks_are_sound before b x sets (ap (λ z. checked z b x) (sym same) ∙ f) in
       (keys, indexed, hold, is_ok known next g))
 
   binds : (w : World) (front : Declared) (ds : List Declaration) (before : World) (known last : ℕ) → declared all ≡ front ++ declared ds → length front ≡ length before → known ≡ length before → AreEntries before
@@ -149,7 +150,7 @@ module _ (all : List Declaration) (ss : List Statement) (given : Sorted) (new : 
   binds w front (check k b m x z ∷ ds) before known last e size count entries well i j =
       then_ok (check_one w (check k b m x z) known) (each (check_one w) ds) last j (λ next f g.
       let same = front_taken before w known (all_front given ds before w i) count in
-      let (keys, indexed, hold, stays) = check_next w before b x known next same f in
+      let (keys, indexed, hold, stays) = check_next w before (sets_of before entries) b x known next same f in
       (keys, indexed, hold, binds w front ds before known last e size count entries well.1 i (ap (each (check_one w) ds) stays ∙ g)))
   binds w front (node k n b c z ∷ ds) before known last e size count entries well i j = binds w front ds before known last e size count entries well.1 i j
   binds w front (arc k n b ps z ∷ ds) before known last e size count entries well i j = binds w front ds before known last e size count entries well.1 i j

@@ -24,9 +24,9 @@ use Rattle.net_eval.specs.DataValues.{HaveValues, NamesNoSet}
 use Rattle.net_eval.specs.Names.{Declared}
 use Rattle.net_eval.specs.Restrictions.{restricted}
 
--- if the code accepts a value of a parameter, the value satisfies each restriction of the declaration
+-- if the code accepts a value of a parameter, the value satisfies each restriction of the declaration; the declared sets of the world have to be sets
 abbrev pub RestrictionsAreSound : Type 0
-RestrictionsAreSound = (w : World) (s : Scope) (d : Detail) (m : Member) (ps : List Phrase) → restricted w s d m ps ≡ Ok tt → AllByRecursion (Fits (env_of w s) m) (map phrase ps)
+RestrictionsAreSound = (w : World) (s : Scope) (d : Detail) (m : Member) (ps : List Phrase) → HasSets w → restricted w s d m ps ≡ Ok tt → AllByRecursion (Fits (env_of w s) m) (map phrase ps)
 
 -- if the code binds a parameter with the data of well-formed statements, its entry is the one that AMPL defines
 abbrev pub ParametersAreSound : Type 0
@@ -37,7 +37,7 @@ ParametersAreSound =
 
 -- if the code accepts a check, its condition is true at each of its keys
 abbrev pub ChecksAreSound : Type 0
-ChecksAreSound = (w : World) (b : Option Braces) (x : Tree) → checked w b x ≡ Ok tt → (keys : List Key) × AreIndexed w b keys × AllByRecursion (λ (k : Key). IsValue k.env x (Truth true)) keys
+ChecksAreSound = (w : World) (b : Option Braces) (x : Tree) → HasSets w → checked w b x ≡ Ok tt → (keys : List Key) × AreIndexed w b keys × AllByRecursion (λ (k : Key). IsValue k.env x (Truth true)) keys
 
 -- if the code computes a world of well-formed declarations and data statements, it is the world that AMPL defines
 abbrev pub WorldsAreSound : Type 0

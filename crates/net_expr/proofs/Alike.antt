@@ -43,7 +43,7 @@ all_union P ts [] h k = h
 all_union P ts (u ∷ us) h k = all_union P (added ts u) us (all_added P ts u h k.0) k.1
 
 -- rows of one length
-record AreAlike (rows : List Row) : Type 0 where
+pub record AreAlike (rows : List Row) : Type 0 where
   pub width : ℕ
   pub long : AreLong width (keys_of rows)
 
@@ -68,7 +68,7 @@ row_alike at s (Some key) found rows h e = go (same_arity key found) (nat_lt (le
     go true false f k = cc
     go false c f k = cc
 
-each_alike : (lead : Tuple → Place → Outcome (Option Place)) (next : Place → List Row → Outcome (List Row)) → ((q : Place) (found rows : List Row) → AreAlike found → next q found ≡ Ok rows → AreAlike rows) → (p : Place) (ts : List Tuple) (found rows : List Row)
+pub each_alike : (lead : Tuple → Place → Outcome (Option Place)) (next : Place → List Row → Outcome (List Row)) → ((q : Place) (found rows : List Row) → AreAlike found → next q found ≡ Ok rows → AreAlike rows) → (p : Place) (ts : List Tuple) (found rows : List Row)
     → AreAlike found → each (onward lead next p) ts found ≡ Ok rows → AreAlike rows
 each_alike lead next step p [] found rows h e = subst AreAlike (is_ok found rows e) h
 each_alike lead next step p (t ∷ ts) found rows h e =
@@ -81,7 +81,7 @@ each_alike lead next step p (t ∷ ts) found rows h e =
         by_place None m = subst AreAlike (is_ok found mid m) h
         by_place (Some q) m = step q found mid h m
 
-walk_alike : (at : Span) (w : World) (l : Links) (p : Place) (found rows : List Row) → AreAlike found → walk at w l p found ≡ Ok rows → AreAlike rows
+pub walk_alike : (at : Span) (w : World) (l : Links) (p : Place) (found rows : List Row) → AreAlike found → walk at w l p found ≡ Ok rows → AreAlike rows
 walk_alike at w none p found rows h e = row_alike at p.scope p.key found rows h e
 walk_alike at w (link o i is) p found rows h e =
     then_ok (if has_in i then set_after w p.scope i else and_then (value w p.scope i) (tuples_of at)) (λ ts. each (onward (place w i) (walk at w is) p) ts found) rows e (λ ts j k.

@@ -97,7 +97,7 @@ selected_once by_form test rows k h e =
 walking_is : (ts us : List Tuple) → (let o : Outcome Opening = Ok (walking ts) in o ≡ Ok (walking us)) → ts ≡ us
 walking_is ts us e = let same : walking ts ≡ walking us = is_ok (walking ts) (walking us) e in cc
 
-opened_set : (w : World) (s : Scope) (i : Tree) (at : Span) (any : Bool) (ts : List Tuple) → (if has_in i then and_then (set_after w s i) (λ us. Ok (walking us)) else and_then (value w s i) (opened at any)) ≡ Ok (walking ts)
+pub opened_set : (w : World) (s : Scope) (i : Tree) (at : Span) (any : Bool) (ts : List Tuple) → (if has_in i then and_then (set_after w s i) (λ us. Ok (walking us)) else and_then (value w s i) (opened at any)) ≡ Ok (walking ts)
     → (if has_in i then set_after w s i else and_then (value w s i) (tuples_of at)) ≡ Ok ts
 opened_set w s i at any ts e = go (has_in i) e
   where

@@ -47,13 +47,13 @@ use Rattle.net_expr.proofs.Alike.{AreLong, AreKeys, all_union, keys_long}
 use Rattle.net_expr.proofs.KeysOnce.{union_distinct}
 use Rattle.net_expr.proofs.Walked.{none_there, all_join, all_as}
 
-abbrev IsSetValue : Value → Type 0
+abbrev pub IsSetValue : Value → Type 0
 IsSetValue (Many d ts) = IsSetOf d ts
 IsSetValue (One m) = Unit {0}
 IsSetValue (Several t) = Unit {0}
 IsSetValue (Truth b) = Unit {0}
 
-abbrev Gives : Outcome Value → Type 0
+abbrev pub Gives : Outcome Value → Type 0
 Gives (Ok v) = IsSetValue v
 Gives (Err r) = Unit {0}
 
@@ -126,13 +126,13 @@ distinct_filter test (t ∷ ts) h = go (test t) (distinct_filter test ts (IsDist
     go false k = k
 
 -- both are sets of the dimension that they share
-abbrev AreSetsOf : ℕ → List Tuple → List Tuple → Type 0
+abbrev pub AreSetsOf : ℕ → List Tuple → List Tuple → Type 0
 AreSetsOf n xs ys = IsSetOf (Some n) xs × IsSetOf (Some n) ys
 
 no_tuples : (n : ℕ) (xs : List Tuple) → xs ≡ [] → IsSetOf (Some n) xs
 no_tuples n xs e = subst (IsSetOf (Some n)) (sym e) (none_there, tt)
 
-meet : (d e : Option ℕ) (n : ℕ) (xs ys : List Tuple) → IsSetOf d xs → IsSetOf e ys → shared d e ≡ Some n → AreSetsOf n xs ys
+pub meet : (d e : Option ℕ) (n : ℕ) (xs ys : List Tuple) → IsSetOf d xs → IsSetOf e ys → shared d e ≡ Some n → AreSetsOf n xs ys
 meet None None n xs ys h k e = (no_tuples n xs h, no_tuples n ys k)
 meet None (Some m) n xs ys h k e = let same : m ≡ n = cc in (no_tuples n xs h, subst (λ (i : ℕ). IsSetOf (Some i) ys) same k)
 meet (Some m) None n xs ys h k e = let same : m ≡ n = cc in (subst (λ (i : ℕ). IsSetOf (Some i) xs) same h, no_tuples n ys k)
@@ -224,7 +224,7 @@ gives_truth o = gives_then o _ (λ b e. tt)
 gives_denial : (o : Outcome Bool) → Gives (as_denial o)
 gives_denial o = gives_then o _ (λ b e. tt)
 
-gives_apply : (f : BinOp) (at : Span) (x y : Value) → IsSetValue x → IsSetValue y → Gives (apply f at x y)
+pub gives_apply : (f : BinOp) (at : Span) (x y : Value) → IsSetValue x → IsSetValue y → Gives (apply f at x y)
 gives_apply op.Plus at x y h k = gives_numbers at (plus at) x y (λ a b. gives_sized at (a +ℤ b))
 gives_apply op.Minus at x y h k = gives_numbers at (less at) x y (λ a b. gives_sized at _)
 gives_apply op.Times at x y h k = gives_numbers at (times at) x y (λ a b. gives_sized at _)
@@ -328,7 +328,7 @@ gives_as_set at k h = gives_if (nat_le (length (union [] (keys_of k.rows))) tupl
     go (Some n) i = (union_distinct [] (keys_of k.rows) none_there, all_union (λ t. length t ≡ n) [] (keys_of k.rows) tt i)
 
 mutual
-  gives : (w : World) → HasSets w → (s : Scope) (t : Tree) → Gives (value w s t)
+  pub gives : (w : World) → HasSets w → (s : Scope) (t : Tree) → Gives (value w s t)
   gives w g s (leaf t) = gives_token w g s t (role_of t)
   gives w g s (indexed n o x l c) =
       gives_then (and_then (value w s x) (λ v. values w s l (v ∷ []))) (subscripted (span_of (indexed n o x l c)) w s n.text) (λ vs e. gives_then (tuple_of (span_of (indexed n o x l c)) vs) _ (λ key h. gives_name w g (span_of (indexed n o x l c)) n.text (bound s n.text) key))

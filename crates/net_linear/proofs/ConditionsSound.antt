@@ -38,6 +38,7 @@ use Rattle.net_expr.specs.declared.value.Value.TheVariants as found
 use Rattle.net_expr.specs.Items.{begins_range}
 use Rattle.net_expr.specs.Numbers as numbers
 use Rattle.net_expr.specs.Operators.{apply, decided}
+use Rattle.net_expr.specs.SetValues.{HasSets}
 use Rattle.net_expr.specs.Values.{value, values, chained, either}
 use Rattle.net_expr.specs.Worlds.{Name, World, Scope}
 use Rattle.net_expr.proofs.Parting.{then_ok, is_ok}
@@ -64,14 +65,14 @@ number_found at (found.Several t) n e = cc
 number_found at (found.Many d ts) n e = cc
 number_found at (found.Truth b) n e = cc
 
-module _ (g : Name → Option (Tuple → ℤ)) (y : ℤ) (w : World) (s : Scope) where
+module _ (g : Name → Option (Tuple → ℤ)) (y : ℤ) (w : World) (sets : HasSets w) (s : Scope) where
   abbrev E : Env
   E = env_with g y w s
 
   plain_is : (x : Tree) (c : ℤ) → IsArcFree g y x → value w s x ≡ Ok (of c) → IsValue E x (number (number_of (number_or_none w s x)))
   plain_is x c z e =
       let same : number_of (number_or_none w s x) ≡ c = ap (λ (o : Outcome Found). number_of (and_then o (λ v. Ok (as_number v)))) e in
-      subst (λ n. IsValue E x (number n)) (sym same) (gives_ok (λ v. IsValue E x (meaning_of v)) (value w s x) (of c) (value_is_sound g y w s x z) e)
+      subst (λ n. IsValue E x (number n)) (sym same) (gives_ok (λ v. IsValue E x (meaning_of v)) (value w s x) (of c) (value_is_sound g y w sets s x z) e)
 
   net_is : (t : Option Token) (u : Token) → IsValue E (net t u) (number (term_at w s (net t u) y))
   unfolding linear.is_outflow is_outflow
@@ -265,12 +266,12 @@ compared at None m n (Some a) (Some b) r e = go (is_small a && is_small b) e
 compared at c m n None b r e = cc
 compared at c m n (Some a) None r e = cc
 
-module _ (g : Name → Option (Tuple → ℤ)) (y : ℤ) (w : World) (s : Scope) where
+module _ (g : Name → Option (Tuple → ℤ)) (y : ℤ) (w : World) (sets : HasSets w) (s : Scope) where
   pair_is : (x z : Tree) (o : Token) (a b : Option ℤ) → IsSideArcFree g y x → IsSideArcFree g y z → number_or_none w s x ≡ Ok a → number_or_none w s z ≡ Ok b → AreCompared (comparison_in (role_of o)) a b
       → meant.Compares (env_with g y w s) x (words.One o) z ↔ Compares (comparison_in (role_of o)) (side_at w s x y) (side_at w s z y)
   pair_is x z o a b p q e f c =
-      let left = side_is g y w s x c.left p (value_of (value w s x) c.left (e ∙ ap (λ k. Ok k) c.left_is)) in
-      let right = side_is g y w s z c.right q (value_of (value w s z) c.right (f ∙ ap (λ k. Ok k) c.right_is)) in
+      let left = side_is g y w sets s x c.left p (value_of (value w s x) c.left (e ∙ ap (λ k. Ok k) c.left_is)) in
+      let right = side_is g y w sets s z c.right q (value_of (value w s z) c.right (f ∙ ap (λ k. Ok k) c.right_is)) in
       let how = comparison_is o c.how c.is in (
         (λ (u, v, hu, hv, m).
             subst (λ k. Compares k (side_at w s x y) (side_at w s z y)) (sym c.is) ((compares_is c.how (side_at w s x y) (side_at w s z y)).0
@@ -287,40 +288,40 @@ module _ (g : Name → Option (Tuple → ℤ)) (y : ℤ) (w : World) (s : Scope)
       )
 
 pub conditions_are_sound : ConditionsAreSound
-conditions_are_sound g w s unsaid r y p e = ((λ h. h), (λ h. h))
-conditions_are_sound g w s (one m x o z) r y p e =
+conditions_are_sound g w s unsaid r y sets p e = ((λ h. h), (λ h. h))
+conditions_are_sound g w s (one m x o z) r y sets p e =
     then_ok (number_or_none w s x) _ r e (λ a h i. then_ok (number_or_none w s z) _ r i (λ b j k.
-    pair_is g y w s x z o a b p.0 p.1 h j (compared (from_to x z) (comparison_in (role_of o)) (net_side x) (net_side z) a b r k)))
-conditions_are_sound g w s (between m x o z q u) r y p e =
+    pair_is g y w sets s x z o a b p.0 p.1 h j (compared (from_to x z) (comparison_in (role_of o)) (net_side x) (net_side z) a b r k)))
+conditions_are_sound g w s (between m x o z q u) r y sets p e =
     then_ok (number_or_none w s x) _ r e (λ a h i. then_ok (number_or_none w s z) _ r i (λ b j k. then_ok (number_or_none w s u) _ r k (λ c l n.
     then_ok (solved_sides (from_to x u) (comparison_in (role_of o)) (net_side x) (net_side z) a b) _ r n (λ f first rest.
     then_ok (solved_sides (from_to x u) (comparison_in (role_of q)) (net_side z) (net_side u) b c) (met (from_to x u) f) r rest (λ t second last.
-    let one_pair = pair_is g y w s x z o a b p.0 p.1 h j (compared (from_to x u) (comparison_in (role_of o)) (net_side x) (net_side z) a b f first) in
-    let other = pair_is g y w s z u q b c p.1 p.2 j l (compared (from_to x u) (comparison_in (role_of q)) (net_side z) (net_side u) b c t second) in
+    let one_pair = pair_is g y w sets s x z o a b p.0 p.1 h j (compared (from_to x u) (comparison_in (role_of o)) (net_side x) (net_side z) a b f first) in
+    let other = pair_is g y w sets s z u q b c p.1 p.2 j l (compared (from_to x u) (comparison_in (role_of q)) (net_side z) (net_side u) b c t second) in
     ((λ (v, k). (one_pair.0 v, other.0 k)), (λ (v, k). (one_pair.1 v, other.1 k))))))))
 
 -- ---- the numbers of the sides
 
-module _ (g : Name → Option (Tuple → ℤ)) (y : ℤ) (w : World) (s : Scope) where
+module _ (g : Name → Option (Tuple → ℤ)) (y : ℤ) (w : World) (sets : HasSets w) (s : Scope) where
   abbrev HasNumber : Tree → Type 0
   HasNumber x = IsNumeric (env_with g y w s) (expression x)
 
   two_sides : (x z : Tree) (c : Option Comparison) (a b : Option ℤ) → IsSideArcFree g y x → IsSideArcFree g y z → number_or_none w s x ≡ Ok a → number_or_none w s z ≡ Ok b → AreCompared c a b → HasNumber x × HasNumber z
   two_sides x z c a b p q e f h = (
-    (side_at w s x y, side_is g y w s x h.left p (value_of (value w s x) h.left (e ∙ ap (λ k. Ok k) h.left_is))),
-    (side_at w s z y, side_is g y w s z h.right q (value_of (value w s z) h.right (f ∙ ap (λ k. Ok k) h.right_is))),
+    (side_at w s x y, side_is g y w sets s x h.left p (value_of (value w s x) h.left (e ∙ ap (λ k. Ok k) h.left_is))),
+    (side_at w s z y, side_is g y w sets s z h.right q (value_of (value w s z) h.right (f ∙ ap (λ k. Ok k) h.right_is))),
   )
 
 -- each side of a condition whose range is computed has a number, at each net inflow
-pub sides_have_numbers : (g : Name → Option (Tuple → ℤ)) (w : World) (s : Scope) (c : Condition) (r : Sides) (y : ℤ) → IsConditionArcFree g y c → sides_in w s c ≡ Ok r → HasSides (env_with g y w s) (condition c)
-sides_have_numbers g w s unsaid r y p e = tt
-sides_have_numbers g w s (one m x o z) r y p e =
+pub sides_have_numbers : (g : Name → Option (Tuple → ℤ)) (w : World) (s : Scope) (c : Condition) (r : Sides) (y : ℤ) → HasSets w → IsConditionArcFree g y c → sides_in w s c ≡ Ok r → HasSides (env_with g y w s) (condition c)
+sides_have_numbers g w s unsaid r y sets p e = tt
+sides_have_numbers g w s (one m x o z) r y sets p e =
     then_ok (number_or_none w s x) _ r e (λ a h i. then_ok (number_or_none w s z) _ r i (λ b j k.
-    two_sides g y w s x z (comparison_in (role_of o)) a b p.0 p.1 h j (compared (from_to x z) (comparison_in (role_of o)) (net_side x) (net_side z) a b r k)))
-sides_have_numbers g w s (between m x o z q u) r y p e =
+    two_sides g y w sets s x z (comparison_in (role_of o)) a b p.0 p.1 h j (compared (from_to x z) (comparison_in (role_of o)) (net_side x) (net_side z) a b r k)))
+sides_have_numbers g w s (between m x o z q u) r y sets p e =
     then_ok (number_or_none w s x) _ r e (λ a h i. then_ok (number_or_none w s z) _ r i (λ b j k. then_ok (number_or_none w s u) _ r k (λ c l n.
     then_ok (solved_sides (from_to x u) (comparison_in (role_of o)) (net_side x) (net_side z) a b) _ r n (λ f first rest.
     then_ok (solved_sides (from_to x u) (comparison_in (role_of q)) (net_side z) (net_side u) b c) (met (from_to x u) f) r rest (λ t second last.
-    let left = two_sides g y w s x z (comparison_in (role_of o)) a b p.0 p.1 h j (compared (from_to x u) (comparison_in (role_of o)) (net_side x) (net_side z) a b f first) in
-    let right = two_sides g y w s z u (comparison_in (role_of q)) b c p.1 p.2 j l (compared (from_to x u) (comparison_in (role_of q)) (net_side z) (net_side u) b c t second) in
+    let left = two_sides g y w sets s x z (comparison_in (role_of o)) a b p.0 p.1 h j (compared (from_to x u) (comparison_in (role_of o)) (net_side x) (net_side z) a b f first) in
+    let right = two_sides g y w sets s z u (comparison_in (role_of q)) b c p.1 p.2 j l (compared (from_to x u) (comparison_in (role_of q)) (net_side z) (net_side u) b c t second) in
     (left.0, left.1, right.1))))))

@@ -32,6 +32,7 @@ use Rattle.net_sets.specs.declared.member.Member.TheVariants as member
 use Rattle.net_expr.specs.Items.{begins_range}
 use Rattle.net_expr.specs.Numbers.{divides}
 use Rattle.net_expr.specs.Values.{value, index}
+use Rattle.net_expr.specs.SetValues.{HasSets}
 use Rattle.net_expr.specs.Worlds.{Name, World, Scope}
 use Rattle.net_meaning.specs.OfTrees.{AreOperandValues, IsValue, IsElse, AreValues, IsChain, AreKeys}
 use Rattle.net_meaning.specs.Laws.{meaning_of, IsArcFree, AreArcFree, IsPartArcFree, AreBracesArcFree}
@@ -194,9 +195,9 @@ module _ (a : Arcs) (x : ℕ → ℤ) (g : Name → Option (Tuple → ℤ)) (rea
   if_number P at (found.Many d ts) h = tt
   if_number P at (found.Truth b) h = tt
 
-  mixed_is : (w : World) (s : Scope) (t : Tree) (b : Bool) (u : Outcome Term) → (b ≡ false → IsArcFree g (pos 0) t) → (b ≡ true → IfOk u (IsTerm w s t)) → IfOk (mixed w s t b u) (IsTerm w s t)
-  mixed_is w s t true u h k = k refl
-  mixed_is w s t false u h k = go (value w s t) (value_is_sound g (pos 0) w s t (h refl))
+  mixed_is : (w : World) → HasSets w → (s : Scope) (t : Tree) (b : Bool) (u : Outcome Term) → (b ≡ false → IsArcFree g (pos 0) t) → (b ≡ true → IfOk u (IsTerm w s t)) → IfOk (mixed w s t b u) (IsTerm w s t)
+  mixed_is w sets s t true u h k = k refl
+  mixed_is w sets s t false u h k = go (value w s t) (value_is_sound g (pos 0) w sets s t (h refl))
     where
       go : (o : Outcome Found) → IfOk o (λ v. IsValue (E w s) t (meaning_of v)) → IfOk (and_then (and_then o (λ v. Ok (as_number v))) (plain_term (span_of t))) (IsTerm w s t)
       go (Ok v) i = if_number (IsValue (E w s) t) (span_of t) v i
@@ -259,9 +260,9 @@ module _ (a : Arcs) (x : ℕ → ℤ) (g : Name → Option (Tuple → ℤ)) (rea
       gives_each (IsTerm w s (reduced r b y)) (sized at f) (λ z i. subst (IsTerm w s (reduced r b y)) (sym (sized_some at f z i))
       (map (as_key g (pos 0) w) k.rows, ns, form_at x f, keys, all, subst (λ c. Reduces c ns (form_at x f)) (sym e) (let zero_is = form_just x (pos 0) in omega (arith, ints, sum, zero_is)), refl)))
 
-  indexed_is : (w : World) (s : Scope) (n o : Token) (y : Tree) (l : Links) (c : Token) → IsArcFree g (pos 0) y → AreArcFree g (pos 0) l
+  indexed_is : (w : World) → HasSets w → (s : Scope) (n o : Token) (y : Tree) (l : Links) (c : Token) → IsArcFree g (pos 0) y → AreArcFree g (pos 0) l
       → IfOk (arc_term a (span_of (indexed n o y l c)) n.text (key_of w s (span_of (indexed n o y l c)) y l)) (IsTerm w s (indexed n o y l c))
-  indexed_is w s n o y l c h k = go (key_of w s (span_of (indexed n o y l c)) y l) (key_is_sound g (pos 0) (span_of (indexed n o y l c)) w s y l h k)
+  indexed_is w sets s n o y l c h k = go (key_of w s (span_of (indexed n o y l c)) y l) (key_is_sound g (pos 0) (span_of (indexed n o y l c)) w sets s y l h k)
     where
       with_key : (key : Tuple) → AreMembers (IsValue (E w s) y) (AreValues (E w s) l) key → (u : Term) → Is (λ v. IsArcOr (g n.text) key v (Denotes (E w s) n.text key v)) u → IsTerm w s (indexed n o y l c) u
       with_key key m None i = tt
@@ -293,55 +294,55 @@ module _ (a : Arcs) (x : ℕ → ℤ) (g : Name → Option (Tuple → ℤ)) (rea
       go (Some f) j = (false, h, j)
 
   mutual
-    form_is : (w : World) (s : Scope) (t : Tree) → IfOk (objective a w s t) (IsTerm w s t)
-    form_is w s (leaf t) = mixed_is w s (leaf t) (is_arc a t.text) _ (λ e. plain (leaf t) e) (λ e. arc_is (span_of (leaf t)) t.text [] (IsLeaf (E w s) t.kind t.text))
-    form_is w s (indexed n o y l c) =
-        mixed_is w s (indexed n o y l c) (names_arc a (indexed n o y l c)) _ (λ e. plain (indexed n o y l c) e) (λ e.
+    form_is : (w : World) → HasSets w → (s : Scope) (t : Tree) → IfOk (objective a w s t) (IsTerm w s t)
+    form_is w sets s (leaf t) = mixed_is w sets s (leaf t) (is_arc a t.text) _ (λ e. plain (leaf t) e) (λ e. arc_is (span_of (leaf t)) t.text [] (IsLeaf (E w s) t.kind t.text))
+    form_is w sets s (indexed n o y l c) =
+        mixed_is w sets s (indexed n o y l c) (names_arc a (indexed n o y l c)) _ (λ e. plain (indexed n o y l c) e) (λ e.
         linear_is (IsTerm w s (indexed n o y l c)) (span_of (indexed n o y l c)) (not (names_arc a y || any_arc a l)) _ (λ f.
-        let (j, k) = neither (names_arc a y) (any_arc a l) (not_true _ f) in indexed_is w s n o y l c (plain y j) (all_plain l k)))
-    form_is w s (parens o y c) = mixed_is w s (parens o y c) (names_arc a y) _ (λ e. plain y e) (λ e. gives_as (IsTerm w s y) (IsTerm w s (parens o y c)) (objective a w s y) in_parens (form_is w s y))
+        let (j, k) = neither (names_arc a y) (any_arc a l) (not_true _ f) in indexed_is w sets s n o y l c (plain y j) (all_plain l k)))
+    form_is w sets s (parens o y c) = mixed_is w sets s (parens o y c) (names_arc a y) _ (λ e. plain y e) (λ e. gives_as (IsTerm w s y) (IsTerm w s (parens o y c)) (objective a w s y) in_parens (form_is w sets s y))
       where
         in_parens : (u : Term) → IsTerm w s y u → IsTerm w s (parens o y c) u
         in_parens None h = tt
         in_parens (Some f) h = h
-    form_is w s (tuple o y l c) = mixed_is w s (tuple o y l c) (names_arc a (tuple o y l c)) _ (λ e. plain (tuple o y l c) e) (λ e. tt)
-    form_is w s (negated n o y c) = mixed_is w s (negated n o y c) (names_arc a y) _ (λ e. plain y e) (λ e. tt)
-    form_is w s (braced b) = mixed_is w s (braced b) (braces_arc a b) _ (λ e. braces_plain b e) (λ e. tt)
-    form_is w s (signed t y) =
-        mixed_is w s (signed t y) (names_arc a y) _ (λ e. plain y e) (λ e. gives_then (IsTerm w s y) _ (objective a w s y) _ (form_is w s y) (λ u h. turned_is w s t y (span_of (signed t y)) u h))
-    form_is w s (reduced r b y) =
-        mixed_is w s (reduced r b y) (names_arc a (reduced r b y)) _ (λ e. plain (reduced r b y) e) (λ e.
+    form_is w sets s (tuple o y l c) = mixed_is w sets s (tuple o y l c) (names_arc a (tuple o y l c)) _ (λ e. plain (tuple o y l c) e) (λ e. tt)
+    form_is w sets s (negated n o y c) = mixed_is w sets s (negated n o y c) (names_arc a y) _ (λ e. plain y e) (λ e. tt)
+    form_is w sets s (braced b) = mixed_is w sets s (braced b) (braces_arc a b) _ (λ e. braces_plain b e) (λ e. tt)
+    form_is w sets s (signed t y) =
+        mixed_is w sets s (signed t y) (names_arc a y) _ (λ e. plain y e) (λ e. gives_then (IsTerm w s y) _ (objective a w s y) _ (form_is w sets s y) (λ u h. turned_is w s t y (span_of (signed t y)) u h))
+    form_is w sets s (reduced r b y) =
+        mixed_is w sets s (reduced r b y) (names_arc a (reduced r b y)) _ (λ e. plain (reduced r b y) e) (λ e.
         linear_is (IsTerm w s (reduced r b y)) (span_of (reduced r b y)) (is_sum (reduction r) && not (braces_arc a b)) _ (λ f.
         let (j, k) = both (is_sum (reduction r)) (not (braces_arc a b)) f in
-        gives_then (λ k. AreKeys (E w s) b (map (as_key g (pos 0) w) k.rows)) _ (index w s b) _ (braces_are_sound g (pos 0) w s b (braces_plain b (not_true _ k))) (λ k h.
-        sum_is (span_of (reduced r b y)) w s r b y (is_reduction_sum (reduction r) j) k h (λ q. form_is w q y))))
-    form_is w s (chain n y l) =
-        mixed_is w s (chain n y l) (names_arc a (chain n y l)) _ (λ e. plain (chain n y l) e) (λ e.
+        gives_then (λ k. AreKeys (E w s) b (map (as_key g (pos 0) w) k.rows)) _ (index w s b) _ (braces_are_sound g (pos 0) w sets s b (braces_plain b (not_true _ k))) (λ k h.
+        sum_is (span_of (reduced r b y)) w s r b y (is_reduction_sum (reduction r) j) k h (λ q. form_is w sets q y))))
+    form_is w sets s (chain n y l) =
+        mixed_is w sets s (chain n y l) (names_arc a (chain n y l)) _ (λ e. plain (chain n y l) e) (λ e.
         linear_is (IsTerm w s (chain n y l)) (span_of (chain n y l)) (is_linear a y l) _ (λ f.
-        gives_then (IsTerm w s y) _ (objective a w s y) _ (form_is w s y) (λ u h.
-        gives_as (IsLinked w s l u) (IsTerm w s (chain n y l)) (chained a (span_of (chain n y l)) w s l u) (chain_is w s n y l (not_range a y l f) u h) (linked_is (span_of (chain n y l)) w s l u))))
-    form_is w s (choice i y t z p) =
-        mixed_is w s (choice i y t z p) (names_arc a (choice i y t z p)) _ (λ e. plain (choice i y t z p) e) (λ e.
+        gives_then (IsTerm w s y) _ (objective a w s y) _ (form_is w sets s y) (λ u h.
+        gives_as (IsLinked w s l u) (IsTerm w s (chain n y l)) (chained a (span_of (chain n y l)) w s l u) (chain_is w s n y l (not_range a y l f) u h) (linked_is (span_of (chain n y l)) w sets s l u))))
+    form_is w sets s (choice i y t z p) =
+        mixed_is w sets s (choice i y t z p) (names_arc a (choice i y t z p)) _ (λ e. plain (choice i y t z p) e) (λ e.
         linear_is (IsTerm w s (choice i y t z p)) (span_of (choice i y t z p)) (not (names_arc a y)) _ (λ f.
-        gives_then (λ b. IsValue (E w s) y (Truth b)) _ (condition w s (span_of (choice i y t z p)) y) _ (truth_is_sound g (pos 0) w s y (span_of (choice i y t z p)) (plain y (not_true _ f))) (λ b h.
-        choice_is w s i y t z p b h (form_is w s z) (part_is w s p))))
-    form_is w s (net t u) = mixed_is w s (net t u) false (rejected NotLinear (span_of (net t u))) (λ e. refl) (λ e. tt)
+        gives_then (λ b. IsValue (E w s) y (Truth b)) _ (condition w s (span_of (choice i y t z p)) y) _ (truth_is_sound g (pos 0) w sets s y (span_of (choice i y t z p)) (plain y (not_true _ f))) (λ b h.
+        choice_is w s i y t z p b h (form_is w sets s z) (part_is w sets s p))))
+    form_is w sets s (net t u) = mixed_is w sets s (net t u) false (rejected NotLinear (span_of (net t u))) (λ e. refl) (λ e. tt)
 
-    part_is : (w : World) (s : Scope) (p : Part) → IfOk (otherwise a w s p) (Is (IsElse (E w s) p))
-    part_is w s absent = ap number (form_just x (pos 0))
-    part_is w s (part m y) = gives_as (IsTerm w s y) (Is (IsElse (E w s) (part m y))) (objective a w s y) in_part (form_is w s y)
+    part_is : (w : World) → HasSets w → (s : Scope) (p : Part) → IfOk (otherwise a w s p) (Is (IsElse (E w s) p))
+    part_is w sets s absent = ap number (form_just x (pos 0))
+    part_is w sets s (part m y) = gives_as (IsTerm w s y) (Is (IsElse (E w s) (part m y))) (objective a w s y) in_part (form_is w sets s y)
       where
         in_part : (u : Term) → IsTerm w s y u → Is (IsElse (E w s) (part m y)) u
         in_part None h = tt
         in_part (Some f) h = h
 
-    linked_is : (at : Span) (w : World) (s : Scope) (l : Links) (u : Term) → IfOk (chained a at w s l u) (IsLinked w s l u)
-    linked_is at w s none None = tt
-    linked_is at w s none (Some u) = refl
-    linked_is at w s (link o y l) u = gives_then (IsTerm w s y) _ (objective a w s y) _ (form_is w s y) (λ v h. linked at w s o y l u v h (λ z. linked_is at w s l z))
+    linked_is : (at : Span) (w : World) → HasSets w → (s : Scope) (l : Links) (u : Term) → IfOk (chained a at w s l u) (IsLinked w s l u)
+    linked_is at w sets s none None = tt
+    linked_is at w sets s none (Some u) = refl
+    linked_is at w sets s (link o y l) u = gives_then (IsTerm w s y) _ (objective a w s y) _ (form_is w sets s y) (λ v h. linked at w s o y l u v h (λ z. linked_is at w sets s l z))
 
 pub objectives_are_sound : ObjectivesAreSound
-objectives_are_sound a x g w s t f reads e = go (objective a w s t) (form_is a x g reads w s t) e
+objectives_are_sound a x g w s t f sets reads e = go (objective a w s t) (form_is a x g reads w sets s t) e
   where
     go : (o : Outcome Term) → IfOk o (Is a x g reads (IsValue (env_with g (pos 0) w s) t)) → and_then o (as_form (span_of t)) ≡ Ok f → IsValue (env_with g (pos 0) w s) t (number (form_at x f))
     go (Err r) h i = cc

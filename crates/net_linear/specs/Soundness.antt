@@ -3,6 +3,7 @@ use Rattle.std.specs.Prelude.{◌≡◌, ◌↔◌, ℕ, false, None, Some, Ok, 
 use Rattle.net_fault.specs.declared.span.Span.{Span}
 use Rattle.net_sets.specs.Sets.{Tuple}
 use Rattle.net_tree.specs.Tree.{Tree, Links, chain, net, none, link, Condition, unsaid, one, between}
+use Rattle.net_expr.specs.SetValues.{HasSets}
 use Rattle.net_expr.specs.Worlds.{Name, World, Scope}
 use Rattle.net_meaning.specs.OfTrees.{IsSatisfied, IsValue}
 use Rattle.net_meaning.specs.Laws.{IsArcFree, AreArcFree}
@@ -20,9 +21,9 @@ pub record ReadsArcs (a : Arcs) (numbers : ℕ → ℤ) (g : Name → Option (Tu
   pub others : (n : Name) → is_arc a n ≡ false → g n ≡ None
   pub arcs : (at : Span) (n : Name) (key : Tuple) (i : ℕ) → arc_at at n (declared a n) key ≡ Ok i → (f : Tuple → ℤ) × (g n ≡ Some f) × (f key ≡ numbers i)
 
--- the linear form of an objective, at any numbers of the arcs, is the value of its expression
+-- the linear form of an objective, at any numbers of the arcs, is the value of its expression; the declared sets of the world have to be sets
 abbrev pub ObjectivesAreSound : Type 0
-ObjectivesAreSound = (a : Arcs) (numbers : ℕ → ℤ) (g : Name → Option (Tuple → ℤ)) (w : World) (s : Scope) (t : Tree) (f : Linear) → ReadsArcs a numbers g → objective_form a w s t ≡ Ok f
+ObjectivesAreSound = (a : Arcs) (numbers : ℕ → ℤ) (g : Name → Option (Tuple → ℤ)) (w : World) (s : Scope) (t : Tree) (f : Linear) → HasSets w → ReadsArcs a numbers g → objective_form a w s t ≡ Ok f
     → IsValue (env_with g (pos 0) w s) t (number (form_at numbers f))
 
 -- a side of a condition names no arc, and has `net_in` and `net_out` only as terms of its sum
@@ -45,4 +46,4 @@ IsConditionArcFree g y (between m x o z p u) = IsSideArcFree g y x × IsSideArcF
 
 -- the condition is true of a net inflow exactly when its linear form holds for it
 abbrev pub ConditionsAreSound : Type 0
-ConditionsAreSound = (g : Name → Option (Tuple → ℤ)) (w : World) (s : Scope) (c : Condition) (r : Sides) (y : ℤ) → IsConditionArcFree g y c → sides_in w s c ≡ Ok r → IsSatisfied (env_with g (pos 0) w s) c y ↔ Holds w s c y
+ConditionsAreSound = (g : Name → Option (Tuple → ℤ)) (w : World) (s : Scope) (c : Condition) (r : Sides) (y : ℤ) → HasSets w → IsConditionArcFree g y c → sides_in w s c ≡ Ok r → IsSatisfied (env_with g (pos 0) w s) c y ↔ Holds w s c y

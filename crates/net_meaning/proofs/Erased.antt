@@ -1,5 +1,5 @@
 -- What the code asks of a tree, its abstract syntax says as well.
-use Rattle.std.specs.Prelude.{◌≡◌, ◌&&◌, Bool, true, false, not, List, [], ◌∷◌, map, Option, None, Some, is_some, if◌then◌else◌, option_map}
+use Rattle.std.specs.Prelude.{◌≡◌, ◌+◌, ◌&&◌, Bool, true, false, not, List, [], ◌∷◌, map, Option, None, Some, is_some, if◌then◌else◌, option_map}
 use Rattle.std.proofs.Common.{refl, ap, ◌∙◌, subst}
 use Rattle.net_sets.specs.Sets.{Tuple}
 use Rattle.net_tree.specs.declared.role.Role.{Role}
@@ -14,7 +14,7 @@ use Rattle.net_expr.specs.Items.{text_of, unless_known}
 use Rattle.net_expr.specs.Worlds.{is_known}
 use Rattle.net_meaning.specs.Operators.{Value, Many}
 use Rattle.net_meaning.specs.OfTrees.{begins_range, has_in, new_dummy, AreValues, AreOperandValues, expression_of, phrase_value, IsItemSet}
-use Rattle.net_meaning.specs.Values.{Env, Whether}
+use Rattle.net_meaning.specs.Values.{Env, Whether, size}
 use Rattle.net_meaning.specs.World as world
 use Rattle.net_meaning.proofs.Leaves.{name_is as kind_is}
 
@@ -49,6 +49,10 @@ pub item_set : (i : Tree) (After : List Tuple → Type 0) (Own : Value → Type 
 item_set i After Own ts h = subst (λ b. Whether b (After ts) (Own (Many ts))) (has_in_is i) h
 
 -- ---- operands
+
+pub size_is : (l : Links) → items.size l ≡ size (expressions l)
+size_is none = refl
+size_is (link o x l) = ap (λ n. 1 + n) (size_is l)
 
 pub operand_values : (e : Env) (l : Links) (vs : List Value) → AreValues e l vs → AreOperandValues e l vs
 operand_values e none vs h = h

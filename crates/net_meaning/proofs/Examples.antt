@@ -1,6 +1,7 @@
 -- Worked examples of the definitions. The expected values are worked out by hand from the AMPL book.
-use Rattle.std.specs.Prelude.{ℕ, true, false, List, [], ◌∷◌, Option, None, Some, codes, ℤ, pos, negsuc}
-use Rattle.std.proofs.Common.{refl, subst, inl, arith}
+use Rattle.std.specs.Prelude.{◌≡◌, ℕ, true, false, List, [], ◌∷◌, Option, None, Some, codes, ℤ, pos, negsuc}
+use Rattle.std.specs.List.{AllZip}
+use Rattle.std.proofs.Common.{refl, ap, ◌∙◌, subst, inl, arith}
 use Rattle.std.proofs.lemmas.Int.{ints}
 use lib.IntN.{zero-*ℤ}
 use Rattle.net_lex.specs.Limits.{limits}
@@ -10,6 +11,7 @@ use Rattle.net_lex.specs.Significands.{whole_value}
 use Rattle.net_lex.specs.declared.token.Kind.{Kind}
 use Rattle.net_lex.specs.declared.token.Kind.TheVariants as kinds
 use Rattle.net_lex.specs.declared.token.Token.{Token}
+use Rattle.net_sets.specs.Sets.{Tuple}
 use Rattle.net_sets.specs.declared.member.Member.TheVariants.{Number}
 use Rattle.net_normal.specs.declared.instance.Sense.TheVariants.{Minimise}
 use Rattle.net_tree.specs.declared.operator.BinOp.TheVariants as op
@@ -23,8 +25,9 @@ use Rattle.net_tree.specs.Syntax.{Expression, leaf, tuple, signed, reduced, chai
 use Rattle.net_expr.specs.Numbers.{number_in}
 use Rattle.net_expr.specs.Worlds.{World}
 use Rattle.net_expr.specs.declared.world.Entry.TheVariants.{Set}
-use Rattle.net_meaning.specs.Operators.{Value, Truth, number, IsResult, at_most}
-use Rattle.net_meaning.specs.Values.{Env, Key, env_of, start, bind, a_set, dummy, IsValue, AreKeys, Extends}
+use Rattle.net_meaning.specs.Operators as results
+use Rattle.net_meaning.specs.Operators.{Value, One, Several, Many, Truth, number, IsTuple, IsResult, HaveOneDimension, at_most}
+use Rattle.net_meaning.specs.Values.{Env, Key, env_of, start, bind, a_set, dummy, AreListed, IsValue, AreKeys, Extends}
 use Rattle.net_meaning.specs.Network.{Arc, IsArc, name, IsSatisfied, with_inflow, Objective, Assignment, HasValue}
 use Rattle.net_meaning.proofs.Naming.{numeral_is}
 use Rattle.net_meaning.proofs.Unique.{values_are_unique}
@@ -71,11 +74,11 @@ no_key = None
 
 takes : (m : ℤ) → Extends (start (env_of links [])) to_two (Number m ∷ Number (pos 2) ∷ []) (Some (key_of m))
 unfolding role_of marks keys
-takes m = (Number (pos 2), (pos 2, two_is, refl), refl)
+takes m = (refl, (Number (pos 2), (pos 2, two_is, refl), refl))
 
 passes_over : Extends (start (env_of links [])) to_two (Number (pos 1) ∷ Number (pos 3) ∷ []) None
 unfolding role_of marks keys
-passes_over = (Number (pos 2), (pos 2, two_is, refl), refl)
+passes_over = (refl, (Number (pos 2), (pos 2, two_is, refl), refl))
 
 selects : AreKeys (env_of links []) (filled to_two no_more absent) (key_of (pos 1) ∷ key_of (pos 3) ∷ [])
 unfolding role_of marks keys
@@ -94,8 +97,54 @@ selects = inl (
       refl,
     ),
   ),
+  (1, (refl, (refl, tt))),
   (key_of (pos 3) ∷ [], ([], refl, inl (refl, refl)), inl (refl, refl)),
 )
+
+-- ---- a tuple with another number of components is an error, and is not passed over: (1, 3, 5) and (1) for (i, 2), and (1, 2) for i
+
+too_long : (r : Option Key) → Extends (start (env_of links [])) to_two (Number (pos 1) ∷ Number (pos 3) ∷ Number (pos 5) ∷ []) r → ⊥
+unfolding role_of marks keys
+too_long r h = let long = h.0 in omega arith
+
+too_short : (r : Option Key) → Extends (start (env_of links [])) to_two (Number (pos 1) ∷ []) r → ⊥
+unfolding role_of marks keys
+too_short r h = let long = h.0 in omega arith
+
+no_pair : (r : Option Key) → Extends (start (env_of links [])) (chain (named (codes "i")) (apply op.In (named (codes "LINKS")) none)) (Number (pos 1) ∷ Number (pos 2) ∷ []) r → ⊥
+unfolding role_of marks keys
+no_pair r h = h
+
+-- ---- sets of members and of pairs: {1} and {(1, 2)} have no union, neither is within the other, {1, (1, 2)} lists no set, and 1 is neither in
+-- {(1, 2)} nor not in it
+
+abbrev one : Tuple
+one = Number (pos 1) ∷ []
+
+abbrev pair : Tuple
+pair = Number (pos 1) ∷ Number (pos 2) ∷ []
+
+differ : HaveOneDimension (one ∷ pair ∷ []) → ⊥
+differ (d, (h, (k, end))) = omega (arith, h, k)
+
+no_union : (v : Value) → IsResult op.Union (Many (one ∷ [])) (Many (pair ∷ [])) v → ⊥
+no_union v (results.union xs ys h) = differ h
+
+not_within : (v : Value) → IsResult op.Within (Many (one ∷ [])) (Many (pair ∷ [])) v → ⊥
+not_within v (results.within xs ys h) = differ h
+
+not_in : (v : Value) → IsResult op.In (One (Number (pos 1))) (Many (pair ∷ [])) v → ⊥
+not_in v (results.is_in u t ts (results.one m) h) = differ h
+
+not_listed : (keys : List Key) → AreListed (env_of [] []) (λ u. u ≡ number (pos 1)) (λ us. us ≡ Several pair ∷ []) keys → ⊥
+not_listed keys (u, us, ts, first, more, zip, h, e) =
+    listed ts (subst (λ (z : List Value). AllZip IsTuple z ts) (ap (λ (z : Value). z ∷ us) first ∙ ap (λ (zs : List Value). number (pos 1) ∷ zs) more) zip) h
+  where
+    listed : (ts : List Tuple) → AllZip IsTuple (number (pos 1) ∷ Several pair ∷ []) ts → HaveOneDimension ts → ⊥
+    listed [] z h = z
+    listed (t ∷ []) z h = z.1
+    listed (t ∷ s ∷ r ∷ ts) z h = z.1.1
+    listed (t ∷ s ∷ []) (results.one m, (results.several p, end)) h = differ h
 
 -- ---- an arc with a negative lower bound: arc A >= -5, <= 3, from X, to Y
 
@@ -183,6 +232,7 @@ later_arc_is_no_flow x = (
     inl (
       _,
       (_, a_set 1 _ refl refl, (Some (bind (codes "i") (Number (pos 2)) (start (env_of just_two []))), _, [], refl, refl, refl, refl)),
+      (1, (refl, tt)),
       ([], refl, inl (refl, refl)),
     ),
     (dummy (Number (pos 2)) refl, tt),

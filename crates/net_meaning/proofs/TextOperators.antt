@@ -40,10 +40,10 @@ module _ (P : List ℕ → Type 0) where
 
   pub result_holds : (o : BinOp) (u v x : Value) → ValueHolds P u → ValueHolds P v → IsResult o u v x → ValueHolds P x
   result_holds o u v x h k (make.cross xs ys) = union_holds [] (product xs ys) tt (product_holds xs ys h k)
-  result_holds o u v x h k (make.union xs ys) = union_holds xs ys h k
-  result_holds o u v x h k (make.inter xs ys) = all_filter (TupleHolds P) (has ys) xs h
-  result_holds o u v x h k (make.diff xs ys) = difference_holds xs ys h
-  result_holds o u v x h k (make.symdiff xs ys) = all_append (TupleHolds P) (difference xs ys) (difference ys xs) (difference_holds xs ys h) (difference_holds ys xs k)
+  result_holds o u v x h k (make.union xs ys d) = union_holds xs ys h k
+  result_holds o u v x h k (make.inter xs ys d) = all_filter (TupleHolds P) (has ys) xs h
+  result_holds o u v x h k (make.diff xs ys d) = difference_holds xs ys h
+  result_holds o u v x h k (make.symdiff xs ys d) = all_append (TupleHolds P) (difference xs ys) (difference ys xs) (difference_holds xs ys h) (difference_holds ys xs k)
   result_holds o u v x h k (make.plus a b) = tt
   result_holds o u v x h k (make.minus a b) = tt
   result_holds o u v x h k (make.times a b) = tt
@@ -55,10 +55,10 @@ module _ (P : List ℕ → Type 0) where
   result_holds o u v x h k (make.at_least a b) = tt
   result_holds o u v x h k (make.equal a b) = tt
   result_holds o u v x h k (make.unequal a b) = tt
-  result_holds o u v x h k (make.is_in a t ts i) = tt
-  result_holds o u v x h k (make.is_not_in a t ts i) = tt
-  result_holds o u v x h k (make.within xs ys) = tt
-  result_holds o u v x h k (make.not_within xs ys) = tt
+  result_holds o u v x h k (make.is_in a t ts i d) = tt
+  result_holds o u v x h k (make.is_not_in a t ts i d) = tt
+  result_holds o u v x h k (make.within xs ys d) = tt
+  result_holds o u v x h k (make.not_within xs ys d) = tt
   result_holds o u v x h k (make.and_both b) = tt
   result_holds o u v x h k (make.or_other b) = tt
 

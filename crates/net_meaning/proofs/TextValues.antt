@@ -83,9 +83,10 @@ module _ (P : List ℕ → Type 0) where
   matched_holds k None Own m Rest r h i f (u, own, is) = whether (same_member u m) (Rest k r) (r ≡ None) (OfSome (KeyHolds P) r) (f k h) (none_holds r) is
 
   matched_whole_holds : (k : Key) (o : Option Name) (Own : Value → Type 0) (t : Tuple) (r : Option Key) → KeyHolds P k → TupleHolds P t → MatchesWhole k o Own t r → OfSome (KeyHolds P) r
-  matched_whole_holds k (Some n) Own [] r h i is = some_holds r k h is
-  matched_whole_holds k (Some n) Own (m ∷ ms) r h i is = some_holds r (bind n m k) (bind_holds n m k i.0 h) is
-  matched_whole_holds k None Own t r h i (v, u, own, same, is) =
+  matched_whole_holds k (Some n) Own [] r h i is = absurd is
+  matched_whole_holds k (Some n) Own (m ∷ o ∷ ms) r h i is = absurd is
+  matched_whole_holds k (Some n) Own (m ∷ []) r h i is = some_holds r (bind n m k) (bind_holds n m k i.0 h) is
+  matched_whole_holds k None Own t r h i (v, u, own, same, long, is) =
       whether (same_tuple u t) (r ≡ Some k) (r ≡ None) (OfSome (KeyHolds P) r) (some_holds r k h) (none_holds r) is
 
   filtered_hold : (Test : Key → Bool → Type 0) (ks left : List Key) → KeysHold P ks → Filters Test ks left → KeysHold P left
@@ -121,7 +122,7 @@ module _ (P : List ℕ → Type 0) where
 
   listed_hold : (e : Env) (First : Value → Type 0) (More : List Value → Type 0) → EnvHolds P e → ((u : Value) → First u → ValueHolds P u) → ((us : List Value) → More us → ValuesHold P us) → (ks : List Key)
       → AreListed e First More ks → KeysHold P ks
-  listed_hold e First More h f g ks (u, us, ts, i, j, z, is) =
+  listed_hold e First More h f g ks (u, us, ts, i, j, z, d, is) =
       subst (KeysHold P) (sym is) (keyed_hold e (union [] ts) h (union_holds P [] ts tt (tuples_hold P (u ∷ us) ts (f u i, g us j) z)))
 
   pub of_keys : (ks : List Key) → KeysHold P ks → TuplesHold P (map (λ (k : Key). k.key) ks)
@@ -131,15 +132,16 @@ module _ (P : List ℕ → Type 0) where
   -- ---- items
 
   all_agree_hold : (k : Key) (l : Expressions) (ms : Tuple) (r : Option Key) → KeyHolds P k → TupleHolds P ms → AllAgree k l ms r → OfSome (KeyHolds P) r
-  all_agree_hold k no_more ms r h j is = some_holds r k h is
-  all_agree_hold k (more x l) [] r h j is = some_holds r k h is
+  all_agree_hold k no_more [] r h j is = some_holds r k h is
+  all_agree_hold k no_more (m ∷ ms) r h j is = absurd is
+  all_agree_hold k (more x l) [] r h j is = absurd is
   all_agree_hold k (more x l) (m ∷ ms) r h j is =
       matched_holds k (new_dummy k.env x) (IsValue k.env x) m (λ q. AllAgree q l ms) r h j.0 (λ q a b. all_agree_hold q l ms r a j.1 b) is
 
   agrees_holds : (k : Key) (x : Expression) (Own : Value → Type 0) (t : Tuple) (r : Option Key) → KeyHolds P k → TupleHolds P t → Agrees k x Own t r → OfSome (KeyHolds P) r
-  agrees_holds k (tuple x l) Own [] r h j is = some_holds r k h is
+  agrees_holds k (tuple x l) Own [] r h j is = absurd is
   agrees_holds k (tuple x l) Own (m ∷ ms) r h j is =
-      matched_holds k (new_dummy k.env x) (IsValue k.env x) m (λ q. AllAgree q l ms) r h j.0 (λ q a b. all_agree_hold q l ms r a j.1 b) is
+      matched_holds k (new_dummy k.env x) (IsValue k.env x) m (λ q. AllAgree q l ms) r h j.0 (λ q a b. all_agree_hold q l ms r a j.1 b) is.1
   agrees_holds k x Own t r h j is = matched_whole_holds k (new_dummy k.env x) Own t r h j is
 
   extends_holds : (k : Key) (i : Expression) (t : Tuple) (r : Option Key) → KeyHolds P k → TupleHolds P t → Extends k i t r → OfSome (KeyHolds P) r
@@ -191,7 +193,7 @@ module _ (P : List ℕ → Type 0) where
 
     pub keys_hold : (e : Env) (b : Braces) (ks : List Key) → EnvHolds P e → BracesHold P b → AreKeys e b ks → KeysHold P ks
     keys_hold e (empty p) ks h k is = subst (KeysHold P) (sym is.0) tt
-    keys_hold e (filled i is p) ks h k (inl (all, f, left)) =
+    keys_hold e (filled i is p) ks h k (inl (all, f, d, left)) =
         filtered_hold (HasTruth p) all ks (item_holds (IsItemSet i (IsSetAfterIn e i) (IsValue e i)) (Extends (start e) i) (λ q. Iterates q is) (λ ts s. item_set_holds i (IsSetAfterIn e i) (IsValue e i) ts (after_holds e i ts h k.0) (value_holds e i (Many ts) h k.0) s)
         (λ t r a b. extends_holds (start e) i t r (tt, h) a b) (λ q qs a b. iterated_hold q is qs a k.1 b) all f) left
     keys_hold e (filled i is p) ks h k (inr (l, a)) = listed_hold e (IsValue e i) (AreValues e is) h (λ u j. value_holds e i u h k.0 j) (λ us j. values_hold e is us h k.1 j) ks l

@@ -48,15 +48,15 @@ makes_unique f x y u v (make.greater a b) (make.greater c d) = refl
 makes_unique f x y u v (make.at_least a b) (make.at_least c d) = refl
 makes_unique f x y u v (make.equal a b) (make.equal c d) = refl
 makes_unique f x y u v (make.unequal a b) (make.unequal c d) = refl
-makes_unique f x y u v (make.is_in z t ts h) (make.is_in a s ss i) = ap (λ r. Truth (has ts r)) (tuple_unique z t s h i)
-makes_unique f x y u v (make.is_not_in z t ts h) (make.is_not_in a s ss i) = ap (λ r. Truth (not (has ts r))) (tuple_unique z t s h i)
-makes_unique f x y u v (make.within a b) (make.within c d) = refl
-makes_unique f x y u v (make.not_within a b) (make.not_within c d) = refl
+makes_unique f x y u v (make.is_in z t ts h j) (make.is_in a s ss i k) = ap (λ r. Truth (has ts r)) (tuple_unique z t s h i)
+makes_unique f x y u v (make.is_not_in z t ts h j) (make.is_not_in a s ss i k) = ap (λ r. Truth (not (has ts r))) (tuple_unique z t s h i)
+makes_unique f x y u v (make.within a b h) (make.within c d i) = refl
+makes_unique f x y u v (make.not_within a b h) (make.not_within c d i) = refl
 makes_unique f x y u v (make.cross a b) (make.cross c d) = refl
-makes_unique f x y u v (make.union a b) (make.union c d) = refl
-makes_unique f x y u v (make.inter a b) (make.inter c d) = refl
-makes_unique f x y u v (make.diff a b) (make.diff c d) = refl
-makes_unique f x y u v (make.symdiff a b) (make.symdiff c d) = refl
+makes_unique f x y u v (make.union a b h) (make.union c d i) = refl
+makes_unique f x y u v (make.inter a b h) (make.inter c d i) = refl
+makes_unique f x y u v (make.diff a b h) (make.diff c d i) = refl
+makes_unique f x y u v (make.symdiff a b h) (make.symdiff c d i) = refl
 makes_unique f x y u v (make.and_both a) (make.and_both b) = refl
 makes_unique f x y u v (make.or_other a) (make.or_other b) = refl
 
@@ -177,9 +177,10 @@ meets_unique k None Own m Rest h i r s (u, a, p) (v, b, q) =
     alone_whether (same_member u m) (Rest k) (λ z. z ≡ None) (i k) (λ x y e f. e ∙ sym f) r s p (subst (λ z. Whether (same_member z m) (Rest k s) (s ≡ None)) same q)
 
 meets_whole_unique : (k : Key) (o : Option Name) (Own : Value → Type 0) (t : Tuple) → Unique Own → Unique (MatchesWhole k o Own t)
-meets_whole_unique k (Some n) Own [] h r s p q = p ∙ sym q
-meets_whole_unique k (Some n) Own (m ∷ ms) h r s p q = p ∙ sym q
-meets_whole_unique k None Own t h r s (u, x, a, i, p) (v, y, b, j, q) =
+meets_whole_unique k (Some n) Own [] h r s p q = absurd p
+meets_whole_unique k (Some n) Own (m ∷ []) h r s p q = p ∙ sym q
+meets_whole_unique k (Some n) Own (m ∷ l ∷ ms) h r s p q = absurd p
+meets_whole_unique k None Own t h r s (u, x, a, i, l, p) (v, y, b, j, m, q) =
     let same : v ≡ u = h v u b a in
     let tuples : y ≡ x = tuple_unique u y x (subst (λ z. IsTuple z y) same j) i in
     alone_whether (same_tuple x t) (λ z. z ≡ Some k) (λ z. z ≡ None) (λ x y e f. e ∙ sym f) (λ x y e f. e ∙ sym f) r s p (subst (λ z. Whether (same_tuple z t) (s ≡ Some k) (s ≡ None)) tuples q)
@@ -211,10 +212,10 @@ set_unique : (i : Expression) (After : List Tuple → Type 0) (Own : Value → T
 set_unique i After Own h k x y p q = alone_whether (has_in i) After (λ ts. Own (Many ts)) h (λ ts us a b. many_same ts us (k (Many ts) (Many us) a b)) x y p q
 
 listed_unique : (e : Env) (First : Value → Type 0) (More : List Value → Type 0) → Unique First → Unique More → Unique (AreListed e First More)
-listed_unique e First More h k x y (a, az, ts, p, q, z, f) (b, bs, us, r, s, w, g) =
+listed_unique e First More h k x y (a, az, ts, p, q, z, d, f) (b, bs, us, r, s, w, c, g) =
     let one : b ≡ a = h b a r p in
     let two : bs ≡ az = k bs az s q in
-    let same : ts ≡ us = zip_unique IsTuple tuple_unique (a ∷ az) ts us z (subst (λ c. AllZip IsTuple (a ∷ c) us) two (subst (λ c. AllZip IsTuple (c ∷ bs) us) one w)) in
+    let same : ts ≡ us = zip_unique IsTuple tuple_unique (a ∷ az) ts us z (subst (λ n. AllZip IsTuple (a ∷ n) us) two (subst (λ n. AllZip IsTuple (n ∷ bs) us) one w)) in
     f ∙ ap (λ l. map (λ t. record { key = t; env = e }) (union [] l)) same ∙ sym g
 
 -- braces list members and tuples, or are walked
@@ -233,7 +234,7 @@ membership_is_truth x Right v (inl (d, e)) = elim d [ ]
 membership_is_truth x Right v (inr (z, r, m)) = by_making x z v m
   where
     by_making : (x z v : Value) → IsResult op.In x z v → (b : Bool) × (v ≡ Truth b)
-    by_making x z v (make.is_in a t ts h) = (_, refl)
+    by_making x z v (make.is_in a t ts h i) = (_, refl)
 
 -- an item with `in` is a truth where it is evaluated
 in_is_no_tuple : (e : Env) (x : Value) (o : _) (y : Expression) (u : Value) (t : Tuple) → o ≡ op.In → Whether (is_range o) (HasRange (AreOperandValues e (apply o y none)) x u) (IsChain e x (apply o y none) u) → IsTuple u t → ⊥
@@ -256,12 +257,12 @@ walked_or_listed e i alone ts s u us (t ∷ vs) h z = item_is_no_tuple e i alone
 
 filled_unique : (e : Env) (i : Expression) (is : Expressions) (p : Clause) → Unique (IsValue e i) → Unique (IsSetAfterIn e i) → ((k : Key) (t : Tuple) → Unique (Extends k i t)) → ((k : Key) → Unique (Iterates k is))
     → Unique (AreValues e is) → ((k : Key) → Unique (HasTruth p k)) → Unique (AreKeys e (filled i is p))
-filled_unique e i is p value set leads walks values tested x y (inl (all, f, k)) (inl (others, g, l)) =
+filled_unique e i is p value set leads walks values tested x y (inl (all, f, d, k)) (inl (others, g, c, l)) =
     let same : others ≡ all = item_unique (IsItemSet i (IsSetAfterIn e i) (IsValue e i)) (Extends (start e) i) (λ z. Iterates z is) (set_unique i (IsSetAfterIn e i) (IsValue e i) set value) (λ t. leads (start e) t) walks others all g f in
     keeps_unique (HasTruth p) tested all x y k (subst (λ z. Filters (HasTruth p) z y) same l)
 filled_unique e i is p value set leads walks values tested x y (inr (f, a)) (inr (g, b)) = listed_unique e (IsValue e i) (AreValues e is) value values x y f g
-filled_unique e i is p value set leads walks values tested x y (inl (all, (ts, s, f), k)) (inr ((u, us, vs, h, g, z, l), b)) = absurd (walked_or_listed e i value ts s u us vs h z)
-filled_unique e i is p value set leads walks values tested x y (inr ((u, us, vs, h, g, z, l), b)) (inl (all, (ts, s, f), k)) = absurd (walked_or_listed e i value ts s u us vs h z)
+filled_unique e i is p value set leads walks values tested x y (inl (all, (ts, s, f), d, k)) (inr ((u, us, vs, h, g, z, c, l), b)) = absurd (walked_or_listed e i value ts s u us vs h z)
+filled_unique e i is p value set leads walks values tested x y (inr ((u, us, vs, h, g, z, c, l), b)) (inl (all, (ts, s, f), d, k)) = absurd (walked_or_listed e i value ts s u us vs h z)
 
 mutual
   value_unique : (e : Env) (t : Expression) → Unique (IsValue e t)
@@ -329,14 +330,15 @@ mutual
   leads_unique k _ t r s p q = p ∙ sym q
 
   agrees_unique : (k : Key) (x : Expression) (t : Tuple) → Unique (IsValue k.env x) → Unique (Agrees k x (IsValue k.env x) t)
-  agrees_unique k (tuple x l) [] h r s p q = p ∙ sym q
+  agrees_unique k (tuple x l) [] h r s p q = absurd p
   agrees_unique k (tuple x l) (m ∷ ms) h r s p q =
-      meets_unique k (new_dummy k.env x) (IsValue k.env x) m (λ z. AllAgree z l ms) (value_unique k.env x) (λ z. all_agree_unique z l ms) r s p q
+      meets_unique k (new_dummy k.env x) (IsValue k.env x) m (λ z. AllAgree z l ms) (value_unique k.env x) (λ z. all_agree_unique z l ms) r s p.1 q.1
   agrees_unique k x t h r s p q = meets_whole_unique k (new_dummy k.env x) (IsValue k.env x) t h r s p q
 
   all_agree_unique : (k : Key) (l : Expressions) (ms : Tuple) → Unique (AllAgree k l ms)
-  all_agree_unique k no_more ms r s p q = p ∙ sym q
-  all_agree_unique k (more x l) [] r s p q = p ∙ sym q
+  all_agree_unique k no_more [] r s p q = p ∙ sym q
+  all_agree_unique k no_more (m ∷ ms) r s p q = absurd p
+  all_agree_unique k (more x l) [] r s p q = absurd p
   all_agree_unique k (more x l) (m ∷ ms) r s p q =
       meets_unique k (new_dummy k.env x) (IsValue k.env x) m (λ z. AllAgree z l ms) (value_unique k.env x) (λ z. all_agree_unique z l ms) r s p q
 

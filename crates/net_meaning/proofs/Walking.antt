@@ -1,7 +1,8 @@
 -- The keys that walks find are those to which items lead.
 use Rattle.std.specs.Prelude.{◌≡◌, ◌+◌, ℕ, Bool, true, false, List, [], ◌∷◌, ◌++◌, map, length, nat_eq, nat_le, nat_lt, Option, None, Some, if◌then◌else◌, ℤ, IfOk, ⊤}
-use Rattle.std.specs.List.{AllZip}
-use Rattle.std.proofs.Common.{refl, ap, sym, ◌∙◌, subst, inl, inr, append_assoc, append-nil}
+use Rattle.std.specs.List.{AllByRecursion, AllZip}
+use Rattle.std.proofs.Common.{refl, ap, sym, ◌∙◌, subst, inl, inr, append_assoc, append-nil, arith}
+use Rattle.std.proofs.lemmas.Bool.{eqb-true}
 use Rattle.std.proofs.lemmas.List.{map-append}
 use Rattle.net_fault.specs.declared.span.Span.{Span}
 use Rattle.net_fault.specs.Outcomes.{Outcome, and_then, each}
@@ -9,16 +10,19 @@ use Rattle.net_sets.specs.declared.member.Member.{Member}
 use Rattle.net_sets.specs.Limits.{arity_limit, tuples_limit}
 use Rattle.net_sets.specs.Operations.{union}
 use Rattle.net_sets.specs.Sets.{Tuple, same_member, same_tuple}
+use Rattle.net_tree.specs.Tree.{Tree, leaf}
 use Rattle.net_expr.specs.declared.row.Place.{Place}
 use Rattle.net_expr.specs.declared.row.Row.{Row}
 use Rattle.net_expr.specs.declared.row.Keys.{Keys}
 use Rattle.net_expr.specs.declared.value.Value.{Value as Found}
 use Rattle.net_expr.specs.declared.value.Value.TheVariants as found
+use Rattle.net_expr.specs.Items.{needed, new_dummy}
 use Rattle.net_expr.specs.Operators.{longer}
 use Rattle.net_expr.specs.Rows.{bind, matches_member, matches_tuple, matches_as_tuple, match_component, match_whole, if_fits, go_on, onward, same_arity, finished_key, keep, filter_rows, width_of, selected, as_set, keys_of, rows_of, tuple_in, tuples_in, all_of, listed_as, listed}
 use Rattle.net_expr.specs.Worlds.{Name, World, Scope}
+use Rattle.net_expr.proofs.Distinct.{IsLong}
 use Rattle.net_meaning.specs.Laws.{meaning_of}
-use Rattle.net_meaning.specs.Operators.{Value, One, Several, Many, IsTuple}
+use Rattle.net_meaning.specs.Operators.{Value, One, Several, Many, IsTuple, HaveOneDimension}
 use Rattle.net_meaning.specs.Operators as meaning
 use Rattle.net_meaning.specs.Values.{env_with, Key, Whether, Filters, Continues, FromEach, Matches, MatchesWhole}
 use Rattle.net_meaning.proofs.Giving.{gives_then, gives_any, gives_if, gives_as}
@@ -79,19 +83,33 @@ module _ (af : Name → Option (Tuple → ℤ)) (yf : ℤ) (w : World) where
       go u g true e = gives_as _ _ (next p) (fitting u g e) (rest p k c)
       go u g false e = (u, g, subst (λ b. Whether b (Rest (key_at p.scope k) None) (no_key ≡ None)) (sym e) refl)
 
-  -- what stands alone
-  pub meets_whole : (at : Span) (o : Option Name) (own : Outcome Found) (Own : Value → Type 0) (t : Tuple) (p : Place) (k : Tuple) → Cuts p.key k → IfOk own (λ v. Own (meaning_of v))
-      → IfOk (match_whole at o own t p) (PlaceIs (MatchesWhole (key_at p.scope k) o Own t))
-  meets_whole at (Some name) own Own [] p k c h = (k, c, refl)
-  meets_whole at (Some name) own Own (m ∷ ms) p k c h = (k ++ m ∷ [], cut_longer (m ∷ []) p.key k c, refl)
-  meets_whole at None own Own t p k c h = gives_then (λ v. Own (meaning_of v)) _ own (matches_as_tuple at t p) h whole
+  -- a new dummy index alone takes a tuple of one component
+  abbrev pub FitsAlone : Option Name → Tuple → Type 0
+  FitsAlone None t = ⊤
+  FitsAlone (Some n) t = length t ≡ 1
+
+  pub fits_alone : (s : Scope) (x : Tree) (t : Tuple) → IsLong (needed x) t → FitsAlone (new_dummy w s x) t
+  fits_alone s (leaf k) t h = go (new_dummy w s (leaf k))
     where
-      result : (v : Found) (u : Tuple) → Own (meaning_of v) → IsTuple (meaning_of v) u → (b : Bool) → same_tuple u t ≡ b → PlaceIs (MatchesWhole (key_at p.scope k) None Own t) (if b then Some p else None)
-      result v u g i true e = (k, c, (meaning_of v, u, g, i, subst (λ b. Whether b (Some (key_at p.scope k) ≡ Some (key_at p.scope k)) (Some (key_at p.scope k) ≡ None)) (sym e) refl))
-      result v u g i false e = (meaning_of v, u, g, i, subst (λ b. Whether b (no_key ≡ Some (key_at p.scope k)) (no_key ≡ None)) (sym e) refl)
+      go : (o : Option Name) → FitsAlone o t
+      go None = tt
+      go (Some n) = h
+  fits_alone s _ t h = tt
+
+  -- what stands alone
+  pub meets_whole : (at : Span) (o : Option Name) (own : Outcome Found) (Own : Value → Type 0) (t : Tuple) (p : Place) (k : Tuple) → FitsAlone o t → Cuts p.key k → IfOk own (λ v. Own (meaning_of v))
+      → IfOk (match_whole at o own t p) (PlaceIs (MatchesWhole (key_at p.scope k) o Own t))
+  meets_whole at (Some name) own Own [] p k f c h = absurd (let l = f in omega arith)
+  meets_whole at (Some name) own Own (m ∷ []) p k f c h = (k ++ m ∷ [], cut_longer (m ∷ []) p.key k c, refl)
+  meets_whole at (Some name) own Own (m ∷ n ∷ ms) p k f c h = absurd (let l = f in omega arith)
+  meets_whole at None own Own t p k f c h = gives_then (λ v. Own (meaning_of v)) _ own (matches_as_tuple at t p) h whole
+    where
+      result : (v : Found) (u : Tuple) → Own (meaning_of v) → IsTuple (meaning_of v) u → length u ≡ length t → (b : Bool) → same_tuple u t ≡ b → PlaceIs (MatchesWhole (key_at p.scope k) None Own t) (if b then Some p else None)
+      result v u g i l true e = (k, c, (meaning_of v, u, g, i, l, subst (λ b. Whether b (Some (key_at p.scope k) ≡ Some (key_at p.scope k)) (Some (key_at p.scope k) ≡ None)) (sym e) refl))
+      result v u g i l false e = (meaning_of v, u, g, i, l, subst (λ b. Whether b (no_key ≡ Some (key_at p.scope k)) (no_key ≡ None)) (sym e) refl)
 
       tuple : (v : Found) (u : Tuple) → Own (meaning_of v) → IsTuple (meaning_of v) u → IfOk (matches_tuple at t p u) (PlaceIs (MatchesWhole (key_at p.scope k) None Own t))
-      tuple v u g i = gives_if _ (nat_eq (length u) (length t)) _ _ (λ e. result v u g i (same_tuple u t) refl) (λ e. tt)
+      tuple v u g i = gives_if _ (nat_eq (length u) (length t)) _ _ (λ e. result v u g i (eqb-true (length u) (length t) e) (same_tuple u t) refl) (λ e. tt)
 
       whole : (v : Found) → Own (meaning_of v) → IfOk (matches_as_tuple at t p v) (PlaceIs (MatchesWhole (key_at p.scope k) None Own t))
       whole (found.One m) g = tuple (found.One m) (m ∷ []) g (meaning.one m)
@@ -111,16 +129,16 @@ module _ (af : Name → Option (Tuple → ℤ)) (yf : ℤ) (w : World) where
   goes_on Next next h R found None r = ([], sym (append-nil found), (None, r, refl))
   goes_on Next next h R found (Some q) (k, c, r) = gives_as _ _ (next q found) (λ rows (new, e, n). (new, e, (Some (key_at q.scope k), r, n))) (h q k c found)
 
-  pub from_each : (Place' : Tuple → Option Key → Type 0) (place : Tuple → Place → Outcome (Option Place)) (Next : Key → List Key → Type 0) (next : Place → List Row → Outcome (List Row)) (p : Place)
-      → ((t : Tuple) → IfOk (place t p) (PlaceIs (Place' t))) → Walked Next next → (ts : List Tuple) (found : List Row) → IfOk (each (onward place next p) ts found) (Adds (FromEach Place' Next ts) found)
-  from_each Place' place Next next p h k [] found = ([], sym (append-nil found), refl)
-  from_each Place' place Next next p h k (t ∷ ts) found =
+  pub from_each : (Long : Tuple → Type 0) (Place' : Tuple → Option Key → Type 0) (place : Tuple → Place → Outcome (Option Place)) (Next : Key → List Key → Type 0) (next : Place → List Row → Outcome (List Row)) (p : Place)
+      → ((t : Tuple) → Long t → IfOk (place t p) (PlaceIs (Place' t))) → Walked Next next → (ts : List Tuple) (found : List Row) → AllByRecursion Long ts → IfOk (each (onward place next p) ts found) (Adds (FromEach Place' Next ts) found)
+  from_each Long Place' place Next next p h k [] found l = ([], sym (append-nil found), refl)
+  from_each Long Place' place Next next p h k (t ∷ ts) found long =
       gives_then (Adds (λ keys. (r : Option Key) × Place' t r × Continues Next r keys) found) _ (onward place next p t found) _
-      (gives_then (PlaceIs (Place' t)) _ (place t p) (go_on next found) (h t) (goes_on Next next k (Place' t) found))
+      (gives_then (PlaceIs (Place' t)) _ (place t p) (go_on next found) (h t long.0) (goes_on Next next k (Place' t) found))
       (λ mid (new, e, (r, i, j)).
       gives_as _ _ (each (onward place next p) ts mid) (λ rows (more, f, l).
       (new ++ more, f ∙ ap (λ (z : List Row). z ++ more) e ∙ append_assoc found new more, (r, map as_key new, map as_key more, i, j, l, map-append as_key new more)))
-      (from_each Place' place Next next p h k ts mid))
+      (from_each Long Place' place Next next p h k ts mid long.1))
 
   pub row_is : (at : Span) (s : Scope) (o : Option Tuple) (k : Tuple) → Cuts o k → (found : List Row) → IfOk (finished_key at s o found) (Adds (λ keys. keys ≡ key_at s k ∷ []) found)
   row_is at s None k c found = tt
@@ -158,18 +176,26 @@ module _ (af : Name → Option (Tuple → ℤ)) (yf : ℤ) (w : World) where
   rows_are s [] = refl
   rows_are s (t ∷ ts) = ap (λ (z : List Key). key_at s t ∷ z) (rows_are s ts)
 
-  listed_as_is : (at : Span) (s : Scope) (ts : List Tuple) → IfOk (listed_as at s ts (union [] ts)) (λ k. map as_key k.rows ≡ map (λ t. key_at s t) (union [] ts))
-  listed_as_is at s [] = refl
-  listed_as_is at s (t ∷ ts) =
-      gives_if _ (all_of (length t) ts) _ _ (λ e. gives_if _ (nat_le (length (union [] (t ∷ ts))) tuples_limit) _ _ (λ f. rows_are s (union [] (t ∷ ts))) (λ f. tt)) (λ e. tt)
+  all_long : (n : ℕ) (ts : List Tuple) → all_of n ts ≡ true → AllByRecursion (λ t. length t ≡ n) ts
+  all_long n [] e = tt
+  all_long n (u ∷ us) e = step (nat_eq (length u) n) refl e (all_long n us)
+    where
+      step : (b : Bool) → nat_eq (length u) n ≡ b → (if b then all_of n us else false) ≡ true → (all_of n us ≡ true → AllByRecursion (λ t. length t ≡ n) us) → AllByRecursion (λ t. length t ≡ n) (u ∷ us)
+      step true i j more = (eqb-true (length u) n i, more j)
+      step false i j more = cc
 
-  pub listed_is : (at : Span) (s : Scope) (conditioned : Bool) (vs : List Found) → IfOk (listed at s conditioned vs) (λ k. (conditioned ≡ false) × (ts : List Tuple) × AllZip IsTuple (map meaning_of vs) ts × (map as_key k.rows ≡ map (λ t. key_at s t) (union [] ts)))
+  listed_as_is : (at : Span) (s : Scope) (ts : List Tuple) → IfOk (listed_as at s ts (union [] ts)) (λ k. HaveOneDimension ts × (map as_key k.rows ≡ map (λ t. key_at s t) (union [] ts)))
+  listed_as_is at s [] = ((0, tt), refl)
+  listed_as_is at s (t ∷ ts) =
+      gives_if _ (all_of (length t) ts) _ _ (λ e. gives_if _ (nat_le (length (union [] (t ∷ ts))) tuples_limit) _ _ (λ f. ((length t, (refl, all_long (length t) ts e)), rows_are s (union [] (t ∷ ts)))) (λ f. tt)) (λ e. tt)
+
+  pub listed_is : (at : Span) (s : Scope) (conditioned : Bool) (vs : List Found) → IfOk (listed at s conditioned vs) (λ k. (conditioned ≡ false) × (ts : List Tuple) × AllZip IsTuple (map meaning_of vs) ts × HaveOneDimension ts × (map as_key k.rows ≡ map (λ t. key_at s t) (union [] ts)))
   listed_is at s true vs = tt
   listed_is at s false vs =
       gives_then _ _ (tuples_in at vs []) _ (tuples_in_are at vs []) (λ ts (new, e, all).
-      gives_as _ _ (listed_as at s ts (union [] ts)) (λ k f. (refl, ts, subst (AllZip IsTuple (map meaning_of vs)) (sym e) all, f)) (listed_as_is at s ts))
+      gives_as _ _ (listed_as at s ts (union [] ts)) (λ k f. (refl, ts, subst (AllZip IsTuple (map meaning_of vs)) (sym e) all, f.0, f.1)) (listed_as_is at s ts))
 
-  keys_are : (rows : List Row) → map (λ k. k.key) (map as_key rows) ≡ keys_of rows
+  pub keys_are : (rows : List Row) → map (λ k. k.key) (map as_key rows) ≡ keys_of rows
   keys_are [] = refl
   keys_are (r ∷ rows) = ap (λ (z : List Tuple). r.key ∷ z) (keys_are rows)
 

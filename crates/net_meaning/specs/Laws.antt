@@ -9,6 +9,7 @@ use Rattle.net_expr.specs.declared.row.Keys.{Keys}
 use Rattle.net_expr.specs.declared.row.Row.{Row}
 use Rattle.net_expr.specs.declared.value.Value.{Value as Found}
 use Rattle.net_expr.specs.declared.value.Value.TheVariants as found
+use Rattle.net_expr.specs.SetValues.{HasSets}
 use Rattle.net_expr.specs.Values.{value, index}
 use Rattle.net_expr.specs.Worlds.{Name, World, Scope}
 use Rattle.net_meaning.specs.Operators.{Value, One, Several, Many, Truth}
@@ -19,7 +20,7 @@ use Rattle.net_meaning.specs.Values as values
 use Rattle.net_meaning.specs.Values.{Env, Key, env_with, env_of}
 use Rattle.net_meaning.specs.World.{IsWorld}
 
--- the value of the evaluator as a value of these definitions, which have no dimensions
+-- the value of the evaluator as a value of these definitions, in which a set is its list of tuples, without a dimension
 abbrev pub meaning_of : Found → Value
 meaning_of (found.One m) = One m
 meaning_of (found.Several t) = Several t
@@ -55,15 +56,15 @@ abbrev mutual
 
 -- the same in an environment with arcs and a net inflow, for an expression that names neither
 abbrev pub EvaluationIsSoundWith : Type 0
-EvaluationIsSoundWith = (arcs : Name → Option (Tuple → ℤ)) (y : ℤ) (w : World) (s : Scope) (t : Tree) (v : Found) → IsArcFree arcs y t → value w s t ≡ Ok v → IsValue (env_with arcs y w s) t (meaning_of v)
+EvaluationIsSoundWith = (arcs : Name → Option (Tuple → ℤ)) (y : ℤ) (w : World) (s : Scope) (t : Tree) (v : Found) → HasSets w → IsArcFree arcs y t → value w s t ≡ Ok v → IsValue (env_with arcs y w s) t (meaning_of v)
 
--- if the evaluator computes a value of an expression, the expression has this value
+-- if the evaluator computes a value of an expression, the expression has this value; the declared sets of the world have to be sets
 abbrev pub EvaluationIsSound : Type 0
-EvaluationIsSound = (w : World) (s : Scope) (t : Tree) (v : Found) → value w s t ≡ Ok v → IsValue (env_of w s) t (meaning_of v)
+EvaluationIsSound = (w : World) (s : Scope) (t : Tree) (v : Found) → HasSets w → value w s t ≡ Ok v → IsValue (env_of w s) t (meaning_of v)
 
 -- if the evaluator computes the keys of an indexing expression, these are its keys
 abbrev pub KeysAreSound : Type 0
-KeysAreSound = (w : World) (s : Scope) (b : Braces) (k : Keys) → index w s b ≡ Ok k → AreKeys (env_of w s) b (map (λ (r : Row). record { key = r.key; env = env_of w r.scope }) k.rows)
+KeysAreSound = (w : World) (s : Scope) (b : Braces) (k : Keys) → HasSets w → index w s b ≡ Ok k → AreKeys (env_of w s) b (map (λ (r : Row). record { key = r.key; env = env_of w r.scope }) k.rows)
 
 -- an expression has at most one value
 abbrev pub ValuesAreUnique : Type 0

@@ -1,5 +1,5 @@
 -- Values, and the results of operators. An operation that is an error, such as a division by zero, has no result.
-use Rattle.std.specs.Prelude.{◌≡◌, ◌⊎◌, ◌↔◌, ◌<◌, ◌/◌, ◌%◌, ℕ, Bool, true, false, not, List, [], ◌∷◌, ℤ, pos, ◌+ℤ◌, ◌-ℤ◌, ◌*ℤ◌, ◌≤ℤ◌, int_lt, int_le}
+use Rattle.std.specs.Prelude.{◌≡◌, ◌⊎◌, ◌↔◌, ◌<◌, ◌/◌, ◌%◌, ℕ, Bool, true, false, not, List, [], ◌∷◌, ◌++◌, length, ℤ, pos, ◌+ℤ◌, ◌-ℤ◌, ◌*ℤ◌, ◌≤ℤ◌, int_lt, int_le}
 use Rattle.std.specs.List.{AllByRecursion}
 use Rattle.net_sets.specs.declared.member.Member.{Member}
 use Rattle.net_sets.specs.declared.member.Member.TheVariants as member
@@ -28,7 +28,12 @@ pub data IsTuple : Value → Tuple → Type 0 where
   one : (m : Member) → IsTuple (One m) (m ∷ [])
   several : (t : Tuple) → IsTuple (Several t) t
 
--- `IsResult o u v x`: the operator o applied to u and v gives x
+-- the tuples all have the same number of components
+abbrev pub HaveOneDimension : List Tuple → Type 0
+HaveOneDimension ts = (d : ℕ) × AllByRecursion (λ t. length t ≡ d) ts
+
+-- `IsResult o u v x`: the operator o applied to u and v gives x. Operators on sets, except `cross`, have a result only if the tuples of both
+-- operands have the same number of components. The empty set fits every operand.
 pub data IsResult : BinOp → Value → Value → Value → Type 0 where
   plus : (a b : ℤ) → IsResult op.Plus (number a) (number b) (number (a +ℤ b))
   minus : (a b : ℤ) → IsResult op.Minus (number a) (number b) (number (a -ℤ b))
@@ -41,15 +46,15 @@ pub data IsResult : BinOp → Value → Value → Value → Type 0 where
   at_least : (a b : ℤ) → IsResult op.AtLeast (number a) (number b) (Truth (int_le b a))
   equal : (a b : Member) → IsResult op.Equal (One a) (One b) (Truth (same_member a b))
   unequal : (a b : Member) → IsResult op.Unequal (One a) (One b) (Truth (not (same_member a b)))
-  is_in : (v : Value) (t : Tuple) (ts : List Tuple) → IsTuple v t → IsResult op.In v (Many ts) (Truth (has ts t))
-  is_not_in : (v : Value) (t : Tuple) (ts : List Tuple) → IsTuple v t → IsResult op.NotIn v (Many ts) (Truth (not (has ts t)))
-  within : (xs ys : List Tuple) → IsResult op.Within (Many xs) (Many ys) (Truth (is_within xs ys))
-  not_within : (xs ys : List Tuple) → IsResult op.NotWithin (Many xs) (Many ys) (Truth (not (is_within xs ys)))
+  is_in : (v : Value) (t : Tuple) (ts : List Tuple) → IsTuple v t → HaveOneDimension (t ∷ ts) → IsResult op.In v (Many ts) (Truth (has ts t))
+  is_not_in : (v : Value) (t : Tuple) (ts : List Tuple) → IsTuple v t → HaveOneDimension (t ∷ ts) → IsResult op.NotIn v (Many ts) (Truth (not (has ts t)))
+  within : (xs ys : List Tuple) → HaveOneDimension (xs ++ ys) → IsResult op.Within (Many xs) (Many ys) (Truth (is_within xs ys))
+  not_within : (xs ys : List Tuple) → HaveOneDimension (xs ++ ys) → IsResult op.NotWithin (Many xs) (Many ys) (Truth (not (is_within xs ys)))
   cross : (xs ys : List Tuple) → IsResult op.Cross (Many xs) (Many ys) (Many (sets.union [] (product xs ys)))
-  union : (xs ys : List Tuple) → IsResult op.Union (Many xs) (Many ys) (Many (sets.union xs ys))
-  inter : (xs ys : List Tuple) → IsResult op.Inter (Many xs) (Many ys) (Many (intersection xs ys))
-  diff : (xs ys : List Tuple) → IsResult op.Diff (Many xs) (Many ys) (Many (difference xs ys))
-  symdiff : (xs ys : List Tuple) → IsResult op.Symdiff (Many xs) (Many ys) (Many (symmetric_difference xs ys))
+  union : (xs ys : List Tuple) → HaveOneDimension (xs ++ ys) → IsResult op.Union (Many xs) (Many ys) (Many (sets.union xs ys))
+  inter : (xs ys : List Tuple) → HaveOneDimension (xs ++ ys) → IsResult op.Inter (Many xs) (Many ys) (Many (intersection xs ys))
+  diff : (xs ys : List Tuple) → HaveOneDimension (xs ++ ys) → IsResult op.Diff (Many xs) (Many ys) (Many (difference xs ys))
+  symdiff : (xs ys : List Tuple) → HaveOneDimension (xs ++ ys) → IsResult op.Symdiff (Many xs) (Many ys) (Many (symmetric_difference xs ys))
   and_both : (b : Bool) → IsResult op.And (Truth true) (Truth b) (Truth b)
   or_other : (b : Bool) → IsResult op.Or (Truth false) (Truth b) (Truth b)
 

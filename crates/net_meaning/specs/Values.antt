@@ -1,7 +1,8 @@
 -- The value of an expression, and the keys of an indexing expression, as AMPL defines them (Fourer, Gay, Kernighan: AMPL, second edition,
 -- chapters 5 to 8 and appendix A). The definitions are relations: an expression with an error of kind, of division or of a missing value has no
--- value, so no value is a default. Dimensions of sets and tuples, and limits on sizes except that of numerals, are not part of the meaning.
-use Rattle.std.specs.Prelude.{◌≡◌, ◌⊎◌, ◌&&◌, ℕ, Bool, true, false, not, List, [], ◌∷◌, ◌++◌, map, Option, None, Some, if◌then◌else◌, ⊤, ℤ, pos}
+-- value, so no value is a default. Nor has an expression whose tuples have a wrong number of components. The dimension of an empty set, and
+-- limits on sizes except that of numerals, are not part of the meaning.
+use Rattle.std.specs.Prelude.{◌≡◌, ◌⊎◌, ◌+◌, ◌&&◌, ℕ, Bool, true, false, not, List, [], ◌∷◌, ◌++◌, map, length, Option, None, Some, if◌then◌else◌, ⊤, ℤ, pos}
 use Rattle.std.specs.List.{AllZip}
 use Rattle.net_lex.specs.Limits.{limits}
 use Rattle.net_lex.specs.Numerals.{IsValue as IsNumeral}
@@ -18,7 +19,7 @@ use Rattle.net_tree.specs.Syntax.{Expression, Expressions, Operands, Clause, Bra
 use Rattle.net_expr.specs.declared.world.Entry.TheVariants.{Set, Parameter}
 use Rattle.net_expr.specs.Numbers.{turned}
 use Rattle.net_expr.specs.Worlds.{Name, World, Scope, entry_of, bound, is_known, with_dummy}
-use Rattle.net_meaning.specs.Operators.{Value, One, Several, Many, Truth, number, IsTuple, Reduces, IsRangeOf, Combines}
+use Rattle.net_meaning.specs.Operators.{Value, One, Several, Many, Truth, number, IsTuple, HaveOneDimension, Reduces, IsRangeOf, Combines}
 
 -- what names denote at a place: declared sets and parameters, dummy indices with their members, the flows of arcs in an objective, and the
 -- net inflow in a node's condition
@@ -98,10 +99,10 @@ start e = record { key = []; env = e }
 abbrev pub extended : Key → Tuple → Key
 extended k t = record { key = k.key ++ t; env = k.env }
 
--- braces that list their members or tuples: each is a key once, at its first occurrence
+-- braces that list members, or tuples with the same number of components: each is a key once, at its first occurrence
 abbrev pub AreListed : Env → (Value → Type 0) → (List Value → Type 0) → List Key → Type 0
 AreListed e First More keys =
-    (u : Value) × (us : List Value) × (ts : List Tuple) × First u × More us × AllZip IsTuple (u ∷ us) ts × (keys ≡ map (λ t. record { key = t; env = e }) (union [] ts))
+    (u : Value) × (us : List Value) × (ts : List Tuple) × First u × More us × AllZip IsTuple (u ∷ us) ts × HaveOneDimension ts × (keys ≡ map (λ t. record { key = t; env = e }) (union [] ts))
 
 -- there is no condition
 abbrev pub IsAbsent : Clause → Type 0
@@ -145,12 +146,17 @@ abbrev pub Matches : Key → Option Name → (Value → Type 0) → Member → (
 Matches k (Some n) Own m Rest r = Rest (bind n m k) r
 Matches k None Own m Rest r = (u : Member) × Own (One u) × Whether (same_member u m) (Rest k r) (r ≡ None)
 
--- a single expression to the left of `in`: a new dummy index takes the member, of a longer tuple the first one; any other expression has to
--- equal the whole tuple
+-- a single expression to the left of `in`: a new dummy index takes the only component of the tuple; the value of any other expression selects,
+-- and has as many components as the tuple
 abbrev pub MatchesWhole : Key → Option Name → (Value → Type 0) → Tuple → Option Key → Type 0
-MatchesWhole k (Some n) Own [] r = r ≡ Some k
-MatchesWhole k (Some n) Own (m ∷ ms) r = r ≡ Some (bind n m k)
-MatchesWhole k None Own t r = (v : Value) × (u : Tuple) × Own v × IsTuple v u × Whether (same_tuple u t) (r ≡ Some k) (r ≡ None)
+MatchesWhole k (Some n) Own (m ∷ []) r = r ≡ Some (bind n m k)
+MatchesWhole k (Some n) Own _ r = ⊥
+MatchesWhole k None Own t r = (v : Value) × (u : Tuple) × Own v × IsTuple v u × (length u ≡ length t) × Whether (same_tuple u t) (r ≡ Some k) (r ≡ None)
+
+-- the number of expressions
+abbrev pub size : Expressions → ℕ
+size no_more = 0
+size (more x l) = 1 + size l
 
 abbrev mutual
   -- `IsValue e x v`: in the environment e the expression x has the value v
@@ -189,11 +195,11 @@ abbrev mutual
   IsChain e u (apply o x l) v = (w : Value) × Combines o u (IsValue e x) w × IsChain e w l v
 
   -- the keys of an indexing expression: those of its items at which the condition is true, or its listed members and tuples. Only items that
-  -- iterate can have a condition.
+  -- iterate can have a condition. The keys that they give, also where it is false, have the same number of components.
   pub AreKeys : Env → Braces → List Key → Type 0
   AreKeys e (empty p) keys = (keys ≡ []) × IsAbsent p
   AreKeys e (filled i is p) keys =
-      ((all : List Key) × FromItem (IsItemSet i (IsSetAfterIn e i) (IsValue e i)) (Extends (start e) i) (λ k. Iterates k is) all × Filters (HasTruth p) all keys)
+      ((all : List Key) × FromItem (IsItemSet i (IsSetAfterIn e i) (IsValue e i)) (Extends (start e) i) (λ k. Iterates k is) all × HaveOneDimension (map (λ k. k.key) all) × Filters (HasTruth p) all keys)
       ⊎ (AreListed e (IsValue e i) (AreValues e is) keys × IsAbsent p)
 
   -- the condition of an indexing expression is true or false at a key; an absent condition is true
@@ -217,14 +223,14 @@ abbrev mutual
   Extends k (chain x (apply o y none)) t r = Whether (is_in o) (Agrees k x (IsValue k.env x) t r) (r ≡ Some (extended k t))
   Extends k _ t r = r ≡ Some (extended k t)
 
-  -- the tuple agrees with the expression to the left of `in`, component by component; what only one of them has is not compared
+  -- the tuple agrees with the expression to the left of `in`, component by component, and both have the same number of components
   pub Agrees : Key → Expression → (Value → Type 0) → Tuple → Option Key → Type 0
-  Agrees k (tuple x l) Own [] r = r ≡ Some k
-  Agrees k (tuple x l) Own (m ∷ ms) r = Matches k (new_dummy k.env x) (IsValue k.env x) m (λ q. AllAgree q l ms) r
+  Agrees k (tuple x l) Own [] r = ⊥
+  Agrees k (tuple x l) Own (m ∷ ms) r = (length ms ≡ size l) × Matches k (new_dummy k.env x) (IsValue k.env x) m (λ q. AllAgree q l ms) r
   Agrees k x Own t r = MatchesWhole k (new_dummy k.env x) Own t r
 
-  -- the other components agree, as far as both have them
+  -- the other components agree
   pub AllAgree : Key → Expressions → Tuple → Option Key → Type 0
-  AllAgree k no_more ms r = r ≡ Some k
-  AllAgree k (more x l) [] r = r ≡ Some k
+  AllAgree k no_more [] r = r ≡ Some k
   AllAgree k (more x l) (m ∷ ms) r = Matches k (new_dummy k.env x) (IsValue k.env x) m (λ q. AllAgree q l ms) r
+  AllAgree k _ _ r = ⊥
