@@ -1,8 +1,9 @@
 -- The sets that the code binds are those that AMPL defines.
-use Rattle.std.specs.Prelude.{◌≡◌, ◌≤◌, ℕ, suc, Bool, true, false, List, [], ◌∷◌, ◌++◌, map, length, nat_eq, unsigned_abs, is_some, Option, None, Some, if◌then◌else◌, Ok, ℤ, pos, negsuc}
+use Rattle.std.specs.Prelude.{◌≡◌, ◌≤◌, ◌&&◌, ℕ, suc, Bool, true, false, List, [], ◌∷◌, ◌++◌, map, length, nat_eq, int_le, unsigned_abs, is_some, Option, None, Some, if◌then◌else◌, Ok, ℤ, pos, negsuc}
 use Rattle.std.specs.List.{AllByRecursion, AllZip}
 use Rattle.std.proofs.Common.{refl, ap, sym, ◌∙◌, subst, arith, append_assoc, append-nil}
 use Rattle.std.proofs.lemmas.Bool.{eqb-true}
+use Rattle.std.proofs.lemmas.Int.{ints}
 use Rattle.net_fault.specs.declared.error_code.ErrorCode.TheVariants.{Arity}
 use Rattle.net_fault.specs.declared.span.Span.{Span}
 use Rattle.net_fault.specs.Outcomes.{Outcome, and_then, each, rejected}
@@ -196,6 +197,14 @@ whole_dimension : (n : ℤ) → is_dimension n ≡ true → n ≡ pos (unsigned_
 whole_dimension (pos n) e = refl
 whole_dimension (negsuc n) e = cc
 
+positive_dimension : (n : ℤ) → is_dimension n ≡ true → 1 ≤ unsigned_abs n
+positive_dimension (pos n) e = go (int_le (pos 1) (pos n)) (int_le (pos n) (pos 4)) refl e
+  where
+    go : (b c : Bool) → int_le (pos 1) (pos n) ≡ b → (b && c) ≡ true → 1 ≤ n
+    go true c i k = search (arith, ints, i)
+    go false c i k = cc
+positive_dimension (negsuc n) e = cc
+
 -- the tuples of a superset have the dimension of the set
 set_long : (o : Option ℕ) (us : List Tuple) (d : ℕ) → IsSetOf o us → ((n : ℕ) → o ≡ Some n → n ≡ d) → AllByRecursion (λ t. length t ≡ d) us
 set_long None us d h k = subst (AllByRecursion (λ (t : Tuple). length t ≡ d)) (sym h) tt
@@ -205,11 +214,11 @@ satisfied : (w : World) → HasSets w → (o : Option ℕ) (d : ℕ) (ts : List 
     → ((n : ℕ) → dimension_of c ≡ Some n → o ≡ Some n) → is_allowed ts c ≡ true → ((us : List Tuple) → becomes c None ≡ Some us → us ≡ ts) → SatisfiesRole w d ts r x
 satisfied w sets o d ts k (roles.Phrase begins.Dimen) x (One (Number n)) c e f a i own = go (is_dimension n) refl f
   where
-    go : (b : Bool) → is_dimension n ≡ b → (if b then (let u : Outcome Claim = Ok (claims.Dimension (unsigned_abs n)) in u) else rejected Arity (span_of x)) ≡ Ok c → IsValue (env_of w []) x (meant.number (pos d))
+    go : (b : Bool) → is_dimension n ≡ b → (if b then (let u : Outcome Claim = Ok (claims.Dimension (unsigned_abs n)) in u) else rejected Arity (span_of x)) ≡ Ok c → IsValue (env_of w []) x (meant.number (pos d)) × (1 ≤ d)
     go true s g =
         let claim = is_ok (claims.Dimension (unsigned_abs n)) c g in
         let size : unsigned_abs n ≡ d = k (unsigned_abs n) (a (unsigned_abs n) (ap dimension_of (sym claim))) in
-        subst (λ z. IsValue (env_of w []) x (meant.number z)) (whole_dimension n s ∙ ap pos size) (evaluation_is_sound w [] x (One (Number n)) sets e)
+        (subst (λ z. IsValue (env_of w []) x (meant.number z)) (whole_dimension n s ∙ ap pos size) (evaluation_is_sound w [] x (One (Number n)) sets e), subst (λ z. 1 ≤ z) size (positive_dimension n s))
     go false s g = cc
 satisfied w sets o d ts k (roles.Phrase begins.Dimen) x (One (Text t)) c e f a i own = cc
 satisfied w sets o d ts k (roles.Phrase begins.Dimen) x (Several t) c e f a i own = cc

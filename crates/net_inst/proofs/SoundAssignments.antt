@@ -248,6 +248,7 @@ assignments_are_sound requested w ds n sets names good e = record {
     evaluated = record {
       conditions = λ y. all_have_sides y (written.nodes w ds) found.has.nodes f.drawing.nodes.ranges found.has.same_nodes (conditions_of w 0 ds good) all_ranges;
       objective = λ x. (value_of n.instance (map (meaning.flow_on x) found.has.arcs), (value x _).1 refl);
+      alike = λ x y m same h. (value y m).1 ((value x m).0 h ∙ ap (value_of n.instance) same);
     };
     bounds = λ x. (limits_to found.has.arcs n.instance.arcs.items x found.has.bounds, limits_from found.has.arcs n.instance.arcs.items x found.has.bounds);
     ranges = ranges;

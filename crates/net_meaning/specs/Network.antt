@@ -172,6 +172,10 @@ Assignment = Name → Tuple → ℤ
 abbrev pub flow_on : Assignment → Arc → ℤ
 flow_on x a = x a.label.name a.label.key
 
+-- both assignments give each arc the same flow
+abbrev pub Agree : List Arc → Assignment → Assignment → Type 0
+Agree all x y = map (flow_on x) all ≡ map (flow_on y) all
+
 -- the inflow of a node minus its outflow
 abbrev pub net_inflow : List Arc → Assignment → Label → ℤ
 net_inflow [] x v = pos 0
@@ -238,7 +242,9 @@ HasSides e unsaid = ⊤
 HasSides e (one x o z) = IsNumeric e x × IsNumeric e z
 HasSides e (between x o z p u) = IsNumeric e x × IsNumeric e z × IsNumeric e u
 
--- nothing in the network is without a value: at each net inflow the sides of each node's condition have numbers, and each assignment has a value
+-- nothing in the network is without a value: at each net inflow the sides of each node's condition have numbers, and each assignment has a
+-- value, which depends on the flows of the network's arcs alone
 pub record IsEvaluated (vs : List Node) (all : List Arc) (o : Objective) : Type 0 where
   pub conditions : (y : ℤ) → AllByRecursion (λ (v : Node). HasSides (with_inflow v.env y) v.condition) vs
   pub objective : (x : Assignment) → (n : ℤ) × HasValue o all x n
+  pub alike : (x y : Assignment) (n : ℤ) → Agree all x y → HasValue o all x n → HasValue o all y n

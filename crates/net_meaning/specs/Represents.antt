@@ -1,6 +1,6 @@
 -- A min-cost flow problem represents a network: which arc of the problem is which arc of the model, and how flows correspond to
 -- assignments.
-use Rattle.std.specs.Prelude.{◌≡◌, ◌+◌, ℕ, suc, List, [], ◌∷◌, map, length, slice_get, Option, None, Some, IsTrue, if◌then◌else◌, ◌&&◌, ℤ, pos, ◌+ℤ◌}
+use Rattle.std.specs.Prelude.{◌≡◌, ◌+◌, ℕ, suc, List, [], ◌∷◌, length, slice_get, Option, None, Some, IsTrue, if◌then◌else◌, ◌&&◌, ℤ, pos, ◌+ℤ◌}
 use Rattle.std.specs.List.{AllZip}
 use Rattle.std.specs.Str.{bytes_eq}
 use Rattle.net_sets.specs.Sets.{Tuple, same_tuple}
@@ -10,7 +10,7 @@ use Rattle.net_normal.specs.declared.problem.FlowArc.{FlowArc}
 use Rattle.net_normal.specs.declared.problem.Problem.{Problem}
 use Rattle.net_normal.specs.Flows.{net_outflow, IsWithinCapacity, IsFeasibleFlow, cost_of}
 use Rattle.net_normal.specs.Links.{mapped_back, value_at}
-use Rattle.net_meaning.specs.Network.{Node, Arc, Objective, Assignment, flow_on, is_at, AreWithinBounds, IsSatisfiedBy, IsFeasible, HasValue}
+use Rattle.net_meaning.specs.Network.{Node, Arc, Objective, Assignment, Agree, is_at, AreWithinBounds, IsSatisfiedBy, IsFeasible, HasValue}
 
 -- the number of a node in the problem. The problem has one more node after the model's nodes, which is the missing end of arcs with one end.
 pub data IsNodeNumber (vs : List Node) : Option (Name × Tuple) → ℕ → Type 0 where
@@ -39,10 +39,6 @@ by_label (a ∷ all) (y ∷ ys) n key = if bytes_eq a.label.name n && same_tuple
 -- the assignment that corresponds to a flow of the problem
 abbrev pub assignment_of : List Arc → Link → List ℤ → Assignment
 assignment_of all link flows = by_label all (mapped_back link flows)
-
--- both assignments give each arc the same flow
-abbrev pub Agree : List Arc → Assignment → Assignment → Type 0
-Agree all x y = map (flow_on x) all ≡ map (flow_on y) all
 
 -- node i sends out its supply: its outflow minus its inflow
 abbrev pub IsBalanced : Problem → List ℤ → ℕ → Type 0
