@@ -12,6 +12,7 @@ use Rattle.net_tree.specs.Tree.{Declaration, set, param, check, node, arc, objec
 use Rattle.net_normal.specs.Assignments.{IsFeasibleAssignment, value_of}
 use Rattle.net_normal.specs.declared.instance.InstArc.{InstArc}
 use Rattle.net_expr.specs.declared.row.Row.{Row}
+use Rattle.net_expr.specs.SetValues.{HasSets}
 use Rattle.net_expr.specs.Worlds.{Name, World}
 use Rattle.net_linear.specs.declared.condition.Sides.{Sides}
 use Rattle.net_linear.specs.Conditions.{Holds, sides_in, uncrossed}
@@ -30,10 +31,10 @@ use Rattle.net_inst.specs.Readings.{Objective, part_value, prices}
 use Rattle.net_inst.specs.Readings.{value_of as objective_value}
 use Rattle.net_inst.specs.Soundness.{IsSameNode, IsSameArc, HasBounds, AssignmentsAreSound}
 use Rattle.net_inst.proofs.Agreement.{IsFinished, network_is}
-use Rattle.net_inst.proofs.Aiming.{have_objective, objective_valued}
+use Rattle.net_inst.proofs.Aiming.{have_objective, objective_has, objective_valued}
 use Rattle.net_inst.proofs.Built.{HasRange}
 use Rattle.net_inst.proofs.Feasible.{amount_of, have_feasible}
-use Rattle.net_inst.proofs.KeysOnce.{are_distinct_in_sets}
+use Rattle.net_inst.proofs.KeysOnce.{front_has, are_distinct_in_sets}
 use Rattle.net_inst.proofs.Once.{all_join}
 use Rattle.net_inst.proofs.SoundEnds.{as_label}
 use Rattle.net_inst.proofs.SoundGrammar.{no_flows, condition_plain}
@@ -106,30 +107,31 @@ bounds_from (v ∷ xs) (a ∷ all) (i ∷ is) x same has ok h =
 
 -- ---- conditions
 
+-- a node has a condition of the grammar, and the declared sets before the node are sets
 abbrev HasCondition : written.Node → Type 0
-HasCondition v = IsCondition v.condition
+HasCondition v = IsCondition v.condition × HasSets v.env
 
-conditions_of : (w : World) (k : ℕ) (ds : List Declaration) → AreDeclarations ds → AllByRecursion HasCondition (in_order nodes_of w k ds)
-conditions_of w k [] h = tt
-conditions_of w k (set t n ps e ∷ ds) h = conditions_of w (k + 1) ds h.1
-conditions_of w k (param t n b ps e ∷ ds) h = conditions_of w (k + 1) ds h.1
-conditions_of w k (check t b m x e ∷ ds) h = conditions_of w k ds h.1
-conditions_of w k (arc t n b ps e ∷ ds) h = conditions_of w k ds h.1
-conditions_of w k (objective t n p e ∷ ds) h = conditions_of w k ds h.1
-conditions_of w k (node t n b c e ∷ ds) h =
-    all_join HasCondition (map (node_at_row (take k w) n b c) (rows_of (indexing_in (take k w) b))) (in_order nodes_of w k ds) (each (rows_of (indexing_in (take k w) b))) (conditions_of w k ds h.1)
+conditions_of : (w : World) → HasSets w → (k : ℕ) (ds : List Declaration) → AreDeclarations ds → AllByRecursion HasCondition (in_order nodes_of w k ds)
+conditions_of w sets k [] h = tt
+conditions_of w sets k (set t n ps e ∷ ds) h = conditions_of w sets (k + 1) ds h.1
+conditions_of w sets k (param t n b ps e ∷ ds) h = conditions_of w sets (k + 1) ds h.1
+conditions_of w sets k (check t b m x e ∷ ds) h = conditions_of w sets k ds h.1
+conditions_of w sets k (arc t n b ps e ∷ ds) h = conditions_of w sets k ds h.1
+conditions_of w sets k (objective t n p e ∷ ds) h = conditions_of w sets k ds h.1
+conditions_of w sets k (node t n b c e ∷ ds) h =
+    all_join HasCondition (map (node_at_row (take k w) n b c) (rows_of (indexing_in (take k w) b))) (in_order nodes_of w k ds) (each (rows_of (indexing_in (take k w) b))) (conditions_of w sets k ds h.1)
   where
     each : (rows : List Row) → AllByRecursion HasCondition (map (node_at_row (take k w) n b c) rows)
     each [] = tt
-    each (row ∷ rows) = (h.0.3, each rows)
+    each (row ∷ rows) = ((h.0.3, front_has k w sets), each rows)
 
 -- a node's condition is true in the model exactly when its form holds
-one_condition : (n : written.Node) (v : meaning.Node) (r : Sides) (y : ℤ) → IsSameNode n v → IsCondition n.condition → HasRange n r → IsSatisfied v.env v.condition y ↔ Holds n.env n.scope n.condition y
+one_condition : (n : written.Node) (v : meaning.Node) (r : Sides) (y : ℤ) → IsSameNode n v → HasCondition n → HasRange n r → IsSatisfied v.env v.condition y ↔ Holds n.env n.scope n.condition y
 one_condition n v r y same good range =
     ok_then (sides_in n.env n.scope n.condition) (λ s. Ok (uncrossed s)) (Some r) range.is (λ s i j.
     subst (λ e. IsSatisfied e v.condition y ↔ Holds n.env n.scope n.condition y) (sym same.env)
     (subst (λ c. IsSatisfied (env_of n.env n.scope) c y ↔ Holds n.env n.scope n.condition y) (sym same.condition)
-    (conditions_are_sound no_flows n.env n.scope n.condition s y (condition_plain y n.condition good) i)))
+    (conditions_are_sound no_flows n.env n.scope n.condition s y good.1 (condition_plain y n.condition good.0) i)))
 
 -- what a node's label is as written
 label_is : (n : written.Node) (v : meaning.Node) → IsSameNode n v → v.label ≡ as_label n.label
@@ -143,7 +145,7 @@ module _ (xs : List written.Arc) (all : List meaning.Arc) (x : meaning.Assignmen
   abbrev Satisfied : meaning.Node → Type 0
   Satisfied v = IsSatisfied v.env v.condition (meaning.net_inflow all x v.label)
 
-  node_alike : (n : written.Node) (v : meaning.Node) (r : Sides) → IsSameNode n v → IsCondition n.condition → HasRange n r → Satisfied v ↔ IsMet xs x n
+  node_alike : (n : written.Node) (v : meaning.Node) (r : Sides) → IsSameNode n v → HasCondition n → HasRange n r → Satisfied v ↔ IsMet xs x n
   node_alike n v r same good range =
       subst (λ y. IsSatisfied v.env v.condition y ↔ IsMet xs x n) (sym (ap (meaning.net_inflow all x) (label_is n v same) ∙ inflow_same xs all x n.label arcs)) (one_condition n v r (written.net_inflow xs x n.label) same good range)
 
@@ -162,11 +164,11 @@ module _ (xs : List written.Arc) (all : List meaning.Arc) (x : meaning.Assignmen
 
 -- ---- feasible assignments
 
-pub feasible_alike : (w : World) (ds : List Declaration) (vs : List meaning.Node) (all : List meaning.Arc) (rs : List Sides) (is : List InstArc) (x : meaning.Assignment) → AreDeclarations ds → AllZip IsSameNode (written.nodes w ds) vs → AllZip IsSameArc (written.arcs w ds) all
+pub feasible_alike : (w : World) (ds : List Declaration) (vs : List meaning.Node) (all : List meaning.Arc) (rs : List Sides) (is : List InstArc) (x : meaning.Assignment) → HasSets w → AreDeclarations ds → AllZip IsSameNode (written.nodes w ds) vs → AllZip IsSameArc (written.arcs w ds) all
     → AllZip HasRange (written.nodes w ds) rs → AllZip HasBounds all is → AllZip IsBoundedAs (written.arcs w ds) is → meaning.IsFeasible vs all x ↔ written.IsFeasible (written.nodes w ds) (written.arcs w ds) x
-feasible_alike w ds vs all rs is x good nodes arcs ranges has ok = (
-  (λ h. record { bounds = bounds_to (written.arcs w ds) all is x arcs has ok h.bounds; conditions = conditions_to (written.arcs w ds) all x arcs (written.nodes w ds) vs rs nodes (conditions_of w 0 ds good) ranges h.conditions }),
-  (λ h. record { bounds = bounds_from (written.arcs w ds) all is x arcs has ok h.bounds; conditions = conditions_from (written.arcs w ds) all x arcs (written.nodes w ds) vs rs nodes (conditions_of w 0 ds good) ranges h.conditions }),
+feasible_alike w ds vs all rs is x sets good nodes arcs ranges has ok = (
+  (λ h. record { bounds = bounds_to (written.arcs w ds) all is x arcs has ok h.bounds; conditions = conditions_to (written.arcs w ds) all x arcs (written.nodes w ds) vs rs nodes (conditions_of w sets 0 ds good) ranges h.conditions }),
+  (λ h. record { bounds = bounds_from (written.arcs w ds) all is x arcs has ok h.bounds; conditions = conditions_from (written.arcs w ds) all x arcs (written.nodes w ds) vs rs nodes (conditions_of w sets 0 ds good) ranges h.conditions }),
 )
 
 expression_unique : (e : Env) (p : Clause) (k m : ℤ) → IsExpressionValue e p k → IsExpressionValue e p m → k ≡ m
@@ -191,7 +193,7 @@ assignments_are_sound requested w ds n sets names good e = record { has = found.
     feasible : (x : meaning.Assignment) → meaning.IsFeasible found.has.nodes found.has.arcs x ↔ IsFeasibleAssignment n.instance (map (meaning.flow_on x) found.has.arcs)
     feasible x =
         let ranges = (all_written requested w ds f.drawing f.is_built).nodes.ranges in
-        let alike = feasible_alike w ds found.has.nodes found.has.arcs f.drawing.nodes.ranges n.instance.arcs.items x good found.has.same_nodes found.has.same_arcs ranges found.has.bounds (have_bounds requested w ds (seen_as n) e) in
+        let alike = feasible_alike w ds found.has.nodes found.has.arcs f.drawing.nodes.ranges n.instance.arcs.items x sets good found.has.same_nodes found.has.same_arcs ranges found.has.bounds (have_bounds requested w ds (seen_as n) e) in
         let by_number = have_feasible requested w ds n e apart x in (
           (λ h. subst (IsFeasibleAssignment n.instance) (sym (flows x)) (by_number.0 (alike.0 h))),
           (λ h. alike.1 (by_number.1 (subst (IsFeasibleAssignment n.instance) (flows x) h))),
@@ -219,7 +221,7 @@ assignments_are_sound requested w ds n sets names good e = record { has = found.
 
     value : (x : meaning.Assignment) (m : ℤ) → meaning.HasValue found.has.objective found.has.arcs x m ↔ (m ≡ value_of n.instance (map (meaning.flow_on x) found.has.arcs))
     value x m =
-        let valued = objective_valued requested w ds (seen_as n) e p found.is_chosen apart.arcs x in
+        let valued = objective_valued requested w ds (seen_as n) e p found.is_chosen (objective_has requested w ds sets p found.is_chosen) apart.arcs x in
         subst (λ (o : meaning.Objective). meaning.HasValue o found.has.arcs x m ↔ (m ≡ value_of n.instance (map (meaning.flow_on x) found.has.arcs))) (sym found.same) (
           (λ h. h.2 ∙ ap (λ (k : ℤ). k +ℤ meaning.coefficient_terms found.has.arcs x) (expression_unique _ (clause p.expression) h.0 (phrase_expression x) h.1 valued) ∙ sym (whole x)),
           (λ k. (phrase_expression x, valued, k ∙ whole x)),
