@@ -1,15 +1,17 @@
 -- The chosen objective, and what the declarations behind it add to its form.
-use Rattle.std.specs.Prelude.{◌≡◌, ℕ, Bool, true, false, List, [], ◌∷◌, ◌++◌, Option, None, Some, if◌then◌else◌, Ok, ℤ, ◌+ℤ◌}
-use Rattle.std.specs.List.{AllZip, IsDistinct}
+use Rattle.std.specs.Prelude.{◌≡◌, ℕ, Bool, true, false, List, [], ◌∷◌, ◌++◌, take, Option, None, Some, if◌then◌else◌, Ok, ℤ, ◌+ℤ◌}
+use Rattle.std.specs.List.{AllByRecursion, AllZip, IsDistinct}
 use Rattle.std.specs.Str.{bytes_eq}
 use Rattle.std.proofs.Common.{refl, ap, sym, ◌∙◌, subst, arith, append_assoc}
 use Rattle.std.proofs.lemmas.Int.{ints}
 use Rattle.std.proofs.lemmas.List.{length-map}
 use Rattle.net_lex.specs.declared.token.Token.{Token}
 use Rattle.net_tree.specs.Tree.{Declaration, set, param, check, node, arc, objective}
+use Rattle.net_expr.specs.SetValues.{HasSets}
 use Rattle.net_expr.specs.Worlds.{Name, World}
 use Rattle.net_linear.specs.Forms.{Linear, form_at, all_apart}
 use Rattle.net_inst.specs.declared.goal.ChosenObjective.{ChosenObjective}
+use Rattle.net_inst.specs.declared.names.Declared.{Declared}
 use Rattle.net_inst.specs.Arcs.{with_arcs}
 use Rattle.net_inst.specs.AsWritten.{Arc, arcs_of, nodes, arcs, known_after, in_order, arc_declared, same_label, Assignment, number_on, numbers_on}
 use Rattle.net_inst.specs.Drafts.{Drawing, nothing, env, sense_of, part_form, aimed, passed, is_chosen, with_goal, known_more, nodes_more, arcs_more, declare, draw}
@@ -19,6 +21,8 @@ use Rattle.net_inst.specs.Nodes.{with_nodes}
 use Rattle.net_inst.specs.Readings.{Objective, prices, part_value, value_of, objective_of, objectives_from, objectives, is_wanted, or_else, chosen}
 use Rattle.net_inst.proofs.Agreement.{IsFinished, network_is}
 use Rattle.net_inst.proofs.Built.{arc_labels, node_labels, IsBuiltAs}
+use Rattle.net_inst.proofs.KeysOnce.{front_has}
+use Rattle.net_inst.proofs.Once.{all_join}
 use Rattle.net_inst.proofs.ReadingLaws.{ReadAlike}
 use Rattle.net_inst.proofs.SoundValues.{said_means, IsValued}
 use Rattle.net_inst.proofs.Totals.{total_is}
@@ -136,7 +140,7 @@ step wanted w all m (objective t n p z) d next new os rest h whole e k =
         ok_then (part_form d.arcs.group.numbers (env w d) p) (λ f. Ok (aimed d t n f)) next j (λ f q r.
         aimed_aim all wanted here os rest t n f d new i refl refl refl (said_apart d.arcs.group.numbers (env w d) p f q)
         (λ distinct x. said_is d.arcs.group.numbers m.arc_names (by_place all x) x (env w d) p f h.arcs.group.known (reads distinct x) q)
-        (λ distinct x. said_means d.arcs.group.numbers m.arc_names all x (env w d) p f h.arcs.group.known (reads distinct x) q)
+        (λ sets distinct x. said_means d.arcs.group.numbers m.arc_names all x (env w d) p f sets h.arcs.group.known (reads distinct x) q)
         (subst (λ (y : Drawing). Aims all (chosen wanted os) rest y new) (sym (ok_is (aimed d t n f) next r)) k))
 
 has_objective : (wanted : Option Name) (w : World) (ds : List Declaration) (all : List Arc) (m : Lines) (d new : Drawing) → IsWritten m d → all ≡ m.arcs ++ in_order arcs_of w d.known ds → draw wanted w ds d ≡ Ok new
@@ -194,6 +198,35 @@ have_objective wanted w ds n e = go (chosen wanted (objectives w ds)) refl (has_
       where
         o_goal : ChosenObjective
         o_goal = record { name = o.name; sense = o.sense }
+
+-- the declared sets before an objective are sets
+abbrev HaveSets : Objective → Type 0
+HaveSets o = HasSets o.env
+
+chosen_has : (wanted : Option Name) (os : List Objective) (o : Objective) → AllByRecursion HaveSets os → chosen wanted os ≡ Some o → HaveSets o
+chosen_has wanted [] o all e = cc
+chosen_has wanted (p ∷ os) o all e = go (chosen wanted os) (is_wanted wanted p) refl e (chosen_has wanted os o all.1)
+  where
+    go : (q : Option Objective) (b : Bool) → chosen wanted os ≡ q → or_else q (if b then Some p else None) ≡ Some o → (chosen wanted os ≡ Some o → HaveSets o) → HaveSets o
+    go None true f i more = let same : p ≡ o = cc in subst HaveSets same all.0
+    go None false f i more = cc
+    go (Some q) b f i more = more (f ∙ i)
+
+objectives_have : (w : World) → HasSets w → (before : List Declared) (k : ℕ) (ds : List Declaration) → AllByRecursion HaveSets (objectives_from before w k ds)
+objectives_have w sets before k [] = tt
+objectives_have w sets before k (d ∷ ds) =
+    all_join HaveSets (objective_of before (take k w) d (in_order arcs_of w (known_after k d) ds)) (objectives_from (before ++ arc_declared d) w (known_after k d) ds) (here d) (objectives_have w sets (before ++ arc_declared d) (known_after k d) ds)
+  where
+    here : (x : Declaration) → AllByRecursion HaveSets (objective_of before (take k w) x (in_order arcs_of w (known_after k d) ds))
+    here (objective t n p e) = (front_has k w sets, tt)
+    here (set t n ps e) = tt
+    here (param t n b ps e) = tt
+    here (check t b m x e) = tt
+    here (node t n b c e) = tt
+    here (arc t n b ps e) = tt
+
+pub objective_has : (wanted : Option Name) (w : World) (ds : List Declaration) → HasSets w → (o : Objective) → chosen wanted (objectives w ds) ≡ Some o → HasSets o.env
+objective_has wanted w ds sets o h = chosen_has wanted (objectives w ds) o (objectives_have w sets [] 0 ds) h
 
 pub objective_valued : (wanted : Option Name) (w : World) (ds : List Declaration) (n : Network) → network wanted w ds ≡ Ok n → (o : Objective) → chosen wanted (objectives w ds) ≡ Some o → IsValued (arcs w ds) (Some o)
 objective_valued wanted w ds n e o h =

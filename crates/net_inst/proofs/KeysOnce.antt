@@ -34,7 +34,7 @@ first_is (suc k) (x ∷ w) n e h = go (bytes_eq x.0 n) h (first_is k w n e)
     go true i more = i
     go false i more = more i
 
-front_has : (k : ℕ) (w : World) → HasSets w → HasSets (take k w)
+pub front_has : (k : ℕ) (w : World) → HasSets w → HasSets (take k w)
 front_has k w h = λ n d ts e. h n d ts (first_is k w n (Set d ts) e)
 
 one_key : IsDistinct same_tuple ([] ∷ [])

@@ -21,6 +21,7 @@ use Rattle.net_tree.specs.Syntax.{Expression}
 use Rattle.net_tree.specs.Tree.{Tree, Braces, Part, Phrase, Body, plain, valued, priced, leaf, indexed, parens, tuple, negated, braced, signed, reduced, chain, choice, net, Declaration, set, param, check, node, arc, objective}
 use Rattle.net_expr.specs.declared.row.Row.{Row}
 use Rattle.net_expr.specs.declared.value.Value.TheVariants as found
+use Rattle.net_expr.specs.SetValues.{HasSets}
 use Rattle.net_expr.specs.Values.{index}
 use Rattle.net_expr.specs.Worlds.{Name, World, Scope, reference}
 use Rattle.net_linear.specs.Arcs.{declared}
@@ -106,28 +107,28 @@ most_said ps = said_same is_at_most words.AtMost same ps
 
 -- ---- numbers, ends and coefficients
 
-number_is : (w : World) (s : Scope) (t : Tree) (n : ℤ) → number w s t ≡ Ok n → IsValue (env_of w s) t (values.number n)
-number_is w s t n e = evaluation_is_sound w s t (found.One (member.Number n)) (placing.number_is w s t n e)
+number_is : (w : World) → HasSets w → (s : Scope) (t : Tree) (n : ℤ) → number w s t ≡ Ok n → IsValue (env_of w s) t (values.number n)
+number_is w sets s t n e = evaluation_is_sound w s t (found.One (member.Number n)) sets (placing.number_is w s t n e)
 
-end_is : (ns : BuiltNodes) (w : World) (s : Scope) (o : Option Tree) (v : Option ℕ) → end_at ns w s o ≡ Ok v → IsEnd (env_of w s) o (written.end_of w s o)
-end_is ns w s None v e = absent_end
-end_is ns w s (Some (leaf t)) v e = name t
-end_is ns w s (Some (indexed n o x l c)) v e = go (key_of w s (span_of (indexed n o x l c)) x l) (key_is_sound (λ n. None) (pos 0) (span_of (indexed n o x l c)) w s x l (netless x) (all_netless l)) e
+end_is : (ns : BuiltNodes) (w : World) → HasSets w → (s : Scope) (o : Option Tree) (v : Option ℕ) → end_at ns w s o ≡ Ok v → IsEnd (env_of w s) o (written.end_of w s o)
+end_is ns w sets s None v e = absent_end
+end_is ns w sets s (Some (leaf t)) v e = name t
+end_is ns w sets s (Some (indexed n o x l c)) v e = go (key_of w s (span_of (indexed n o x l c)) x l) (key_is_sound (λ n. None) (pos 0) (span_of (indexed n o x l c)) w sets s x l (netless x) (all_netless l)) e
   where
     go : (k : Outcome Tuple) → IfOk k (AreMembers (IsValue (env_of w s) x) (AreValues (env_of w s) l))
         → and_then (and_then k (nodes.node_at (length ns.ranges) (span_of (indexed n o x l c)) n.text (declared ns.group.numbers n.text))) (λ u. Ok (Some u)) ≡ Ok v
         → IsEnd (env_of w s) (Some (indexed n o x l c)) (written.with_key n.text k)
     go (Ok key) h i = name_and_key n.text (expression x) (expressions l) key h
     go (Err r) h i = cc
-end_is ns w s (Some (parens o y c)) v e = cc
-end_is ns w s (Some (tuple o y l c)) v e = cc
-end_is ns w s (Some (negated n o y c)) v e = cc
-end_is ns w s (Some (braced b)) v e = cc
-end_is ns w s (Some (signed t y)) v e = cc
-end_is ns w s (Some (reduced m b y)) v e = cc
-end_is ns w s (Some (chain n y l)) v e = cc
-end_is ns w s (Some (choice i y t z p)) v e = cc
-end_is ns w s (Some (net t u)) v e = cc
+end_is ns w sets s (Some (parens o y c)) v e = cc
+end_is ns w sets s (Some (tuple o y l c)) v e = cc
+end_is ns w sets s (Some (negated n o y c)) v e = cc
+end_is ns w sets s (Some (braced b)) v e = cc
+end_is ns w sets s (Some (signed t y)) v e = cc
+end_is ns w sets s (Some (reduced m b y)) v e = cc
+end_is ns w sets s (Some (chain n y l)) v e = cc
+end_is ns w sets s (Some (choice i y t z p)) v e = cc
+end_is ns w sets s (Some (net t u)) v e = cc
 
 -- an end is present if and only if its phrase is
 end_present : (e : Env) (o : Option Tree) (r : Option (Name × Tuple)) → IsEnd e o r → is_some r ≡ is_some o
@@ -147,26 +148,26 @@ AgreesOn g goal (valued x) = ⊤
 abbrev pub AgreesOnAll : Option ChosenObjective → Name → List Phrase → Type 0
 AgreesOnAll g goal ps = AllByRecursion (λ (p : Phrase). AgreesOn g goal p.body) ps
 
-term_is : (goal : Name) (g : Option ChosenObjective) (w : World) (s : Scope) (a : ℕ) (b : Body) (f new : Linear) → AgreesOn g goal b → price_in g w s a b f ≡ Ok new → (c : ℤ) × IsCoefficientIn goal (env_of w s) b c × (c ≡ price_in_goal goal w s b)
-term_is goal g w s a plain f new h e = (pos 0, refl, refl)
-term_is goal g w s a (valued x) f new h e = (pos 0, refl, refl)
-term_is goal g w s a (priced n x) f new h e = go (is_goal g n.text) h e
+term_is : (goal : Name) (g : Option ChosenObjective) (w : World) → HasSets w → (s : Scope) (a : ℕ) (b : Body) (f new : Linear) → AgreesOn g goal b → price_in g w s a b f ≡ Ok new → (c : ℤ) × IsCoefficientIn goal (env_of w s) b c × (c ≡ price_in_goal goal w s b)
+term_is goal g w sets s a plain f new h e = (pos 0, refl, refl)
+term_is goal g w sets s a (valued x) f new h e = (pos 0, refl, refl)
+term_is goal g w sets s a (priced n x) f new h e = go (is_goal g n.text) h e
   where
     go : (b : Bool) → bytes_eq goal n.text ≡ b → (if b then priced_by w s a x f else Ok f) ≡ Ok new → (c : ℤ) × IsCoefficientFor (env_of w s) x c (bytes_eq goal n.text) × (c ≡ (if bytes_eq goal n.text then amount w s x else pos 0))
     go true h i =
         ok_then (number w s x) (λ c. forms.priced (span_of x) f a c) new i (λ c k l. (
           c,
-          subst (IsCoefficientFor (env_of w s) x c) (sym h) (number_is w s x c k),
+          subst (IsCoefficientFor (env_of w s) x c) (sym h) (number_is w sets s x c k),
           sym (ap (λ (b : Bool). if b then amount w s x else pos 0) h ∙ amount_is w s x c k),
         ))
     go false h i = (pos 0, subst (IsCoefficientFor (env_of w s) x (pos 0)) (sym h) refl, sym (ap (λ (b : Bool). if b then amount w s x else pos 0) h))
 
-coefficient_is : (goal : Name) (g : Option ChosenObjective) (w : World) (s : Scope) (a : ℕ) (ps : List Phrase) (f new : Linear) → AgreesOnAll g goal ps → prices_in g w s a ps f ≡ Ok new → (c : ℤ) × IsCoefficient goal (env_of w s) ps c × (c ≡ price_of goal w s ps)
-coefficient_is goal g w s a [] f new h e = (pos 0, refl, refl)
-coefficient_is goal g w s a (p ∷ ps) f new h e =
+coefficient_is : (goal : Name) (g : Option ChosenObjective) (w : World) → HasSets w → (s : Scope) (a : ℕ) (ps : List Phrase) (f new : Linear) → AgreesOnAll g goal ps → prices_in g w s a ps f ≡ Ok new → (c : ℤ) × IsCoefficient goal (env_of w s) ps c × (c ≡ price_of goal w s ps)
+coefficient_is goal g w sets s a [] f new h e = (pos 0, refl, refl)
+coefficient_is goal g w sets s a (p ∷ ps) f new h e =
     ok_then (price_in g w s a p.body f) (prices_in g w s a ps) new e (λ z i j.
-    let first = term_is goal g w s a p.body f z h.0 i in
-    let rest = coefficient_is goal g w s a ps z new h.1 j in
+    let first = term_is goal g w sets s a p.body f z h.0 i in
+    let rest = coefficient_is goal g w sets s a ps z new h.1 j in
     (first.0 +ℤ rest.0, (first.0, rest.0, first.1, rest.1, refl), ap (λ (m : ℤ). m +ℤ rest.0) first.2 ∙ ap (λ (m : ℤ). price_in_goal goal w s p.body +ℤ m) rest.2))
 
 -- ---- an arc at a key
@@ -194,24 +195,24 @@ record IsRow (w : World) (s : Scope) (ps : List Phrase) (p : Parts) (x : Built) 
   to : IsEnd (env_of w s) (trees.phrase_value is_to ps) (written.end_of w s p.head)
   ended : IsTrue (is_some (written.end_of w s p.tail) || is_some (written.end_of w s p.head))
 
-ends_are : (ns : BuiltNodes) (w : World) (s : Scope) (ps : List Phrase) (p : Parts) (l u : ℤ) (x : Built) → AreParts (phrases.phrase_expression words.AtLeast ps) (phrases.phrase_expression words.AtMost ps) (phrases.phrase_expression words.From ps) (phrases.phrase_expression words.To ps) p
+ends_are : (ns : BuiltNodes) (w : World) → HasSets w → (s : Scope) (ps : List Phrase) (p : Parts) (l u : ℤ) (x : Built) → AreParts (phrases.phrase_expression words.AtLeast ps) (phrases.phrase_expression words.AtMost ps) (phrases.phrase_expression words.From ps) (phrases.phrase_expression words.To ps) p
     → number w s p.lower ≡ Ok l → number w s p.upper ≡ Ok u → l ≤ℤ u → with_ends ns w s p l u ≡ Ok x → IsRow w s ps p x
-ends_are ns w s ps p l u x are low high ordered e =
+ends_are ns w sets s ps p l u x are low high ordered e =
     ok_then (end_at ns w s p.tail) _ x e (λ t h i. ok_then (end_at ns w s p.head) _ x i (λ z j k.
     subst (IsRow w s ps p) (ok_is (record { lower = l; upper = u; tail = t; head = z }) x k) (record {
-      lower = subst (λ o. HasNumber (env_of w s) o l) (sym are.lower ∙ least_said ps) (number_is w s p.lower l low);
-      upper = subst (λ o. HasNumber (env_of w s) o u) (sym are.upper ∙ most_said ps) (number_is w s p.upper u high);
+      lower = subst (λ o. HasNumber (env_of w s) o l) (sym are.lower ∙ least_said ps) (number_is w sets s p.lower l low);
+      upper = subst (λ o. HasNumber (env_of w s) o u) (sym are.upper ∙ most_said ps) (number_is w sets s p.upper u high);
       ordered = ordered;
-      from = subst (λ o. IsEnd (env_of w s) o (written.end_of w s p.tail)) (are.tail ∙ from_said ps) (end_is ns w s p.tail t h);
-      to = subst (λ o. IsEnd (env_of w s) o (written.end_of w s p.head)) (are.head ∙ to_said ps) (end_is ns w s p.head z j);
+      from = subst (λ o. IsEnd (env_of w s) o (written.end_of w s p.tail)) (are.tail ∙ from_said ps) (end_is ns w sets s p.tail t h);
+      to = subst (λ o. IsEnd (env_of w s) o (written.end_of w s p.head)) (are.head ∙ to_said ps) (end_is ns w sets s p.head z j);
       ended =
-          ap (λ (b : Bool). b || is_some (written.end_of w s p.head)) (end_present (env_of w s) p.tail (written.end_of w s p.tail) (end_is ns w s p.tail t h))
-          ∙ ap (λ (b : Bool). is_some p.tail || b) (end_present (env_of w s) p.head (written.end_of w s p.head) (end_is ns w s p.head z j))
+          ap (λ (b : Bool). b || is_some (written.end_of w s p.head)) (end_present (env_of w s) p.tail (written.end_of w s p.tail) (end_is ns w sets s p.tail t h))
+          ∙ ap (λ (b : Bool). is_some p.tail || b) (end_present (env_of w s) p.head (written.end_of w s p.head) (end_is ns w sets s p.head z j))
           ∙ are.ended;
     })))
 
-row_is : (ns : BuiltNodes) (w : World) (n : Token) (k : Option ℕ) (ps : List Phrase) (p : Parts) (row : Row) (x : Built) → parts_of n ps ≡ Ok p → built ns w n k p row ≡ Ok x → IsRow w row.scope ps p x
-row_is ns w n k ps p row x parts e =
+row_is : (ns : BuiltNodes) (w : World) → HasSets w → (n : Token) (k : Option ℕ) (ps : List Phrase) (p : Parts) (row : Row) (x : Built) → parts_of n ps ≡ Ok p → built ns w n k p row ≡ Ok x → IsRow w row.scope ps p x
+row_is ns w sets n k ps p row x parts e =
     ok_then (number w row.scope p.lower) _ x e (λ l h i. ok_then (number w row.scope p.upper) (λ u. uncrossed l u) x i (λ u j m. go l u h j (int_lt u l) refl m))
   where
     uncrossed : ℤ → ℤ → Outcome Built
@@ -220,7 +221,7 @@ row_is ns w n k ps p row x parts e =
     go : (l u : ℤ) → number w row.scope p.lower ≡ Ok l → number w row.scope p.upper ≡ Ok u → (b : Bool) → int_lt u l ≡ b
         → (if b then rejected_of ArcCrossed n.span (reference n.text k row.key) else with_ends ns w row.scope p l u) ≡ Ok x → IsRow w row.scope ps p x
     go l u h j true f m = cc
-    go l u h j false f m = ends_are ns w row.scope ps p l u x (parts_are n (phrases.phrase_expression words.AtLeast ps) (phrases.phrase_expression words.AtMost ps) (phrases.phrase_expression words.From ps) (phrases.phrase_expression words.To ps) p parts) h j (search (arith, ints, f)) m
+    go l u h j false f m = ends_are ns w sets row.scope ps p l u x (parts_are n (phrases.phrase_expression words.AtLeast ps) (phrases.phrase_expression words.AtMost ps) (phrases.phrase_expression words.From ps) (phrases.phrase_expression words.To ps) p parts) h j (search (arith, ints, f)) m
 
 abbrev pub as_key : World → Row → Key
 as_key w row = record { key = row.key; env = env_of w row.scope }
@@ -265,16 +266,16 @@ pub record AreRows (goal : Name) (w : World) (n : Token) (b : Option Braces) (ps
   pub whole : new.arcs ≡ d.arcs ++ more
   pub bounds : AllZip HasBuiltBounds arcs more
 
-pub rows_are : (goal : Name) (g : Option ChosenObjective) (ns : BuiltNodes) (w : World) (n : Token) (b : Option Braces) (k : Option ℕ) (p : Parts) (ps : List Phrase) (rows : List Row) (d new : BuiltArcs) → AgreesOnAll g goal ps → parts_of n ps ≡ Ok p
+pub rows_are : (goal : Name) (g : Option ChosenObjective) (ns : BuiltNodes) (w : World) → HasSets w → (n : Token) (b : Option Braces) (k : Option ℕ) (p : Parts) (ps : List Phrase) (rows : List Row) (d new : BuiltArcs) → AgreesOnAll g goal ps → parts_of n ps ≡ Ok p
     → arcs_at g ns w n k p ps rows d ≡ Ok new → AreRows goal w n b ps p rows d new
-rows_are goal g ns w n b k p ps [] d new h parts e =
+rows_are goal g ns w sets n b k p ps [] d new h parts e =
     record { arcs = []; are = tt; same = tt; ended = tt; prices = tt; more = []; whole = ap (λ (z : BuiltArcs). z.arcs) (sym (ok_is d new e)) ∙ sym (append-nil d.arcs); bounds = tt }
-rows_are goal g ns w n b k p ps (row ∷ rows) d new h parts e =
+rows_are goal g ns w sets n b k p ps (row ∷ rows) d new h parts e =
     ok_then (next_arc g ns w n k p ps row d) (arcs_at g ns w n k p ps rows) new e (λ next i j.
     let one = next_arc_is g ns w n k p ps row d next i in
-    let rest = rows_are goal g ns w n b k p ps rows next new h parts j in
-    let by = row_is ns w n k ps p row one.arc parts one.is_built in
-    let c = coefficient_is goal g w row.scope (length d.arcs) ps d.form next.form h one.priced in
+    let rest = rows_are goal g ns w sets n b k p ps rows next new h parts j in
+    let by = row_is ns w sets n k ps p row one.arc parts one.is_built in
+    let c = coefficient_is goal g w sets row.scope (length d.arcs) ps d.form next.form h one.priced in
     record {
       arcs = made w n b p row one.arc c.0 ∷ rest.arcs;
       are = (is_arc goal w n b ps p row one.arc c.0 by c.1, rest.are);
@@ -288,10 +289,10 @@ rows_are goal g ns w n b k p ps (row ∷ rows) d new h parts e =
 
 -- ---- a declaration
 
-pub keys_are : (w : World) (b : Option Braces) (i : Indexing) → indexing_in w b ≡ Ok i → AreIndexed w b (map (as_key w) i.rows)
-keys_are w None i e = ap (λ (z : Indexing). map (as_key w) z.rows) (sym (ok_is alone i e))
-keys_are w (Some bs) i e =
-    ok_then (index w [] bs) (λ k. Ok (by_keys k)) i e (λ k h j. subst (λ (z : Indexing). AreKeys (env_of w []) bs (map (as_key w) z.rows)) (ok_is (by_keys k) i j) (keys_are_sound w [] bs k h))
+pub keys_are : (w : World) → HasSets w → (b : Option Braces) (i : Indexing) → indexing_in w b ≡ Ok i → AreIndexed w b (map (as_key w) i.rows)
+keys_are w sets None i e = ap (λ (z : Indexing). map (as_key w) z.rows) (sym (ok_is alone i e))
+keys_are w sets (Some bs) i e =
+    ok_then (index w [] bs) (λ k. Ok (by_keys k)) i e (λ k h j. subst (λ (z : Indexing). AreKeys (env_of w []) bs (map (as_key w) z.rows)) (ok_is (by_keys k) i j) (keys_are_sound w [] bs k sets h))
 
 -- the goal after an objective
 abbrev pub IsGoalAfter : Option Name → Token → Option ChosenObjective → Option ChosenObjective → Type 0

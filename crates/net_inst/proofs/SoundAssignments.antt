@@ -13,6 +13,7 @@ use Rattle.net_normal.specs.Assignments.{net_inflow, IsWithinBounds, IsInRange, 
 use Rattle.net_normal.specs.declared.instance.InstArc.{InstArc}
 use Rattle.net_normal.specs.declared.instance.NodeRange.{NodeRange}
 use Rattle.net_expr.specs.declared.row.Row.{Row}
+use Rattle.net_expr.specs.SetValues.{HasSets}
 use Rattle.net_expr.specs.Worlds.{Name, World}
 use Rattle.net_linear.specs.declared.condition.Sides.{Sides}
 use Rattle.net_linear.specs.Conditions.{Holds, sides_in, uncrossed}
@@ -32,10 +33,10 @@ use Rattle.net_inst.specs.Readings.{Objective, part_value, prices}
 use Rattle.net_inst.specs.Readings.{value_of as objective_value}
 use Rattle.net_inst.specs.Soundness.{IsSameNode, IsSameArc, HasBounds, IsRangeAt, AssignmentsAreSound}
 use Rattle.net_inst.proofs.Agreement.{IsFinished, network_is}
-use Rattle.net_inst.proofs.Aiming.{have_objective, objective_valued}
+use Rattle.net_inst.proofs.Aiming.{have_objective, objective_has, objective_valued}
 use Rattle.net_inst.proofs.Built.{HasRange}
 use Rattle.net_inst.proofs.Feasible.{amount_of, in_range_to, in_range_from, inflow_is, label_get, have_feasible}
-use Rattle.net_inst.proofs.KeysOnce.{are_distinct_in_sets}
+use Rattle.net_inst.proofs.KeysOnce.{front_has, are_distinct_in_sets}
 use Rattle.net_inst.proofs.Once.{all_join}
 use Rattle.net_inst.proofs.SoundEnds.{as_label}
 use Rattle.net_inst.proofs.SoundGrammar.{no_flows, condition_plain}
@@ -108,37 +109,38 @@ bounds_from (v ∷ xs) (a ∷ all) (i ∷ is) x same has ok h =
 
 -- ---- conditions
 
+-- a node has a condition of the grammar, and the declared sets before the node are sets
 abbrev HasCondition : written.Node → Type 0
-HasCondition v = IsCondition v.condition
+HasCondition v = IsCondition v.condition × HasSets v.env
 
-conditions_of : (w : World) (k : ℕ) (ds : List Declaration) → AreDeclarations ds → AllByRecursion HasCondition (in_order nodes_of w k ds)
-conditions_of w k [] h = tt
-conditions_of w k (set t n ps e ∷ ds) h = conditions_of w (k + 1) ds h.1
-conditions_of w k (param t n b ps e ∷ ds) h = conditions_of w (k + 1) ds h.1
-conditions_of w k (check t b m x e ∷ ds) h = conditions_of w k ds h.1
-conditions_of w k (arc t n b ps e ∷ ds) h = conditions_of w k ds h.1
-conditions_of w k (objective t n p e ∷ ds) h = conditions_of w k ds h.1
-conditions_of w k (node t n b c e ∷ ds) h =
-    all_join HasCondition (map (node_at_row (take k w) n b c) (rows_of (indexing_in (take k w) b))) (in_order nodes_of w k ds) (each (rows_of (indexing_in (take k w) b))) (conditions_of w k ds h.1)
+conditions_of : (w : World) → HasSets w → (k : ℕ) (ds : List Declaration) → AreDeclarations ds → AllByRecursion HasCondition (in_order nodes_of w k ds)
+conditions_of w sets k [] h = tt
+conditions_of w sets k (set t n ps e ∷ ds) h = conditions_of w sets (k + 1) ds h.1
+conditions_of w sets k (param t n b ps e ∷ ds) h = conditions_of w sets (k + 1) ds h.1
+conditions_of w sets k (check t b m x e ∷ ds) h = conditions_of w sets k ds h.1
+conditions_of w sets k (arc t n b ps e ∷ ds) h = conditions_of w sets k ds h.1
+conditions_of w sets k (objective t n p e ∷ ds) h = conditions_of w sets k ds h.1
+conditions_of w sets k (node t n b c e ∷ ds) h =
+    all_join HasCondition (map (node_at_row (take k w) n b c) (rows_of (indexing_in (take k w) b))) (in_order nodes_of w k ds) (each (rows_of (indexing_in (take k w) b))) (conditions_of w sets k ds h.1)
   where
     each : (rows : List Row) → AllByRecursion HasCondition (map (node_at_row (take k w) n b c) rows)
     each [] = tt
-    each (row ∷ rows) = (h.0.3, each rows)
+    each (row ∷ rows) = ((h.0.3, front_has k w sets), each rows)
 
 -- a node's condition is true in the model exactly when its form holds
-one_condition : (n : written.Node) (v : meaning.Node) (r : Sides) (y : ℤ) → IsSameNode n v → IsCondition n.condition → HasRange n r → IsSatisfied v.env v.condition y ↔ Holds n.env n.scope n.condition y
+one_condition : (n : written.Node) (v : meaning.Node) (r : Sides) (y : ℤ) → IsSameNode n v → HasCondition n → HasRange n r → IsSatisfied v.env v.condition y ↔ Holds n.env n.scope n.condition y
 one_condition n v r y same good range =
     ok_then (sides_in n.env n.scope n.condition) (λ s. Ok (uncrossed s)) (Some r) range.is (λ s i j.
     subst (λ e. IsSatisfied e v.condition y ↔ Holds n.env n.scope n.condition y) (sym same.env)
     (subst (λ c. IsSatisfied (env_of n.env n.scope) c y ↔ Holds n.env n.scope n.condition y) (sym same.condition)
-    (conditions_are_sound no_flows n.env n.scope n.condition s y (condition_plain y n.condition good) i)))
+    (conditions_are_sound no_flows n.env n.scope n.condition s y good.1 (condition_plain y n.condition good.0) i)))
 
 -- the sides of a node's condition have numbers
-one_has_sides : (n : written.Node) (v : meaning.Node) (r : Sides) (y : ℤ) → IsSameNode n v → IsCondition n.condition → HasRange n r → HasSides (with_inflow v.env y) v.condition
+one_has_sides : (n : written.Node) (v : meaning.Node) (r : Sides) (y : ℤ) → IsSameNode n v → HasCondition n → HasRange n r → HasSides (with_inflow v.env y) v.condition
 one_has_sides n v r y same good range =
     ok_then (sides_in n.env n.scope n.condition) (λ s. Ok (uncrossed s)) (Some r) range.is (λ s i j.
     subst (λ e. HasSides (with_inflow e y) v.condition) (sym same.env)
-    (subst (λ c. HasSides (with_inflow (env_of n.env n.scope) y) c) (sym same.condition) (sides_have_numbers no_flows n.env n.scope n.condition s y (condition_plain y n.condition good) i)))
+    (subst (λ c. HasSides (with_inflow (env_of n.env n.scope) y) c) (sym same.condition) (sides_have_numbers no_flows n.env n.scope n.condition s y good.1 (condition_plain y n.condition good.0) i)))
 
 all_have_sides : (y : ℤ) (ns : List written.Node) (vs : List meaning.Node) (rs : List Sides) → AllZip IsSameNode ns vs → AllByRecursion HasCondition ns → AllZip HasRange ns rs → AllByRecursion (λ (v : meaning.Node). HasSides (with_inflow v.env y) v.condition) vs
 all_have_sides y [] [] rs same good ranges = tt
@@ -159,7 +161,7 @@ module _ (xs : List written.Arc) (all : List meaning.Arc) (x : meaning.Assignmen
   abbrev Satisfied : meaning.Node → Type 0
   Satisfied v = IsSatisfied v.env v.condition (meaning.net_inflow all x v.label)
 
-  node_alike : (n : written.Node) (v : meaning.Node) (r : Sides) → IsSameNode n v → IsCondition n.condition → HasRange n r → Satisfied v ↔ IsMet xs x n
+  node_alike : (n : written.Node) (v : meaning.Node) (r : Sides) → IsSameNode n v → HasCondition n → HasRange n r → Satisfied v ↔ IsMet xs x n
   node_alike n v r same good range =
       subst (λ y. IsSatisfied v.env v.condition y ↔ IsMet xs x n) (sym (ap (meaning.net_inflow all x) (label_is n v same) ∙ inflow_same xs all x n.label arcs)) (one_condition n v r (written.net_inflow xs x n.label) same good range)
 
@@ -201,7 +203,7 @@ record IsFoundAt (ns : List written.Node) (v : meaning.Node) (rs : List Sides) (
   node : written.Node
   at : slice_get ns i ≡ Some node
   same : IsSameNode node v
-  good : IsCondition node.condition
+  good : HasCondition node
   sides : Sides
   has : HasRange node sides
   range : NodeRange
@@ -231,11 +233,11 @@ condition_alike ns v rs ranges i f y =
 
 -- ---- feasible assignments
 
-pub feasible_alike : (w : World) (ds : List Declaration) (vs : List meaning.Node) (all : List meaning.Arc) (rs : List Sides) (is : List InstArc) (x : meaning.Assignment) → AreDeclarations ds → AllZip IsSameNode (written.nodes w ds) vs → AllZip IsSameArc (written.arcs w ds) all
+pub feasible_alike : (w : World) (ds : List Declaration) (vs : List meaning.Node) (all : List meaning.Arc) (rs : List Sides) (is : List InstArc) (x : meaning.Assignment) → HasSets w → AreDeclarations ds → AllZip IsSameNode (written.nodes w ds) vs → AllZip IsSameArc (written.arcs w ds) all
     → AllZip HasRange (written.nodes w ds) rs → AllZip HasBounds all is → AllZip IsBoundedAs (written.arcs w ds) is → meaning.IsFeasible vs all x ↔ written.IsFeasible (written.nodes w ds) (written.arcs w ds) x
-feasible_alike w ds vs all rs is x good nodes arcs ranges has ok = (
-  (λ h. record { bounds = bounds_to (written.arcs w ds) all is x arcs has ok h.bounds; conditions = conditions_to (written.arcs w ds) all x arcs (written.nodes w ds) vs rs nodes (conditions_of w 0 ds good) ranges h.conditions }),
-  (λ h. record { bounds = bounds_from (written.arcs w ds) all is x arcs has ok h.bounds; conditions = conditions_from (written.arcs w ds) all x arcs (written.nodes w ds) vs rs nodes (conditions_of w 0 ds good) ranges h.conditions }),
+feasible_alike w ds vs all rs is x sets good nodes arcs ranges has ok = (
+  (λ h. record { bounds = bounds_to (written.arcs w ds) all is x arcs has ok h.bounds; conditions = conditions_to (written.arcs w ds) all x arcs (written.nodes w ds) vs rs nodes (conditions_of w sets 0 ds good) ranges h.conditions }),
+  (λ h. record { bounds = bounds_from (written.arcs w ds) all is x arcs has ok h.bounds; conditions = conditions_from (written.arcs w ds) all x arcs (written.nodes w ds) vs rs nodes (conditions_of w sets 0 ds good) ranges h.conditions }),
 )
 
 expression_unique : (e : Env) (p : Clause) (k m : ℤ) → IsExpressionValue e p k → IsExpressionValue e p m → k ≡ m
@@ -246,7 +248,7 @@ pub assignments_are_sound : AssignmentsAreSound
 assignments_are_sound requested w ds n sets names good e = record {
     has = found.has;
     evaluated = record {
-      conditions = λ y. all_have_sides y (written.nodes w ds) found.has.nodes f.drawing.nodes.ranges found.has.same_nodes (conditions_of w 0 ds good) all_ranges;
+      conditions = λ y. all_have_sides y (written.nodes w ds) found.has.nodes f.drawing.nodes.ranges found.has.same_nodes (conditions_of w sets 0 ds good) all_ranges;
       objective = λ x. (value_of n.instance (map (meaning.flow_on x) found.has.arcs), (value x _).1 refl);
       alike = λ x y m same h. (value y m).1 ((value x m).0 h ∙ ap (value_of n.instance) same);
     };
@@ -275,7 +277,7 @@ assignments_are_sound requested w ds n sets names good e = record {
     ranges i v at = (one.range, one.range_at, λ x. subst (λ y. IsSatisfiedBy found.has.arcs x v ↔ IsInRange one.range y) (inflow x) (condition_alike (written.nodes w ds) v f.drawing.nodes.ranges n.instance.nodes.items i one (meaning.net_inflow found.has.arcs x v.label)))
       where
         one : IsFoundAt (written.nodes w ds) v f.drawing.nodes.ranges n.instance.nodes.items i
-        one = found_at i (written.nodes w ds) found.has.nodes f.drawing.nodes.ranges n.instance.nodes.items v found.has.same_nodes (conditions_of w 0 ds good) all_ranges (have_exact_ranges requested w ds (seen_as n) e) at
+        one = found_at i (written.nodes w ds) found.has.nodes f.drawing.nodes.ranges n.instance.nodes.items v found.has.same_nodes (conditions_of w sets 0 ds good) all_ranges (have_exact_ranges requested w ds (seen_as n) e) at
 
         inflow : (x : meaning.Assignment) → meaning.net_inflow found.has.arcs x v.label ≡ net_inflow n.instance.arcs.items (map (meaning.flow_on x) found.has.arcs) i
         inflow x =
@@ -286,7 +288,7 @@ assignments_are_sound requested w ds n sets names good e = record {
 
     feasible : (x : meaning.Assignment) → meaning.IsFeasible found.has.nodes found.has.arcs x ↔ IsFeasibleAssignment n.instance (map (meaning.flow_on x) found.has.arcs)
     feasible x =
-        let alike = feasible_alike w ds found.has.nodes found.has.arcs f.drawing.nodes.ranges n.instance.arcs.items x good found.has.same_nodes found.has.same_arcs all_ranges found.has.bounds (have_bounds requested w ds (seen_as n) e) in
+        let alike = feasible_alike w ds found.has.nodes found.has.arcs f.drawing.nodes.ranges n.instance.arcs.items x sets good found.has.same_nodes found.has.same_arcs all_ranges found.has.bounds (have_bounds requested w ds (seen_as n) e) in
         let by_number = have_feasible requested w ds n e apart x in (
           (λ h. subst (IsFeasibleAssignment n.instance) (sym (flows x)) (by_number.0 (alike.0 h))),
           (λ h. alike.1 (by_number.1 (subst (IsFeasibleAssignment n.instance) (flows x) h))),
@@ -314,7 +316,7 @@ assignments_are_sound requested w ds n sets names good e = record {
 
     value : (x : meaning.Assignment) (m : ℤ) → meaning.HasValue found.has.objective found.has.arcs x m ↔ (m ≡ value_of n.instance (map (meaning.flow_on x) found.has.arcs))
     value x m =
-        let valued = objective_valued requested w ds (seen_as n) e p found.is_chosen apart.arcs x in
+        let valued = objective_valued requested w ds (seen_as n) e p found.is_chosen (objective_has requested w ds sets p found.is_chosen) apart.arcs x in
         subst (λ (o : meaning.Objective). meaning.HasValue o found.has.arcs x m ↔ (m ≡ value_of n.instance (map (meaning.flow_on x) found.has.arcs))) (sym found.same) (
           (λ h. h.2 ∙ ap (λ (k : ℤ). k +ℤ meaning.coefficient_terms found.has.arcs x) (expression_unique _ (clause p.expression) h.0 (phrase_expression x) h.1 valued) ∙ sym (whole x)),
           (λ k. (phrase_expression x, valued, k ∙ whole x)),

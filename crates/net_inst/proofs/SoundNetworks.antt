@@ -30,7 +30,7 @@ use Rattle.net_inst.specs.Readings.{Objective, objectives, chosen}
 use Rattle.net_inst.specs.Soundness.{NameObjectives, IsSameNode, IsSameArc, HasBounds, IsNamedOnce, HasNetwork, NetworksAreSound}
 use Rattle.net_inst.proofs.Agreement.{with_arcs_is, network_is}
 use Rattle.net_inst.proofs.Aiming.{have_objective}
-use Rattle.net_inst.proofs.KeysOnce.{are_distinct_in_sets}
+use Rattle.net_inst.proofs.KeysOnce.{front_has, are_distinct_in_sets}
 use Rattle.net_inst.proofs.Once.{all_join}
 use Rattle.net_inst.proofs.SoundArcs.{AgreesOnAll, as_key, HasPrice, HasBuiltBounds, rows_are, keys_are, IsNextGoal}
 use Rattle.net_inst.proofs.SoundEnds.{HasEnd, nodes_apart, arcs_apart, ends_are_nodes}
@@ -89,22 +89,22 @@ abbrev PhrasesAgree : Option ChosenObjective → Name → Declaration → Type 0
 PhrasesAgree g goal (arc t n b ps e) = AgreesOnAll g goal ps
 PhrasesAgree g goal _ = ⊤
 
-step : (wanted : Option Name) (goal : Name) (w : World) (x : Declaration) (d new : Drawing) → PhrasesAgree d.goal goal x → declare wanted w x d ≡ Ok new → IsStep goal w x d new
-step wanted goal w (set t n ps z) d new h e =
+step : (wanted : Option Name) (goal : Name) (w : World) → HasSets w → (x : Declaration) (d new : Drawing) → PhrasesAgree d.goal goal x → declare wanted w x d ≡ Ok new → IsStep goal w x d new
+step wanted goal w sets (set t n ps z) d new h e =
     let same = sym (ok_is (known_more d) new e) in idle goal w (set t n ps z) d new refl refl refl refl (ap (λ (y : Drawing). y.arcs.arcs) same) (ap (λ (y : Drawing). y.known) same)
-step wanted goal w (param t n b ps z) d new h e =
+step wanted goal w sets (param t n b ps z) d new h e =
     let same = sym (ok_is (known_more d) new e) in idle goal w (param t n b ps z) d new refl refl refl refl (ap (λ (y : Drawing). y.arcs.arcs) same) (ap (λ (y : Drawing). y.known) same)
-step wanted goal w (check t b m x z) d new h e =
+step wanted goal w sets (check t b m x z) d new h e =
     let same = sym (ok_is d new e) in idle goal w (check t b m x z) d new refl refl refl refl (ap (λ (y : Drawing). y.arcs.arcs) same) (ap (λ (y : Drawing). y.known) same)
-step wanted goal w (objective t n p z) d new h e = let by = aimed_is wanted (env w d) t n p d new e in idle goal w (objective t n p z) d new refl refl refl refl (sym by.built) by.known
-step wanted goal w (node t n b c z) d new h e =
+step wanted goal w sets (objective t n p z) d new h e = let by = aimed_is wanted (env w d) t n p d new e in idle goal w (objective t n p z) d new refl refl refl refl (sym by.built) by.known
+step wanted goal w sets (node t n b c z) d new h e =
     ok_then (with_nodes (env w d) n b c d.nodes) (λ ns. Ok (nodes_more d ns)) new e (λ ns i j.
     ok_then (indexing_in (env w d) b) (nodes_by (env w d) n c d.nodes) ns i (λ x k l.
     let same = sym (ok_is (nodes_more d ns) new j) in
     record {
       nodes = map (node_made (env w d) n b c) x.rows;
       arcs = [];
-      are_nodes = (map (as_key (env w d)) x.rows, keys_are (env w d) b x k, nodes_are (env w d) n b c x.rows);
+      are_nodes = (map (as_key (env w d)) x.rows, keys_are (env w d) (front_has d.known w sets) b x k, nodes_are (env w d) n b c x.rows);
       are_arcs = refl;
       same_nodes = subst (λ (o : Outcome Indexing). AllZip IsSameNode (map (node_at_row (env w d) n b c) (rows_of o)) (map (node_made (env w d) n b c) x.rows)) (sym k) (nodes_same (env w d) n b c x.rows);
       same_arcs = tt;
@@ -115,10 +115,10 @@ step wanted goal w (node t n b c z) d new h e =
       bounds = tt;
       known = ap (λ (y : Drawing). y.known) same;
     }))
-step wanted goal w (arc t n b ps z) d new h e =
+step wanted goal w sets (arc t n b ps z) d new h e =
     ok_then (with_arcs d.goal d.nodes (env w d) n b ps d.arcs) (λ xs. Ok (arcs_more d xs)) new e (λ xs i j.
     let by = with_arcs_is d.goal d.nodes (env w d) n b ps d.arcs xs i in
-    let rows = rows_are goal d.goal d.nodes (env w d) n b by.indexing.count by.parts ps by.indexing.rows d.arcs by.found h by.says by.are_found in
+    let rows = rows_are goal d.goal d.nodes (env w d) (front_has d.known w sets) n b by.indexing.count by.parts ps by.indexing.rows d.arcs by.found h by.says by.are_found in
     let same = sym (ok_is (arcs_more d xs) new j) in
     let here : arcs_with (env w d) n b ps (parts_of n ps) ≡ map (arc_at_row (env w d) n b ps by.parts) by.indexing.rows =
     ap (arcs_with (env w d) n b ps) by.says ∙ ap (λ (rows : List Row). map (arc_at_row (env w d) n b ps by.parts) rows) (ap rows_of by.keys) in
@@ -126,7 +126,7 @@ step wanted goal w (arc t n b ps z) d new h e =
       nodes = [];
       arcs = rows.arcs;
       are_nodes = refl;
-      are_arcs = (map (as_key (env w d)) by.indexing.rows, keys_are (env w d) b by.indexing by.keys, rows.are);
+      are_arcs = (map (as_key (env w d)) by.indexing.rows, keys_are (env w d) (front_has d.known w sets) b by.indexing by.keys, rows.are);
       same_nodes = tt;
       same_arcs = subst (λ (l : List written.Arc). AllZip IsSameArc l rows.arcs) (sym here) rows.same;
       ended = rows.ended;
@@ -222,9 +222,9 @@ ready_next wanted before goal (check t b m x e) g h same last r j = subst (IsRea
 ready_next wanted before goal (node t n b c e) g h same last r j = subst (IsReady before goal) (sym j) r
 ready_next wanted before goal (arc t n b ps e) g h same last r j = subst (IsReady before goal) (sym j) r
 
-walk : (wanted : Option Name) (goal : Name) (w : World) (ds : List Declaration) (before : List Name) (d new : Drawing) → NameObjectives before ds → IsReady before goal d.goal → IsAim wanted goal new
+walk : (wanted : Option Name) (goal : Name) (w : World) → HasSets w → (ds : List Declaration) (before : List Name) (d new : Drawing) → NameObjectives before ds → IsReady before goal d.goal → IsAim wanted goal new
     → draw wanted w ds d ≡ Ok new → IsWalk goal w d.known ds d new
-walk wanted goal w [] before d new h r aim e = record {
+walk wanted goal w sets [] before d new h r aim e = record {
   nodes = [];
   arcs = [];
   are_nodes = refl;
@@ -237,13 +237,13 @@ walk wanted goal w [] before d new h r aim e = record {
   whole = ap (λ (y : Drawing). y.arcs.arcs) (sym (ok_is d new e)) ∙ sym (append-nil d.arcs.arcs);
   bounds = tt;
 }
-walk wanted goal w (x ∷ xs) before d new h r aim e =
+walk wanted goal w sets (x ∷ xs) before d new h r aim e =
     ok_then (declare wanted w x d) (draw wanted w xs) new e (λ next i j.
-    let one = step wanted goal w x d next (agrees_after before goal d.goal x xs h r) i in
+    let one = step wanted goal w sets x d next (agrees_after before goal d.goal x xs h r) i in
     let last : (z : ChosenObjective) → wanted ≡ None → next.goal ≡ Some z → z.name ≡ goal = (λ z q k.
     ap (λ (y : ChosenObjective). y.name) (some_is z aim.final (sym (only_goal w xs next new z k (subst (λ (o : Option Name). draw o w xs next ≡ Ok new) q j)) ∙ aim.has)) ∙ aim.named) in
     let ready = ready_next wanted before goal x d.goal next.goal aim.requested last r (next_goal wanted w x d next i) in
-    let rest = walk wanted goal w xs (before_after before x) next new (names_after before x xs h) ready aim j in
+    let rest = walk wanted goal w sets xs (before_after before x) next new (names_after before x xs h) ready aim j in
     joined goal w x xs d next new one (subst (λ (k : ℕ). IsWalk goal w k xs next new) one.known rest))
 
 -- ---- the law
@@ -268,7 +268,7 @@ network_found requested w ds n sets names e =
     let named : (m : Name) → requested ≡ Some m → m ≡ f.goal.name = (λ m q.
     named_goal m w ds nothing f.drawing (λ z k. absurd (none_is z k)) (subst (λ (o : Option Name). draw o w ds nothing ≡ Ok f.drawing) q f.is_built) f.goal f.has_objective) in
     let aim : IsAim requested f.goal.name f.drawing = record { requested = named; final = f.goal; has = f.has_objective; named = refl } in
-    let found = walk requested f.goal.name w ds [] nothing f.drawing names.priced (λ m l. absurd l) aim f.is_built in
+    let found = walk requested f.goal.name w sets ds [] nothing f.drawing names.priced (λ m l. absurd l) aim f.is_built in
     let aims = have_objective requested w ds n e in
     let apart = are_distinct_in_sets w ds sets (nodes_once ds names.once) (arcs_once ds names.once) in
     let goal : f.goal.name ≡ aims.0.name = ap (λ (z : Network). z.names.objective) f.whole ∙ aims.2.name in

@@ -6,6 +6,7 @@ use Rattle.std.proofs.Common.{refl, ap, sym, ◌∙◌, subst}
 use Rattle.net_fault.specs.declared.span.Span.{Span}
 use Rattle.net_sets.specs.Sets.{Tuple}
 use Rattle.net_tree.specs.Tree.{Part, absent, part}
+use Rattle.net_expr.specs.SetValues.{HasSets}
 use Rattle.net_expr.specs.Worlds.{Name, World}
 use Rattle.net_linear.specs.declared.arc.ArcKeys.{ArcKeys}
 use Rattle.net_linear.specs.Arcs.{declared, is_arc, arc_at}
@@ -64,14 +65,14 @@ reads_arcs a ds all x alike reads = record {
     pick : Name → Bool → Option (Tuple → ℤ)
     pick n b = if b then Some (x n) else None
 
-pub said_means : (a : Numbers) (ds : List Declared) (all : List Arc) (x : Assignment) (w : World) (p : Part) (f : Linear) → NameAlike a (map name_alone ds) → ReadAlike a (by_place all x) x → part_form a w p ≡ Ok f
+pub said_means : (a : Numbers) (ds : List Declared) (all : List Arc) (x : Assignment) (w : World) (p : Part) (f : Linear) → HasSets w → NameAlike a (map name_alone ds) → ReadAlike a (by_place all x) x → part_form a w p ≡ Ok f
     → IsExpressionValue (with_arcs (env_of w []) (names_back ds []) x) p (part_value ds w p x)
-said_means a ds all x w absent f alike reads e = refl
-said_means a ds all x w (part m t) f alike reads e =
+said_means a ds all x w absent f sets alike reads e = refl
+said_means a ds all x w (part m t) f sets alike reads e =
     subst (λ (n : ℤ). IsValue (env_with (flows_of ds x) (pos 0) w []) t (values.number n)) (said_is a ds (by_place all x) x w (part m t) f alike reads e)
-    (objectives_are_sound a (by_place all x) (flows_of ds x) w [] t f (reads_arcs a ds all x alike reads) e)
+    (objectives_are_sound a (by_place all x) (flows_of ds x) w [] t f sets (reads_arcs a ds all x alike reads) e)
 
--- the objective's own expression has its value at each assignment
+-- if the declared sets before it are sets, the objective's own expression has its value at each assignment
 abbrev pub IsValued : List Arc → Option Objective → Type 0
 IsValued all None = ⊤
-IsValued all (Some o) = IsDistinct same_label (arc_labels all) → (x : Assignment) → IsExpressionValue (with_arcs (env_of o.env []) (names_back o.before []) x) o.expression (part_value o.before o.env o.expression x)
+IsValued all (Some o) = HasSets o.env → IsDistinct same_label (arc_labels all) → (x : Assignment) → IsExpressionValue (with_arcs (env_of o.env []) (names_back o.before []) x) o.expression (part_value o.before o.env o.expression x)
