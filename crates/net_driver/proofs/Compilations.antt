@@ -1,6 +1,7 @@
 -- Compiled models and answers are those of the network that the two inputs mean.
 use Rattle.std.specs.Prelude.{◌≡◌, ℕ, Bool, List, [], ◌∷◌, ◌++◌, map, Option}
-use Rattle.std.specs.List.{AllZip, flat_map}
+use Rattle.std.specs.List.{AllZip, IsDistinct, flat_map}
+use Rattle.std.specs.Str.{bytes_eq}
 use Rattle.std.proofs.Common.{refl, ap, sym, ◌∙◌, subst}
 use Rattle.net_tree.specs.Erasure.{declaration, declarations}
 use Rattle.net_tree.specs.Tree.{Declaration, set, param, check, node, arc, objective}
@@ -12,6 +13,7 @@ use Rattle.net_eval.specs.Soundness.{WorldsAreSound}
 use Rattle.net_meaning.specs.Network as meaning
 use Rattle.net_meaning.specs.Network.{IsNetwork, IsEvaluated}
 use Rattle.net_meaning.specs.Represents.{Represents}
+use Rattle.net_meaning.specs.World.{names_in}
 use Rattle.net_meaning.proofs.Erased.{indexed_is}
 use Rattle.net_inst.specs.AsWritten as written
 use Rattle.net_inst.specs.AsWritten.{nodes, arcs}
@@ -19,6 +21,7 @@ use Rattle.net_inst.specs.Instances.{seen_as}
 use Rattle.net_inst.specs.Laws.{AreNames, HaveFeasible, HaveObjective}
 use Rattle.net_inst.specs.Readings.{Objective}
 use Rattle.net_inst.specs.Represented.{ProblemsRepresent}
+use Rattle.net_inst.specs.Soundness as once
 use Rattle.net_inst.specs.Soundness.{IsSameNode, IsSameArc, HasNetwork, AssignmentsAreSound}
 use Rattle.net_driver.specs.declared.answer.Outcome.{Outcome}
 use Rattle.net_driver.specs.declared.answer.Outcome.TheVariants.{Displayed, Infeasible}
@@ -80,6 +83,15 @@ arcs_are_declared (d ∷ ds) = ap (λ names. names ++ flat_map arc_declared (dec
     one (node t n b c e) = refl
     one (objective t n p e) = refl
 
+names_are : (ds : List Declaration) → names_in (declarations ds) ≡ once.names_in ds
+names_are [] = refl
+names_are (set t n ps e ∷ ds) = ap (λ ns. n.text ∷ ns) (names_are ds)
+names_are (param t n b ps e ∷ ds) = ap (λ ns. n.text ∷ ns) (names_are ds)
+names_are (check t b m x e ∷ ds) = names_are ds
+names_are (node t n b c e ∷ ds) = ap (λ ns. n.text ∷ ns) (names_are ds)
+names_are (arc t n b ps e ∷ ds) = ap (λ ns. n.text ∷ ns) (names_are ds)
+names_are (objective t n p e ∷ ds) = ap (λ ns. n.text ∷ ns) (names_are ds)
+
 -- ---- compiled models
 
 module _ (represent : ProblemsRepresent) (worlds : WorldsAreSound) (models : model_laws.IsComplete) (data_files : data_laws.IsComplete) where
@@ -98,6 +110,7 @@ module _ (represent : ProblemsRepresent) (worlds : WorldsAreSound) (models : mod
           read = h.accepts.model.read;
           derived = subst (λ ts. IsModel (declarations h.declarations) ts) h.accepts.model.means.printed (models h.declarations h.accepts.model.means.level);
         };
+        names_once = subst (IsDistinct bytes_eq) (sym (names_are h.declarations)) (names_of lean wanted m d c h).once;
         tables = h.accepts.tables;
         data_statements = record {
           tokens = h.accepts.statements.tokens;

@@ -2,7 +2,8 @@
 -- Challenge, minimum-cost flow). The meaning of sets, parameters, expressions and networks is that of net_meaning, which has no errors and no
 -- defaults; no definition of the code's evaluation is cited.
 use Rattle.std.specs.Prelude.{◌≡◌, ℕ, List, [], ◌∷◌, ◌++◌, map, Option, is_some, length, ℤ}
-use Rattle.std.specs.List.{flat_map}
+use Rattle.std.specs.List.{flat_map, IsDistinct}
+use Rattle.std.specs.Str.{bytes_eq}
 use Rattle.net_lex.specs.Lexing.{AreTokensOf}
 use Rattle.net_lex.specs.declared.token.Token.{Token}
 use Rattle.net_tree.specs.Syntax.{Declaration, node, arc}
@@ -20,7 +21,7 @@ use Rattle.net_inst.specs.declared.names.Names.{Names}
 use Rattle.net_inst.specs.Laws.{AreNames}
 use Rattle.net_meaning.specs.Network.{Label, Node, Arc, Objective, Assignment, IsNetwork, IsEvaluated, IsFeasible, HasValue}
 use Rattle.net_meaning.specs.Represents.{Represents, by_label}
-use Rattle.net_meaning.specs.World.{IsWorld}
+use Rattle.net_meaning.specs.World.{names_in, IsWorld}
 use Rattle.net_report.specs.Cuts.{cut_text}
 use Rattle.net_report.specs.Displays.{display_of_all}
 use Rattle.net_report.specs.Links.{link_text}
@@ -44,12 +45,13 @@ pub record ContainsData (text : List ℕ) (tables : Tables) : Type 0 where
   pub read : AreTokensOf languages.Data text tokens
   pub derived : IsDataFile tables tokens
 
--- The two inputs mean this network. The model contains these declarations, and the data these statements. Together they give each set its
--- members and each parameter its values: this is the world. In it the declarations have these nodes, arcs and objective, which is the
--- requested one, or the only one, and nothing in this network is without a value.
+-- The two inputs mean this network. The model contains these declarations, in which no name is declared twice, and the data these statements.
+-- Together they give each set its members and each parameter its values: this is the world. In it the declarations have these nodes, arcs and
+-- objective, which is the requested one, or the only one, and nothing in this network is without a value.
 pub record MeanNetwork (requested : Option Name) (model_text data_text : List ℕ) (vs : List Node) (all : List Arc) (o : Objective) : Type 0 where
   pub declarations : List Declaration
   pub model : ContainsModel model_text declarations
+  pub names_once : IsDistinct bytes_eq (names_in declarations)
   pub tables : Tables
   pub data_statements : ContainsData data_text tables
   pub world : World

@@ -1,6 +1,6 @@
 -- The value of a bound parameter at a key comes from the source that AMPL defines, and satisfies the parameter's phrases.
 use Rattle.std.specs.Prelude.{◌≡◌, ◌+◌, ◌<◌, ◌≤◌, ◌||◌, ℕ, zero, suc, Bool, true, false, cond, List, [], ◌∷◌, ◌++◌, length, map, take, is_some, Option, None, Some, if◌then◌else◌, Ok, Err}
-use Rattle.std.specs.List.{AllByRecursion, AllZip, Contains, cons_option}
+use Rattle.std.specs.List.{AllByRecursion, AllZip, Contains, cons_option, list_any}
 use Rattle.std.specs.Option.{ForSome}
 use Rattle.std.proofs.Common.{refl, ap, sym, ◌∙◌, subst, arith}
 use Rattle.std.proofs.lemmas.List.{length-map, length-take, take_all}
@@ -23,6 +23,7 @@ use Rattle.net_tree.specs.Erasure.{expression}
 use Rattle.net_tree.specs.Phrases.{is_becomes, is_default}
 use Rattle.net_tree.specs.Role.{role_of}
 use Rattle.net_tree.specs.Spans.{span_of}
+use Rattle.net_tree.specs.Syntax as forms
 use Rattle.net_tree.specs.Tree.{Tree, Body, plain, valued, priced, Phrase}
 use Rattle.net_expr.specs.declared.row.Row.{Row}
 use Rattle.net_expr.specs.declared.value.Value.{Value}
@@ -84,7 +85,7 @@ symbolic_is (roles.Phrase begins.Symbolic) = refl
 symbolic_is (roles.Phrase _) = refl
 symbolic_is _ = refl
 
-texts_are : (ps : List Phrase) → takes_texts ps ≡ world.is_symbolic (map erased.phrase ps)
+texts_are : (ps : List Phrase) → takes_texts ps ≡ list_any (λ (p : forms.Phrase). world.is_symbolic_word p.word) (map erased.phrase ps)
 texts_are [] = refl
 texts_are (p ∷ ps) = ap (λ b. b || takes_texts ps) (symbolic_is (role_of p.word)) ∙ ap (λ b. world.is_symbolic_word (role_of p.word) || b) (texts_are ps)
 

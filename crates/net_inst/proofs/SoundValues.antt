@@ -1,6 +1,6 @@
 -- The value that the expression of an objective has at an assignment is what the code's form of it comes to.
 use Rattle.std.specs.Prelude.{◌≡◌, ◌||◌, ℕ, Bool, true, false, List, [], ◌∷◌, map, Option, None, Some, is_some, if◌then◌else◌, Ok, ⊤, ℤ, pos}
-use Rattle.std.specs.List.{IsDistinct}
+use Rattle.std.specs.List.{IsDistinct, list_any}
 use Rattle.std.specs.Str.{bytes_eq}
 use Rattle.std.proofs.Common.{refl, ap, sym, ◌∙◌, subst}
 use Rattle.net_fault.specs.declared.span.Span.{Span}
@@ -14,7 +14,7 @@ use Rattle.net_linear.specs.Forms.{Linear}
 use Rattle.net_linear.specs.Soundness.{ReadsArcs}
 use Rattle.net_linear.proofs.ObjectivesSound.{objectives_are_sound}
 use Rattle.net_meaning.specs.OfTrees.{IsExpressionValue, IsValue}
-use Rattle.net_meaning.specs.Network.{is_listed, with_arcs}
+use Rattle.net_meaning.specs.Network.{with_arcs}
 use Rattle.net_meaning.specs.Operators as values
 use Rattle.net_meaning.specs.Values.{env_of, env_with}
 use Rattle.net_inst.specs.declared.names.Declared.{Declared}
@@ -27,6 +27,10 @@ use Rattle.net_inst.proofs.Labels.{NameAlike}
 use Rattle.net_inst.proofs.ReadingLaws.{ReadAlike}
 use Rattle.net_inst.proofs.SoundObjectives.{names_back}
 use Rattle.net_inst.proofs.Valued.{by_place, said_is}
+
+-- the name is in the list
+abbrev is_listed : List Name → Name → Bool
+is_listed names n = list_any (λ (m : Name). bytes_eq m n) names
 
 -- the names in which an assignment's flows are read
 abbrev flows_of : List Declared → Assignment → Name → Option (Tuple → ℤ)

@@ -29,6 +29,7 @@ use Rattle.net_meaning.specs.Operators as results
 use Rattle.net_meaning.specs.Operators.{Value, One, Several, Many, Truth, number, IsTuple, IsResult, HaveOneDimension, at_most}
 use Rattle.net_meaning.specs.Values.{Env, Key, env_of, start, bind, a_set, dummy, AreListed, IsValue, AreKeys, Extends}
 use Rattle.net_meaning.specs.Network.{Arc, IsArc, name, IsSatisfied, with_inflow, Objective, Assignment, HasValue}
+use Rattle.net_meaning.specs.World.{AreWhole}
 use Rattle.net_meaning.proofs.Naming.{numeral_is}
 use Rattle.net_meaning.proofs.Unique.{values_are_unique}
 
@@ -145,6 +146,11 @@ not_listed keys (u, us, ts, first, more, zip, h, e) =
     listed (t ∷ []) z h = z.1
     listed (t ∷ s ∷ r ∷ ts) z h = z.1.1
     listed (t ∷ s ∷ []) (results.one m, (results.several p, end)) h = differ h
+
+-- ---- data with a value left out: of three cells, two to a row, the last row is not whole
+
+not_whole : (t : Token) → AreWhole 2 (t ∷ t ∷ t ∷ []) → ⊥
+not_whole t h = let rest = h.1.0 in omega (arith, rest)
 
 -- ---- an arc with a negative lower bound: arc A >= -5, <= 3, from X, to Y
 

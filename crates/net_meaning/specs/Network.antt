@@ -120,15 +120,11 @@ pub record Objective : Type 0 where
   pub arcs : List Name
   pub expression : Clause
 
--- the sense of an objective
-abbrev pub sense_of : Bool → Sense
-sense_of minimizes = if minimizes then Minimise else Maximise
-
 -- `objectives w k before ds`: the objectives of the declarations ds, in order; the first k entries of the world w and the arcs with the names
 -- before are declared before ds
 abbrev pub objectives : World → ℕ → List Name → List Declaration → List Objective
 objectives w k before [] = []
-objectives w k before (objective minimizes n p ∷ ds) = (record { sense = sense_of minimizes; name = n; env = take k w; arcs = before; expression = p }) ∷ objectives w k before ds
+objectives w k before (objective minimizes n p ∷ ds) = (record { sense = if minimizes then Minimise else Maximise; name = n; env = take k w; arcs = before; expression = p }) ∷ objectives w k before ds
 objectives w k before (arc n b ps ∷ ds) = objectives w k (n ∷ before) ds
 objectives w k before (d ∷ ds) = objectives w (entries_after k d) before ds
 
@@ -208,13 +204,9 @@ pub record IsFeasible (vs : List Node) (all : List Arc) (x : Assignment) : Type 
   pub bounds : AreWithinBounds all x
   pub conditions : AllByRecursion (IsSatisfiedBy all x) vs
 
--- the name is in the list
-abbrev pub is_listed : List Name → Name → Bool
-is_listed names n = list_any (λ (m : Name). bytes_eq m n) names
-
 -- the environment in which each of these names of arcs denotes its flow
 abbrev pub with_arcs : Env → List Name → Assignment → Env
-with_arcs e names x = record e { arcs = λ n. if is_listed names n then Some (x n) else None }
+with_arcs e names x = record e { arcs = λ n. if list_any (λ (m : Name). bytes_eq m n) names then Some (x n) else None }
 
 -- the sum over all arcs of coefficient times flow
 abbrev pub coefficient_terms : List Arc → Assignment → ℤ

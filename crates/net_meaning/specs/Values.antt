@@ -29,13 +29,13 @@ pub record Env : Type 0 where
   pub arcs : Name → Option (Tuple → ℤ)
   pub inflow : ℤ
 
--- an environment with these flows of arcs and this net inflow
-abbrev pub env_with : (Name → Option (Tuple → ℤ)) → ℤ → World → Scope → Env
-env_with arcs y w s = record { world = w; dummies = s; arcs = arcs; inflow = y }
-
 -- an environment without arcs and net inflow, as in every declaration of sets and parameters
 abbrev pub env_of : World → Scope → Env
-env_of w s = env_with (λ n. None) (pos 0) w s
+env_of w s = record { world = w; dummies = s; arcs = λ n. None; inflow = pos 0 }
+
+-- the same with these flows of arcs and this net inflow
+abbrev pub env_with : (Name → Option (Tuple → ℤ)) → ℤ → World → Scope → Env
+env_with arcs y w s = record { world = w; dummies = s; arcs = arcs; inflow = y }
 
 -- one key of an indexing expression, with the environment in which its dummy indices have their members
 pub record Key : Type 0 where

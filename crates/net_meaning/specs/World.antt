@@ -26,7 +26,7 @@ use Rattle.net_tree.specs.declared.role.Relation.TheVariants as relations
 use Rattle.net_tree.specs.declared.role.Role.{Role}
 use Rattle.net_tree.specs.declared.role.Role.TheVariants as roles
 use Rattle.net_tree.specs.Phrases.{is_becomes, is_default}
-use Rattle.net_tree.specs.Syntax.{Expression, Braces, Body, plain, valued, priced, Phrase, Declaration, set, param, check}
+use Rattle.net_tree.specs.Syntax.{Expression, Braces, Body, plain, valued, priced, Phrase, Declaration, set, param, check, node, arc, objective}
 use Rattle.net_expr.specs.declared.world.Entry.{Entry}
 use Rattle.net_expr.specs.declared.world.Entry.TheVariants.{Set, Parameter}
 use Rattle.net_expr.specs.Worlds.{Name, World}
@@ -203,14 +203,10 @@ abbrev pub is_symbolic_word : Role → Bool
 is_symbolic_word (roles.Phrase begins.Symbolic) = true
 is_symbolic_word _ = false
 
-abbrev pub is_symbolic : List Phrase → Bool
-is_symbolic [] = false
-is_symbolic (p ∷ ps) = is_symbolic_word p.word || is_symbolic ps
-
 -- only a symbolic parameter has strings as values
 abbrev pub IsOfKind : List Phrase → Member → Type 0
 IsOfKind ps (member.Number n) = ⊤
-IsOfKind ps (member.Name t) = IsTrue (is_symbolic ps)
+IsOfKind ps (member.Name t) = IsTrue (list_any (λ (p : Phrase). is_symbolic_word p.word) ps)
 
 -- the number of subscripts; None for a parameter without an indexing expression
 abbrev pub key_count : Option Braces → ℕ → Option ℕ
@@ -264,6 +260,16 @@ abbrev pub params_in : List Declaration → List Name
 params_in [] = []
 params_in (param n b ps ∷ ds) = n ∷ params_in ds
 params_in (d ∷ ds) = params_in ds
+
+-- the declared names
+abbrev pub names_in : List Declaration → List Name
+names_in [] = []
+names_in (set n ps ∷ ds) = n ∷ names_in ds
+names_in (param n b ps ∷ ds) = n ∷ names_in ds
+names_in (node n b c ∷ ds) = n ∷ names_in ds
+names_in (arc n b ps ∷ ds) = n ∷ names_in ds
+names_in (objective minimizes n p ∷ ds) = n ∷ names_in ds
+names_in (check b x ∷ ds) = names_in ds
 
 -- each token is one of the names
 abbrev pub AreNamesIn : List Name → List Token → Type 0
