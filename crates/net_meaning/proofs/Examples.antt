@@ -137,9 +137,9 @@ not_within v (results.within xs ys h) = differ h
 not_in : (v : Value) → IsResult op.In (One (Number (pos 1))) (Many (pair ∷ [])) v → ⊥
 not_in v (results.is_in u t ts (results.one m) h) = differ h
 
-not_listed : (keys : List Key) → AreListed (env_of [] []) (λ u. u ≡ number (pos 1)) (λ us. us ≡ Several pair ∷ []) keys → ⊥
-not_listed keys (u, us, ts, first, more, zip, h, e) =
-    listed ts (subst (λ (z : List Value). AllZip IsTuple z ts) (ap (λ (z : Value). z ∷ us) first ∙ ap (λ (zs : List Value). number (pos 1) ∷ zs) more) zip) h
+not_listed : (ks : List Key) → AreListed (env_of [] []) (λ u. u ≡ number (pos 1)) (λ us. us ≡ Several pair ∷ []) ks → ⊥
+not_listed ks (u, us, ts, first, others, zip, h, e) =
+    listed ts (subst (λ (z : List Value). AllZip IsTuple z ts) (ap (λ (z : Value). z ∷ us) first ∙ ap (λ (zs : List Value). number (pos 1) ∷ zs) others) zip) h
   where
     listed : (ts : List Tuple) → AllZip IsTuple (number (pos 1) ∷ Several pair ∷ []) ts → HaveOneDimension ts → ⊥
     listed [] z h = z

@@ -182,7 +182,7 @@ module _ (af : Name → Option (Tuple → ℤ)) (yf : ℤ) where
           gives_then (Operands w s is (v ∷ [])) _ (values w s is (v ∷ [])) _ (operands (v ∷ [])) (λ vs (us, e, all).
           gives_as _ _ (listed (span_between o c) s (has_part p) vs) (λ k (f, ts, tuples, d, g). inr ((meaning_of v, map meaning_of us, ts, j, all, subst (λ zs. AllZip IsTuple (map meaning_of zs) ts) e tuples, d, g), unsaid p f)) (listed_is af yf w (span_between o c) s (has_part p) vs))
 
-  -- a tuple that is as long as what is written agrees with it if its components do
+  -- a tuple agrees with an expression if it is as long and the components agree
   in_whole : (w : World) (R : Option Key → Type 0) (L : Type 0) (o : Outcome (Option Place)) → L → IfOk o (PlaceIs af yf w R) → IfOk o (PlaceIs af yf w (λ r. L × R r))
   in_whole w R L o l h = gives_as (PlaceIs af yf w R) (PlaceIs af yf w (λ r. L × R r)) o go h
     where
@@ -202,7 +202,7 @@ module _ (af : Name → Option (Tuple → ℤ)) (yf : ℤ) where
   as_dummy : (w : World) (s : Scope) (x : Tree) (R : Option Name → Type 0) → R (items.new_dummy w s x) → R (new_dummy (env_with af yf w s) x)
   as_dummy w s x R h = subst R (new_dummy_is (env_with af yf w s) x) h
 
-  -- the value of an expression is a set if it has tuples
+  -- the value of an expression; if it is a set, its tuples are distinct and have its dimension
   with_set : (w : World) → HasSets w → (s : Scope) (x : Tree) → IfOk (value w s x) (λ v. IsValue (env_with af yf w s) x (meaning_of v)) → IfOk (value w s x) (λ v. IsValue (env_with af yf w s) x (meaning_of v) × IsSetValue v)
   with_set w g s x h = gives_both (λ v. IsValue (env_with af yf w s) x (meaning_of v)) IsSetValue (value w s x) h (is_set_value (value w s x) (gives w g s x))
 
