@@ -246,17 +246,17 @@ expression_unique e (present x) k m h j = number_same k m (values_are_unique e x
 
 pub assignments_are_sound : AssignmentsAreSound
 assignments_are_sound requested w ds n sets names good e = record {
-    has = found.has;
-    evaluated = record {
-      conditions = λ y. all_have_sides y (written.nodes w ds) found.has.nodes f.drawing.nodes.ranges found.has.same_nodes (conditions_of w sets 0 ds good) all_ranges;
-      objective = λ x. (value_of n.instance (map (meaning.flow_on x) found.has.arcs), (value x _).1 refl);
-      alike = λ x y m same h. (value y m).1 ((value x m).0 h ∙ ap (value_of n.instance) same);
-    };
-    bounds = λ x. (limits_to found.has.arcs n.instance.arcs.items x found.has.bounds, limits_from found.has.arcs n.instance.arcs.items x found.has.bounds);
-    ranges = ranges;
-    feasible = feasible;
-    value = value;
-  }
+  has = found.has;
+  evaluated = record {
+    conditions = λ y. all_have_sides y (written.nodes w ds) found.has.nodes f.drawing.nodes.ranges found.has.same_nodes (conditions_of w sets 0 ds good) all_ranges;
+    objective = λ x. (value_of n.instance (map (meaning.flow_on x) found.has.arcs), (value x _).1 refl);
+    alike = λ x y m same h. (value y m).1 ((value x m).0 h ∙ ap (value_of n.instance) same);
+  };
+  bounds = λ x. (limits_to found.has.arcs n.instance.arcs.items x found.has.bounds, limits_from found.has.arcs n.instance.arcs.items x found.has.bounds);
+  ranges = ranges;
+  feasible = feasible;
+  value = value;
+}
   where
     found : IsFound requested w ds (seen_as n)
     found = network_found requested w ds (seen_as n) sets names e

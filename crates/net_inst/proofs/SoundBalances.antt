@@ -123,9 +123,9 @@ module _ (p : Profile) (instance : Instance) (problem : Problem) (link : Link) (
   -- a flow that is within the capacities and balances a node brings it a net inflow in its range
   pub in_range : (flows : List ℤ) (i : ℕ) (r : NodeRange) → AllZip IsWithinCapacity problem.arcs.items flows → slice_get ranges i ≡ Some r → IsBalanced problem flows i → IsInRange r (net_inflow is (mapped_back link flows) i)
   in_range flows i r held at balanced = record {
-      low = from_low_side r.low r.high (least_inflow is i) (net_inflow is (mapped_back link flows) i) (subst (λ (y : ℤ). low_of is i r ≤ℤ y) same between.0);
-      high = from_high_side r.low r.high (most_inflow is i) (net_inflow is (mapped_back link flows) i) (subst (λ (y : ℤ). y ≤ℤ high_of is i r) same between.1);
-    }
+    low = from_low_side r.low r.high (least_inflow is i) (net_inflow is (mapped_back link flows) i) (subst (λ (y : ℤ). low_of is i r ≤ℤ y) same between.0);
+    high = from_high_side r.low r.high (most_inflow is i) (net_inflow is (mapped_back link flows) i) (subst (λ (y : ℤ). y ≤ℤ high_of is i r) same between.1);
+  }
     where
       parts : (xs : List ℤ) × (ys : List ℤ) × (flows ≡ xs ++ ys) × AllZip IsWithinCapacity own xs × AllZip IsWithinCapacity rooms ys
       parts = zipped_parts IsWithinCapacity own rooms flows (subst (λ (all : List FlowArc). AllZip IsWithinCapacity all flows) form.arcs held)
@@ -161,11 +161,11 @@ module _ (p : Profile) (instance : Instance) (problem : Problem) (link : Link) (
   -- an assignment within the bounds has a flow within the capacities that balances each node whose net inflow is in its range
   pub carried_by : (x : List ℤ) → AllZip IsWithinBounds is x → Carries x
   carried_by x bounds = record {
-      flows = xs ++ ys;
-      capacity = subst (λ (all : List FlowArc). AllZip IsWithinCapacity all (xs ++ ys)) (sym form.arcs) (zipped_whole IsWithinCapacity own rooms xs ys held serves.0);
-      back = mapped (xs ++ ys) xs ys refl count ∙ whole;
-      balances = balances;
-    }
+    flows = xs ++ ys;
+    capacity = subst (λ (all : List FlowArc). AllZip IsWithinCapacity all (xs ++ ys)) (sym form.arcs) (zipped_whole IsWithinCapacity own rooms xs ys held serves.0);
+    back = mapped (xs ++ ys) xs ys refl count ∙ whole;
+    balances = balances;
+  }
     where
       zs : List ℤ
       zs = lessened x offsets
