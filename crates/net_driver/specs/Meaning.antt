@@ -45,9 +45,9 @@ pub record ContainsData (text : List ℕ) (tables : Tables) : Type 0 where
   pub read : AreTokensOf languages.Data text tokens
   pub derived : IsDataFile tables tokens
 
--- The two inputs mean this network. The model contains these declarations, in which no name is declared twice, and the data these statements.
--- Together they give each set its members and each parameter its values: this is the world. In it the declarations have these nodes, arcs and
--- objective, which is the requested one, or the only one, and nothing in this network is without a value.
+-- The two inputs mean this network (vs: nodes, all: arcs, o: objective). The model contains these declarations, in which no name is declared
+-- twice, and the data these statements. Together they give each set its members and each parameter its values: this is the world. In it the
+-- declarations have these nodes, arcs and objective, which is the requested one, or the only one; nothing in this network is without a value.
 pub record MeanNetwork (requested : Option Name) (model_text data_text : List ℕ) (vs : List Node) (all : List Arc) (o : Objective) : Type 0 where
   pub declarations : List Declaration
   pub model : ContainsModel model_text declarations

@@ -35,6 +35,7 @@ use Rattle.net_inst.proofs.Once.{all_join}
 use Rattle.net_inst.proofs.SoundArcs.{AgreesOnAll, as_key, HasPrice, HasBuiltBounds, rows_are, keys_are, IsNextGoal}
 use Rattle.net_inst.proofs.SoundEnds.{HasEnd, nodes_apart, arcs_apart, ends_are_nodes}
 use Rattle.net_inst.proofs.SoundGoals.{next_goal, some_is, no_goal, only_goal, named_goal, IsReady, agrees_on_all, ready_after}
+use Rattle.net_inst.proofs.SoundPriced.{all_priced}
 use Rattle.net_inst.proofs.SoundNames.{nodes_once, arcs_once}
 use Rattle.net_inst.proofs.SoundObjectives.{as_objective, objective_is}
 use Rattle.net_inst.proofs.Written.{aimed_is, have_ends}
@@ -278,6 +279,7 @@ network_found requested w ds n sets names e =
       objective = as_objective aims.0;
       is_network = record {
         objective = objective_is requested w ds f.drawing aims.0 names.once f.is_built aims.1;
+        priced = all_priced w ds names.priced;
         nodes = found.are_nodes;
         arcs = subst (λ (g : Name). InOrder (meaning.AreArcsOf g) w 0 (declarations ds) found.arcs) goal found.are_arcs;
         ends = ends_are_nodes (written.nodes w ds) found.nodes (written.arcs w ds) found.arcs n.arcs found.same_nodes found.same_arcs (have_ends requested w ds n e apart) found.ended;

@@ -137,6 +137,16 @@ is_eligible (Some n) o = bytes_eq n o.name
 abbrev pub IsObjective : Option Name → World → List Declaration → Objective → Type 0
 IsObjective requested w ds o = filter (is_eligible requested) (objectives w 0 [] ds) ≡ o ∷ []
 
+-- an `obj` phrase names one of these objectives
+abbrev pub IsPriced : List Objective → Body → Type 0
+IsPriced os (priced n x) = IsTrue (list_any (λ (o : Objective). bytes_eq o.name n) os)
+IsPriced os b = ⊤
+
+-- each `obj` phrase of the declaration names one of these objectives
+abbrev pub ArePriced : List Objective → Declaration → Type 0
+ArePriced os (arc n b ps) = AllByRecursion (λ (p : Phrase). IsPriced os p.body) ps
+ArePriced os d = ⊤
+
 -- ---- the network
 
 -- the end is the node with this label
@@ -151,6 +161,7 @@ IsNodeAt vs (Some r) = IsTrue (list_any (λ (v : Node). is_at (Some r) v.label) 
 
 pub record IsNetwork (requested : Option Name) (w : World) (ds : List Declaration) (vs : List Node) (all : List Arc) (o : Objective) : Type 0 where
   pub objective : IsObjective requested w ds o
+  pub priced : AllByRecursion (ArePriced (objectives w 0 [] ds)) ds
   pub nodes : InOrder AreNodesOf w 0 ds vs
   pub arcs : InOrder (AreArcsOf o.name) w 0 ds all
   pub ends : AllByRecursion (λ (a : Arc). IsNodeAt vs a.from × IsNodeAt vs a.to × IsTrue (is_some a.from || is_some a.to)) all
@@ -235,7 +246,7 @@ HasSides e (one x o z) = IsNumeric e x × IsNumeric e z
 HasSides e (between x o z p u) = IsNumeric e x × IsNumeric e z × IsNumeric e u
 
 -- nothing in the network is without a value: at each net inflow the sides of each node's condition have numbers, and each assignment has a
--- value, which depends on the flows of the network's arcs alone
+-- value, which depends on the flows of the network's arcs alone: an expression may name an arc that does not exist if its flow has no effect
 pub record IsEvaluated (vs : List Node) (all : List Arc) (o : Objective) : Type 0 where
   pub conditions : (y : ℤ) → AllByRecursion (λ (v : Node). HasSides (with_inflow v.env y) v.condition) vs
   pub objective : (x : Assignment) → (n : ℤ) × HasValue o all x n

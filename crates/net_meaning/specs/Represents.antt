@@ -56,8 +56,8 @@ pub record Represents (vs : List Node) (all : List Arc) (o : Objective) (problem
   pub injective : (flows others : List ℤ) → IsFeasibleFlow problem flows → IsFeasibleFlow problem others → Agree all (assignment_of all link flows) (assignment_of all link others) → flows ≡ others
   -- the cost of a flow, feasible or not, gives the value of its assignment
   pub value : (flows : List ℤ) → length flows ≡ length problem.arcs.items → HasValue o all (assignment_of all link flows) (value_at link (cost_of problem flows))
-  -- the supply of a node stands for its condition, whether or not the other nodes can be balanced: a flow within the capacities that balances
-  -- the node satisfies its condition, and an assignment within the bounds has a flow that balances each node whose condition it satisfies
+  -- If no assignment is feasible, the fields above say nothing of supplies. These two do, node by node: a flow within the capacities that balances
+  -- a node satisfies its condition; an assignment within the bounds has a flow that balances every node whose condition it satisfies.
   pub satisfied : (flows : List ℤ) (i : ℕ) (v : Node) → AllZip IsWithinCapacity problem.arcs.items flows → slice_get vs i ≡ Some v → IsBalanced problem flows i → IsSatisfiedBy all (assignment_of all link flows) v
   pub balanced : (x : Assignment) → AreWithinBounds all x
       → (flows : List ℤ) × AllZip IsWithinCapacity problem.arcs.items flows × Agree all (assignment_of all link flows) x × ((i : ℕ) (v : Node) → slice_get vs i ≡ Some v → IsSatisfiedBy all x v → IsBalanced problem flows i)

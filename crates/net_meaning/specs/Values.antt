@@ -33,10 +33,6 @@ pub record Env : Type 0 where
 abbrev pub env_of : World → Scope → Env
 env_of w s = record { world = w; dummies = s; arcs = λ n. None; inflow = pos 0 }
 
--- the same with these flows of arcs and this net inflow
-abbrev pub env_with : (Name → Option (Tuple → ℤ)) → ℤ → World → Scope → Env
-env_with arcs y w s = record { world = w; dummies = s; arcs = arcs; inflow = y }
-
 -- one key of an indexing expression, with the environment in which its dummy indices have their members
 pub record Key : Type 0 where
   pub key : Tuple
@@ -47,7 +43,8 @@ abbrev pub Whether : Bool → Type 0 → Type 0 → Type 0
 Whether true P Q = P
 Whether false P Q = Q
 
--- `Denotes e n key v`: the name n with the subscripts key has the value v. A dummy index hides a set or a parameter of the same name.
+-- `Denotes e n key v`: the name n with the subscripts key has the value v. No dummy index has the name of a visible set
+-- or parameter (`new_dummy`).
 pub data Denotes (e : Env) (n : Name) : Tuple → Value → Type 0 where
   dummy : (m : Member) → bound e.dummies n ≡ Some m → Denotes e n [] (One m)
   a_set : (d : ℕ) (ts : List Tuple) → bound e.dummies n ≡ None → entry_of e.world n ≡ Some (Set d ts) → Denotes e n [] (Many ts)
@@ -63,12 +60,12 @@ abbrev pub Filters : (Key → Bool → Type 0) → List Key → List Key → Typ
 Filters P [] left = left ≡ []
 Filters P (k ∷ ks) left = (rest : List Key) × Filters P ks rest × ((P k true × (left ≡ k ∷ rest)) ⊎ (P k false × (left ≡ rest)))
 
--- the keys that continue a partial key; None for a tuple that the item passes over
+-- the keys after the items to the right (Next) of a partial key; None, for a tuple that the item passes over, has none
 abbrev pub Continues : (Key → List Key → Type 0) → Option Key → List Key → Type 0
 Continues Next None keys = keys ≡ []
 Continues Next (Some k) keys = Next k keys
 
--- the keys from each tuple of a set, in order of the set
+-- In {(i, 2) in L, j in B} Place takes the tuple (1, 2) to the key (1) with i = 1, and (1, 3) to None; Next runs j through B. In order of the set.
 abbrev pub FromEach : (Tuple → Option Key → Type 0) → (Key → List Key → Type 0) → List Tuple → List Key → Type 0
 FromEach Place Next [] keys = keys ≡ []
 FromEach Place Next (t ∷ ts) keys =
@@ -234,3 +231,7 @@ abbrev mutual
   AllAgree k no_more [] r = r ≡ Some k
   AllAgree k (more x l) (m ∷ ms) r = Matches k (new_dummy k.env x) (IsValue k.env x) m (λ q. AllAgree q l ms) r
   AllAgree k _ _ r = ⊥
+
+-- an environment with these flows of arcs and this net inflow, for the laws about conditions and objectives
+abbrev pub env_with : (Name → Option (Tuple → ℤ)) → ℤ → World → Scope → Env
+env_with arcs y w s = record { world = w; dummies = s; arcs = arcs; inflow = y }

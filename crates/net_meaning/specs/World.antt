@@ -93,7 +93,7 @@ set_rows_of d n (statements.Columns c) = if is_set_named c.set n then key_rows d
 abbrev pub AreWhole : ℕ → List Token → Type 0
 AreWhole size cells = AllByRecursion (λ group. length group ≡ size) (groups size cells)
 
--- a statement that names n, with this number of keys, has whole rows: the keys, and a value for each column
+-- a statement that names n has whole rows of this number of keys and a value for each column; each name of a heading groups the cells by its own
 abbrev pub HasWholeRows : ℕ → Name → Statement → Type 0
 HasWholeRows size n (statements.Set s) = ⊤
 HasWholeRows size n (statements.List l) = Whether (bytes_eq l.name.text n) (ForSome l.given (λ g. AreWhole (size + 1) g.cells)) ⊤
@@ -217,7 +217,8 @@ key_count (Some b) size = Some size
 abbrev pub keys_of : List Key → List Tuple
 keys_of keys = map (λ k. k.key) keys
 
--- the entry x of a parameter n with indexing expression b and phrases ps, in the world w of the declarations before it
+-- the entry x of a parameter n with indexing expression b and phrases ps, in the world w of the declarations before it. Without keys the size is
+-- open, and so is the order of the table: no value depends on them.
 pub record IsParameter (w : World) (ss : List Statement) (n : Name) (b : Option Braces) (ps : List Phrase) (x : Entry) : Type 0 where
   pub keys : List Key
   pub size : ℕ
