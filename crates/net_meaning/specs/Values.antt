@@ -192,7 +192,7 @@ abbrev mutual
   IsChain e u (apply o x l) v = (w : Value) × Combines o u (IsValue e x) w × IsChain e w l v
 
   -- the keys of an indexing expression: those of its items at which the condition is true, or its listed members and tuples. Only items that
-  -- iterate can have a condition. The keys that they give, also where it is false, have the same number of components.
+  -- iterate can have a condition. All keys of the items have the same number of components, before the condition selects.
   pub AreKeys : Env → Braces → List Key → Type 0
   AreKeys e (empty p) keys = (keys ≡ []) × IsAbsent p
   AreKeys e (filled i is p) keys =

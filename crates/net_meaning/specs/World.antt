@@ -130,7 +130,7 @@ mentions n (s ∷ ss) = mentions_in n s + mentions n ss
 
 -- ---- sets
 
--- what a phrase requires of a set with dimension d and members ts
+-- what a phrase requires of a set with dimension d and members ts; the set after `within` has the same dimension
 abbrev pub SatisfiesRole : World → ℕ → List Tuple → Role → Expression → Type 0
 SatisfiesRole w d ts (roles.Phrase begins.Dimen) x = IsValue (env_of w []) x (number (pos d)) × (1 ≤ d)
 SatisfiesRole w d ts (roles.Relation relations.Within) x = (us : List Tuple) × IsValue (env_of w []) x (Many us) × AllByRecursion (λ t. length t ≡ d) us × IsTrue (is_within ts us)
