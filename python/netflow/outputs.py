@@ -78,12 +78,13 @@ def change_json(change: Any) -> dict:
     return {"amount": change.amount, "what": change.text, "bound": change.what, "was": change.was, "becomes": change.becomes}
 
 
-def cut_json(side: str, cut: Sequence[str], reasons: Sequence, net: Network | None, changes: dict | None = None) -> dict:
-    """Returns the object of a model without a plan."""
+def cut_json(side: str, cut: Sequence[str], reasons: Sequence, net: Network | None, changes: Any = None) -> dict:
+    """Returns the object of a model without a plan, with its least changes if they are given and were computed."""
     found: dict = {"schema": SCHEMA, "status": "infeasible", "cut": {"side": side, "nodes": list(cut)}}
     found["reasons"] = [reason_json(net, it) for it in reasons] if net is not None else []
-    if changes is not None:
-        found["least_changes"] = {kind: None if it is None else [change_json(change) for change in it] for kind, it in changes.items()}
+    if changes is not None and not changes.is_large:
+        found["single_changes"] = list(map(change_json, changes.single))
+        found["least_changes"] = {kind: None if it is None else list(map(change_json, it)) for kind, it in changes.kinds.items()}
     return found
 
 
