@@ -82,7 +82,6 @@ MISTAKES = (
     ({"cost": {("hill", "north"): 3}}, netflow.ModelError, "are the two members exchanged? The parts of a key are those of cost {BAKERIES, SHOPS}"),
     ({"van": {"north": 3}}, netflow.DataError, "param van: van has one value and no keys; expected a number or a text, not the key 'north'"),
     ({"van": [40]}, netflow.DataError, "param van: [40] is no value; expected a number (int, float, Fraction or Decimal) or a text"),
-    ({"van": None}, netflow.ModelError, "E32 NoValue", "van is given without a value, as None or NaN: give it to solve as van=.., or in a data file"),
     ({"vans": 3}, netflow.DataError, "vans: the model declares no such set or parameter; is van meant?"),
     ({"speed": 3}, netflow.DataError, "speed: the model declares no such set or parameter; it has BAKERIES, SHOPS, bakes, wants, cost, van"),
     ({"objectiv": "Total"}, netflow.DataError, "objectiv: the model declares no such set or parameter; is the option objective meant?"),
@@ -126,23 +125,24 @@ def check_mistakes(complaints):
         complaints.same("no data", "there are no data: give a data file, or the values from Python", problem.hint)
 
 
-# What is missing in data from Python alone, and the hint.
+# Which name Python does not give, or how, and the hint.
 MISSING = (
-    ({"cost": None}, "cost has no value: give it to solve as cost=.., or in a data file"),
-    ({"van": None}, "van has no value: give it to solve as van=.., or in a data file"),
-    ({"SHOPS": None}, "SHOPS has no value: give it to solve as SHOPS=.., or in a data file"),
-    ({"wants": {"hill": 30, "lake": 45}}, "wants has no value at 'mill'; it has values at 'hill', 'lake'"),
+    ("cost", {}, "cost has no value: give it to solve as cost=.., or in a data file"),
+    ("van", {}, "van has no value: give it to solve as van=.., or in a data file"),
+    ("SHOPS", {}, "SHOPS has no value: give it to solve as SHOPS=.., or in a data file"),
+    ("van", {"van": None}, "van is given without a value, as None or NaN: give it to solve as van=.., or in a data file"),
+    ("wants", {"wants": {"hill": 30, "lake": 45}}, "wants has no value at 'mill'; it has values at 'hill', 'lake'"),
 )
 
 
 def check_missing(complaints):
     """A set, a parameter or a value that Python does not give, and arguments that are no model and no data."""
-    for values, hint in MISSING:
-        given = {name: it for name, it in {**WHOLE, "cost": COST, **values}.items() if it is not None}
+    for name, values, hint in MISSING:
+        given = {other: it for other, it in {**WHOLE, "cost": COST}.items() if other != name}
         try:
-            complaints.append(f"{values} gives {netflow.solve(MODEL, **given)!r}")
+            complaints.append(f"{name} missing gives {netflow.solve(MODEL, **given, **values)!r}")
         except netflow.ModelError as problem:
-            complaints.same(f"{values}: the hint", ("E32", hint), (problem.code, problem.hint))
+            complaints.same(f"{name} missing: the hint", ("E32", hint), (problem.code, problem.hint))
     for words, said in (((None, DATA), "model: expected a path or the text of the model, not None"),
                         ((MODEL, 5), "data: expected a path, a text, a dict, or a list of these, not 5"), ((MODEL, {"van"}), "not {'van'}")):
         try:
