@@ -13,7 +13,7 @@ from .command import Words, fractions_text, note_fractions, print_error_json, qu
 from .draw import draw, grouped
 from .errors import ProgramError
 from .grids import grid_html, roster_html
-from .outputs import dump_lines, plan_json
+from .outputs import dump_lines, plan_columns
 from .page import Arcs, bullets, changes_html, page, places_html, reason_html, section, text
 from .reasons import reasons
 from .signs import opposite_sides
@@ -198,7 +198,7 @@ def print_json(question):
         answer, net = question.network()
     except ProgramError as problem:
         return print_error_json(problem, question)
-    print(dump_lines(plan_json(net) if net.cut is None else no_plan(net)))
+    print(dump_lines(plan_columns(net) if net.cut is None else no_plan(net)))
     return answer.status
 
 

@@ -6,7 +6,6 @@ is most short lacks, which no other change can do with less. So these changes ar
 from __future__ import annotations
 
 import math
-import statistics
 
 # How many bounds of one kind are listed and tried, and up to how many lines of problems they are tried.
 LISTED, TRIED, LINES = 5, 20, 300_000
@@ -53,11 +52,11 @@ class SingleMoves:
 
 
 def usual_bounds(moves):
-    """Returns the median of the bounds of one kind, by declaration, kind and direction."""
+    """Returns the middle one of the bounds of a declaration, by kind and direction, if there are more than two."""
     groups = {}
     for it in moves:
         groups.setdefault(group_of(it), []).append(it.was)
-    return {group: statistics.median(it) for group, it in groups.items() if len(it) > 2}
+    return {group: sorted(it)[len(it) // 2] for group, it in groups.items() if len(it) > 2}
 
 
 def group_of(move):

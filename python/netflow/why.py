@@ -15,7 +15,7 @@ from .changes import is_left_out, least_changes, left_out_text, single_title, to
 from .command import Words, note_fractions, print_error_json, question_of, run as run_tool
 from .errors import ProgramError
 from .model_text import Unparsed, parse
-from .outputs import cut_json, dump_lines, plan_json
+from .outputs import cut_json, dump_lines, plan_columns
 from .question import Input, Question
 from .reasons import reasons
 from .sensitivity import Marginal, arc_change, arc_units
@@ -289,12 +289,9 @@ def answer_lines(net: Network, most: int) -> list:
 
 def print_json(net: Network) -> None:
     if net.cut is None:
-        marginal = Marginal(net)
-        found = plan_json(net)
-        for it, node, more in zip(found["nodes"], net.nodes, marginal.more):
-            it["one_more_costs"] = more
-        for it, arc in zip(found["arcs"], net.arcs):
-            it["reduced_cost"] = arc.worth
+        found = plan_columns(net)
+        found["nodes"]["one_more_costs"] = Marginal(net).more
+        found["arcs"]["reduced_cost"] = [it.worth for it in net.arcs]
     else:
         side, inside = net.cut
         found = cut_json(side, [net.nodes[it].text for it in sorted(inside)], reasons(net, side, inside), net, least_changes(net))
