@@ -178,6 +178,9 @@ arc X {d in 1..2, s in 1..3} >= 0, <= 40, from Depot[d], to Shop[s];
     ("net_in for net_out at all depots", """minimize C; node Depot {d in 1..2}: net_in = 30; node Shop {s in 1..3}: net_in = 20;
 arc X {d in 1..2, s in 1..3} >= 0, <= 40, from Depot[d], to Shop[s];
 """, ("No plan. Depot: each of its 2 places needs units, but no arc leads in. Is net_out meant instead of net_in in the condition of Depot? ",)),
+    ("the sign of all nodes", """minimize C; node City {i in 1..3}: net_in = (if i = 1 then 30 else -15); arc X {i in 2..3} >= 0, <= 40, from City[1], to City[i];
+""", ("No plan. City: each of its 3 places either gives units, but no arc leads out, or needs units, but no arc leads in. "
+      "Is the sign in the condition of City wrong? ",)),
     ("one number of many", """minimize C; node Depot {d in 1..2}: net_out <= 55; node Shop {s in 1..6}: net_in = (if s = 3 then 60 else 17);
 arc X {d in 1..2, s in 1..6} >= 0, <= 55, from Depot[d], to Shop[s];
 """, ("plan: 35 units at one place. Any one of these is enough: Shop[3]: needs 25 in place of 60 Depot[1]: gives at most 90 in place of 55 "
