@@ -1,9 +1,9 @@
 """usage: netflow-why MODEL [DATA ..] [--objective NAME] [--all] [--json] [--set NAME=VALUE] [--scale NAME=FACTOR] [--bounds]
 
 If a model has no plan, says why in its own names: which places, what they need together, which arcs lead there with their bounds, how
-much is short, and the least change that gives a plan. If it has one, says which arcs are at a bound, what one more unit at each place
-costs or saves, and how far that holds. Shows 20 lines of each list, with --all every line. If a check of the model fails, it asks
-again without the check. The exit status is that of netflow.
+much is short, and the least change that gives a plan: first the numbers each of which is enough alone. If it has one, says which arcs
+are at a bound, what one more unit at each place costs or saves, and how far that holds. Shows 20 lines of each list, with --all every
+line. If a check of the model fails, it asks again without the check. The exit status is that of netflow.
 """
 from __future__ import annotations
 
