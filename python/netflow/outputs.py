@@ -3,8 +3,9 @@ from __future__ import annotations
 
 import json
 import re
+from json.encoder import encode_basestring
 from fractions import Fraction
-from typing import Any, Iterator, Mapping, Sequence
+from typing import Any, Mapping, Sequence
 
 from .texts import Network
 
@@ -41,7 +42,7 @@ class JsonTexts(dict):
     """JSON texts by value. Each is made once, since a large network has few members, bounds and prices."""
 
     def __missing__(self, value: Any) -> str:
-        text = self[value] = str(value) if isinstance(value, int) else dumps(value)
+        text = self[value] = encode_basestring(value) if isinstance(value, str) else str(value) if isinstance(value, int) else dumps(value)
         return text
 
     def of_column(self, values: list) -> list:
@@ -52,18 +53,19 @@ class JsonTexts(dict):
 
 def dump_lines(value: Mapping) -> str:
     """Returns the JSON text of an object with a line for each field and for each item of its lists: readable, and fast for many arcs."""
-    fields = []
+    fields, texts = [], JsonTexts()
     for name, it in value.items():
-        is_list = isinstance(it, Columns) or isinstance(it, list) and it and isinstance(it[0], Mapping)
-        lines = column_lines(it) if isinstance(it, Columns) else map(dumps, it) if is_list else []
-        fields.append(f"  {dumps(name)}: " + ("[\n    " + ",\n    ".join(lines) + "\n  ]" if is_list else dumps(it)))
+        is_list = isinstance(it, list) and it and isinstance(it[0], Mapping)
+        lines = column_lines(it, texts) if isinstance(it, Columns) else list(map(dumps, it)) if is_list else []
+        text = "[\n    " + ",\n    ".join(lines) + "\n  ]" if lines else dumps([] if isinstance(it, Columns) else it)
+        fields.append(f"  {dumps(name)}: {text}")
     return "{\n" + ",\n".join(fields) + "\n}"
 
 
-def column_lines(columns: Columns) -> Iterator[str]:
-    """Returns the JSON texts of the objects, one a line; `dumps` of each object gives the same and takes longer."""
-    template, texts = "{" + ", ".join(f'"{name}": %s' for name in columns) + "}", JsonTexts()
-    return map(template.__mod__, zip(*map(texts.of_column, columns.values())))
+def column_lines(columns: Columns, texts: JsonTexts) -> list:
+    """Returns the JSON text of each object; `dumps` of the object gives the same and takes longer."""
+    template = "{" + ", ".join(f'"{name}": %s' for name in columns) + "}"
+    return list(map(template.__mod__, zip(*map(texts.of_column, columns.values()))))
 
 
 def arc_columns(net: Network) -> Columns:
