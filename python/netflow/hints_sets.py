@@ -37,8 +37,10 @@ def listed_rows(it: Any, world: Memberships, name: str) -> list:
     found = [(tuple(map(member, words[here:here + width])), words[here].row) for here in range(0, len(words), width)]
     params = {decl: size for decl, size in world.shapes.keys.items() if world.shapes.decls[decl].kind == "param"}
     for statement in DataText(text, params, world.shapes.sets, True).statements:
-        if statement.set_name == name:
-            found += [(cell.key, text.count("\n", 0, cell.token.start) + 1) for cell in statement.cells]
+        row, last = 1, 0
+        for cell in statement.cells if statement.set_name == name else []:
+            row, last = row + text.count("\n", last, cell.token.start), cell.token.start
+            found.append((cell.key, row))
     return list(dict.fromkeys(found))
 
 
@@ -59,7 +61,8 @@ def outside(it: Any) -> Hint:
     for row, line, limit, said in wrong[:NAMED]:
         title = world.text(limit)
         reason = "" if said == f"{title} has no {row_text(row)}" else f": {said}"
-        yield f"{row_text(row)} in {it.rows_text([line])} is not in {title}{reason}", True
+        change = it.question.change_at(line) if it.question is not None else ""
+        yield f"{change or f'{row_text(row)} in {it.rows_text([line])}'} is not in {title}{reason}", True
 
 
 def slice_pairs(words: list) -> list:

@@ -135,14 +135,21 @@ MISSING = (
 )
 
 
+PAIRS = "set A; set B; set L within A cross B; minimize C; node X {a in A}; arc Y {(a,b) in L} >= 0, <= 1, from X[a], obj C 1;"
+
+
 def check_missing(complaints):
-    """A set, a parameter or a value that Python does not give, and arguments that are no model and no data."""
+    """What Python does not give, a pair outside its sets, and arguments that are no model and no data."""
     for name, values, hint in MISSING:
         given = {other: it for other, it in {**WHOLE, "cost": COST}.items() if other != name}
         try:
             complaints.append(f"{name} missing gives {netflow.solve(MODEL, **given, **values)!r}")
         except netflow.ModelError as problem:
             complaints.same(f"{name} missing: the hint", ("E32", hint), (problem.code, problem.hint))
+    try:
+        complaints.append(f"a pair outside gives {netflow.solve(PAIRS, A=['a', 'b'], B=[1, 2], L=[('a', 1), ('b', 3)])!r}")
+    except netflow.ModelError as problem:
+        complaints.same("a pair outside: the hint", ("E34", "member ('b', 3) of L is not in A cross B: B has no 3"), (problem.code, problem.hint))
     for words, said in (((None, DATA), "model: expected a path or the text of the model, not None"),
                         ((MODEL, 5), "data: expected a path, a text, a dict, or a list of these, not 5"), ((MODEL, {"van"}), "not {'van'}")):
         try:
