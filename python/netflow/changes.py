@@ -88,13 +88,17 @@ def moves_of_nodes(net):
 
 
 class Costless:
-    """The problem of a network without its costs, to which moves are added as arcs."""
+    """The problem of a network without its costs, to which moves are added as arcs. Sides that the model leaves open limit nothing,
+    whatever the bounds of arcs become."""
 
     def __init__(self, net):
-        arcs = [it for it in net.lines if it.startswith("a ")]
-        self.nodes, self.arcs, self.size = len(net.nodes) + 1, len(arcs), len(net.lines)
+        outside = len(net.nodes) + 1
         supplies = [it for it in net.lines if it.startswith("n ")]
-        self.text = "\n".join([*supplies, *(it.rpartition(" ")[0] + " 0" for it in arcs)])
+        arcs = [it.rpartition(" ")[0] + " 0" for it in net.lines if it.startswith("a ")]
+        for number, node in enumerate(net.nodes, 1):
+            arcs += [f"a {outside} {number} 0 {FAR} 0"] * node.is_low_open + [f"a {number} {outside} 0 {FAR} 0"] * node.is_high_open
+        self.nodes, self.arcs, self.size = outside, len(arcs), len(net.lines)
+        self.text = "\n".join([*supplies, *arcs])
 
     def least_flows(self, moves, costs):
         """Returns by how much each bound is moved at least cost; None if there is no plan even so."""

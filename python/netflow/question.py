@@ -226,9 +226,9 @@ class Question:
                 answer = solving.result()
             except ProgramError as problem:
                 raise self.placed(problem) from None
+            mark_open_sides(net, self.model.text())
             if answer.status == 0:
                 read_plan(answer.text, net)
-                mark_open_sides(net, self.model.text())
                 self.check_bounds(net)
             else:
                 net.cut = read_cut(answer.text, net)

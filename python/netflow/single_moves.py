@@ -16,7 +16,9 @@ class SingleMoves:
 
     def __init__(self, net, problem, amount):
         side, inside = net.cut
-        self.problem, self.amount, self.cuts = problem, amount, [(side, {it + 1 for it in inside})]
+        # A set with an open side is short only as long as the bounds of its arcs are what they are.
+        is_open = any(net.nodes[it].is_low_open if side == "under" else net.nodes[it].is_high_open for it in inside)
+        self.problem, self.amount, self.cuts = problem, amount, [] if is_open else [(side, {it + 1 for it in inside})]
 
     def found(self, moves, flows):
         """Returns pairs of a rank and a move, the best rank first. `flows` say how far a least change moves each bound."""
