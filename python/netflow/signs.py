@@ -14,7 +14,7 @@ class Declared:
         self.giving = {it.high < 0 for it in nodes.values()}
 
     def is_opposite(self):
-        """Whether no arc of any of these nodes leads where the node needs one: out of those that give, into those that need."""
+        """Whether no arc of any of these nodes leads the way that the node needs: out of those that give, into those that need."""
         srcs, dsts = {it.src for it in self.arcs}, {it.dst for it in self.arcs}
         return bool(self.arcs) and not any(number in (srcs if it.high < 0 else dsts) for number, it in self.nodes.items())
 

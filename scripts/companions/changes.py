@@ -67,7 +67,8 @@ def check_changes(complaints, folder, seeds):
         if status != 2:
             continue
         net = netflow_texts.read_compiled(run("netflow", "compile", *words)[1])
-        found = netflow_reasons.all_reasons(net, *netflow_texts.read_cut(text, net))
+        net.cut = netflow_texts.read_cut(text, net)
+        found = netflow_reasons.all_reasons(net, *net.cut)
         complaints.same(f"plain {seed}: sets that are short besides those that are listed", None, netflow_reasons.cut_besides(net, found))
         complaints.same(f"plain {seed}: sets that are listed twice", len(found), len({(it.side, *it.nodes) for it in found}))
         short = max(it.short() for it in found)
