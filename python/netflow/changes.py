@@ -5,11 +5,14 @@ import dataclasses
 
 from .exact import Number, divided
 from .program import call
+from .single_moves import SingleMoves
+from .words import few
 
 # The most lines of a problem; how many moves are preferred one by one, how many by their size, and up to how many lines in all.
 LARGEST, TRIES, RANKS = 200_000, 6, 20
 TRIED = 30_000
 FAR, MOST_COST = 10**15, 10**12
+NODES, ARCS, BOTH = "of what places need and give", "of what arcs may carry", "of both"
 
 
 @dataclasses.dataclass
@@ -44,6 +47,10 @@ class Move:
     sign: int
     what: str
     is_exact: bool = False
+
+    @property
+    def is_node(self):
+        return self.what not in ("at most", "at least")
 
     def change(self, amount):
         return Change(amount, self.text, self.was, self.was + self.sign * amount, self.what, self.is_exact)
@@ -81,35 +88,53 @@ def moves_of_nodes(net):
 
 
 class Costless:
-    """The problem of a network without its costs, to which moves are added as arcs."""
+    """The problem of a network without its costs, to which moves are added as arcs. Sides that the model leaves open limit nothing,
+    whatever the bounds of arcs become."""
 
     def __init__(self, net):
-        arcs = [it for it in net.lines if it.startswith("a ")]
-        self.nodes, self.arcs, self.size = len(net.nodes) + 1, len(arcs), len(net.lines)
+        outside = len(net.nodes) + 1
         supplies = [it for it in net.lines if it.startswith("n ")]
-        self.text = "\n".join([*supplies, *(it.rpartition(" ")[0] + " 0" for it in arcs)])
+        arcs = [it.rpartition(" ")[0] + " 0" for it in net.lines if it.startswith("a ")]
+        for number, node in enumerate(net.nodes, 1):
+            arcs += [f"a {outside} {number} 0 {FAR} 0"] * node.is_low_open + [f"a {number} {outside} 0 {FAR} 0"] * node.is_high_open
+        self.nodes, self.arcs, self.size = outside, len(arcs), len(net.lines)
+        self.text = "\n".join([*supplies, *arcs])
 
     def least_flows(self, moves, costs):
         """Returns by how much each bound is moved at least cost; None if there is no plan even so."""
+        status, lines = self.answer(moves, costs)
+        # The lines of arcs follow the line with the value.
+        return None if status else [int(it.rpartition(" ")[2]) for it in lines[1 + self.arcs:1 + self.arcs + len(moves)]]
+
+    def least_total(self, moves):
+        """Returns by how much each bound is moved with the least total; None if no such moves are enough."""
+        return self.least_flows(moves, [1] * len(moves)) if moves else None
+
+    def cut_with(self, move):
+        """Returns the side and the nodes, counted from 1, of a set that is short even with one bound moved; None if there is a plan."""
+        status, lines = self.answer([move], [1])
+        return (lines[0][2:], {int(it[2:]) for it in lines if it.startswith("m ")}) if status else None
+
+    def answer(self, moves, costs):
+        """Returns the status and the lines of the program's answer with the moves as arcs."""
         lines = [f"p min {self.nodes} {self.arcs + len(moves)}", *([self.text] if self.text else [])]
         lines += [f"a {it.ends} 0 {FAR} {cost}" for it, cost in zip(moves, costs)]
         answer = call(["min", "/dev/stdin"], "\n".join(lines) + "\n")
-        if answer.status:
-            return None
-        # The lines of arcs follow the line with the value.
-        found = answer.text.split("\n")[1 + self.arcs:1 + self.arcs + len(moves)]
-        return [int(it.rpartition(" ")[2]) for it in found]
+        return answer.status, answer.text.split("\n")
 
 
-def least_change(net, problem, moves):
-    """Returns the moves of least total with which there is a plan, in few places; None if no such moves are enough."""
-    if not moves:
-        return None
-    flows = problem.least_flows(moves, [1] * len(moves))
-    if flows is None:
-        return None
-    flows = concentrated(problem, moves, flows)
-    return [move.change(divided(flow, net.factors.flow)) for move, flow in zip(moves, flows) if flow]
+@dataclasses.dataclass
+class LeastChanges:
+    """The least changes with which there is a plan. `single` are changes at one place, each of which is enough alone, the oddest number
+    first. `kinds` has the least change of each kind of bounds, None if none is enough. `is_large` if they were not computed."""
+
+    single: list = dataclasses.field(default_factory=list)
+    kinds: dict = dataclasses.field(default_factory=dict)
+    is_large: bool = False
+
+    def others(self):
+        """Returns the kinds of bounds that have no change at one place."""
+        return {kind: it for kind, it in self.kinds.items() if it is None or it[0] not in self.single}
 
 
 def concentrated(problem, moves, flows):
@@ -132,29 +157,58 @@ def concentrated(problem, moves, flows):
 
 
 def least_changes(net):
-    """Returns the least change by kind of bounds, None if none of the kind is enough, and of both kinds if that is less than each
-    alone. The second result says whether the model was too large to compute it."""
-    nodes, arcs = list(moves_of_nodes(net)), list(moves_of_arcs(net))
-    if len(net.lines) + len(nodes) + len(arcs) > LARGEST:
-        return {}, True
+    """Returns the least changes at one place, those of each kind of bounds, and that of both kinds if it is less than each alone."""
+    moves = {NODES: list(moves_of_nodes(net)), ARCS: list(moves_of_arcs(net))}
+    both = [*moves[NODES], *moves[ARCS]]
+    if len(net.lines) + len(both) > LARGEST:
+        return LeastChanges(is_large=True)
     problem = Costless(net)
-    found = {"of what places need and give": least_change(net, problem, nodes), "of what arcs may carry": least_change(net, problem, arcs)}
-    totals, both = [total(it) for it in found.values() if it], least_change(net, problem, nodes + arcs)
-    if both and (not totals or total(both) < min(totals)):
-        found["of both"] = both
-    return found, False
+    flows = {kind: problem.least_total(it) for kind, it in moves.items()}
+    totals, least = [sum(it) for it in flows.values() if it], problem.least_total(both)
+    if least and sum(least) < min(totals, default=FAR):
+        moves[BOTH], flows[BOTH] = both, least
+    whole = sum(least or [])
+    search, single = SingleMoves(net, problem, divided(whole, net.factors.flow)), {}
+    for kind, it in flows.items():
+        single[kind] = search.found(moves[kind], it) if it and sum(it) == whole and BOTH not in flows else []
+    found = LeastChanges()
+    for kind, it in flows.items():
+        best = [move.change(search.amount) for _, move in single[kind][:1]]
+        found.kinds[kind] = best or least_change(net, problem, moves[kind], it)
+    pairs = sorted((pair for it in single.values() for pair in it), key=lambda pair: pair[0])
+    found.single = [move.change(search.amount) for _, move in pairs]
+    return found
 
 
-def leaves_nothing(changes):
+def least_change(net, problem, moves, flows):
+    """Returns the changes of least total in few places; None if no moves are enough."""
+    if flows is None:
+        return None
+    flows = concentrated(problem, moves, flows)
+    return [move.change(divided(flow, net.factors.flow)) for move, flow in zip(moves, flows) if flow]
+
+
+def is_left_out(changes):
     """Whether the changes take from several places all that they ask for."""
     return bool(changes) and len(changes) > 1 and all(it.becomes == 0 and it.what in ("needs", "gives") for it in changes)
 
 
-def unserved(net, changes):
-    """Returns the places that get nothing by the changes, if they are few among those that ask; else an empty list."""
+def left_out_text(net, changes, most):
+    """Returns which places get or give nothing with the changes; only how many if they are most of those that ask for something."""
+    verbs = [verb for what, verb in (("needs", "get"), ("gives", "give")) if any(it.what == what for it in changes)]
     asking = sum(it.low > 0 or it.high < 0 for it in net.nodes)
-    return [it.text for it in changes] if leaves_nothing(changes) and 2 * len(changes) <= asking else []
+    names = few([it.text for it in changes], most) if 2 * len(changes) <= asking else ""
+    return f"{len(changes)} places would {' or '.join(verbs)} nothing{names and ': '}{names}"
 
 
 def total(changes):
     return sum(it.amount for it in changes)
+
+
+def units(amount):
+    return f"{amount} unit{'s' * (amount != 1)}"
+
+
+def single_title(single):
+    """Returns the title of a list of changes at one place."""
+    return f"{units(single[0].amount)} at one place{'. Any one of these is enough' if len(single) > 1 else ''}:"

@@ -288,22 +288,6 @@ def no_data(it: Any) -> Hint:
         yield "the data are empty: is the second file the right one?", True
 
 
-def outside(it: Any) -> Hint:
-    """Members of a set that has to be within others, which none of those has."""
-    name = re.escape(it.detail)
-    found = re.search(rf"\bset\s+{name}\b[^;]*?\bwithin\s+([^;,]*)", it.texts.get("model", ""))
-    if it.text != "model" or not found:
-        return
-    sets, members = re.split(r"\s+cross\s+", found[1].strip(" ()")), listed(it)
-    known = [{token.bare() for token in members.get(part, [])} for part in sets]
-    rows = members.get(it.detail, [])
-    if not all(known) or len(rows) % len(sets):
-        return
-    wrong = [(token, here % len(sets)) for here, token in enumerate(rows) if token.bare() not in known[here % len(sets)]]
-    for token, part in wrong[:3]:
-        yield f"{it.rows_text([token.row])} of the data has {token.text}, which {sets[part]} has not", True
-
-
 def failed_check(it: Any) -> Hint:
     words = [token.text for token in it.statement()]
     text, again = " ".join(words).replace("> =", ">=").replace("< =", "<="), "netflow-why MODEL DATA asks again without this check"
@@ -354,7 +338,6 @@ HINTS: tuple = (
     (("E12",), late),
     (("E32",), no_data),
     (("E31", "E32", "E34", "E53", "E54"), speaking),
-    (("E34",), outside),
     (("E35",), failed_check),
     (("E40", "E59", "E60"), too_many),
 )

@@ -173,7 +173,7 @@ def unknown_index(it: Any) -> Hint:
 def subscripts(it: Any) -> Hint:
     """How many subscripts a name has, and how many are given."""
     try:
-        shapes = Shapes(parse(it.texts.get("model", "")))
+        shapes = Shapes(parse(it.texts.get("model", "")), it.texts.get("model", ""))
     except (Unparsed, ValueError):
         return
     name = it.word()
@@ -181,11 +181,9 @@ def subscripts(it: Any) -> Hint:
         return
     words = [found[0] for found in TOKEN.finditer(it.at())][1:]
     given = len(items(inside(words))) if words[:1] == ["["] else 0
-    braces = shapes.decls[name].braces
-    text = it.texts["model"][braces.start:braces.end] if braces else ""
     count = shapes.keys[name]
     if count != given:
-        has = f"{name} {' '.join(text.split())} has {count} subscript{'s' * (count != 1)}" if count else f"{name} has no subscript"
+        has = f"{shapes.head(name)} has {count} subscript{'s' * (count != 1)}" if count else f"{name} has no subscript"
         yield f"{has}, and {given} {'is' if given == 1 else 'are'} given", True
 
 

@@ -20,7 +20,7 @@ class Sets:
 
     def __init__(self, it: Any) -> None:
         decls = parse(it.texts.get("model", ""))
-        self.shapes = Shapes(decls)
+        self.shapes = Shapes(decls, it.texts.get("model", ""))
         self.decls = self.shapes.decls
         self.members: dict = {}
         self.values: dict = {}
@@ -77,7 +77,8 @@ class Key:
 
     def __init__(self, it: Any) -> None:
         self.name, self.key = reference(it.detail)
-        items = Sets(it).of_name(self.name)
+        sets = Sets(it)
+        items, self.head = sets.of_name(self.name), sets.shapes.head(self.name)
         if sum(width for width, _, _ in items) != len(self.key):
             raise Unreadable(it.detail)
         self.items, at = [], 0
@@ -122,7 +123,9 @@ def outside_set(it: Any) -> Hint:
     if list(missing_in_set(it)):
         return
     if wrong and other:
-        if it.text == "data":
+        if it.is_change():
+            yield f"are the two members exchanged? The parts of a key are those of {key.head}", True
+        elif it.text == "data":
             yield "are the two members exchanged? In a table (tr) before the : turns rows and columns", True
         else:
             yield f"are the subscripts exchanged? {key.name}[{','.join(map(shown, other))}] is in the sets of its braces", True

@@ -10,7 +10,7 @@ from .data_text import DataText
 from .errors import Unreadable
 from .model_text import Shapes, Unparsed, parse
 from .texts import members, shown
-from .words import tokens
+from .words import few, tokens
 
 Hint = Iterator[tuple]
 QUOTES = "\u2018\u2019\u201a\u201b\u201c\u201d\u201e\u201f\u00ab\u00bb\u2039\u203a`\u00b4"
@@ -157,6 +157,10 @@ def missing_value(it: Any) -> Hint:
         return
     near = [(nearness(cell.key, key), cell, row) for cell, row in cells_of(it) if cell.name == name and len(cell.key) == len(key) and not is_dot(cell)]
     best = max((found for found, _, _ in near), default=(0, 0))
+    if near and it.question is not None and it.question.is_from_python():
+        keys = [repr(cell.key[0] if len(cell.key) == 1 else cell.key) for found, cell, _ in near if found == best]
+        yield f"{name} has no value at {key[0] if len(key) == 1 else tuple(key)!r}; it has values at {few(keys, 3)}", True
+        return
     listed = [f"{name}[{','.join(map(shown, cell.key))}] in {it.rows_text([row])}" for found, cell, row in near if found == best][:3]
     if near:
         yield f"the data have no row of {it.detail}; {'the nearest: ' + ', '.join(listed) if best[0] else f'{name} is in {it.rows_text([near[0][2]])}'}", True
@@ -199,7 +203,12 @@ def no_value(it: Any) -> Hint:
     """A name that the data do not have at all."""
     name = it.detail.partition("[")[0]
     words = [token.text for token in tokens(it.texts.get("data", ""))]
-    if it.text == "model" and name and words and name not in words:
+    if it.text != "model" or not name or not words:
+        return
+    if it.question is not None and it.question.is_from_python() and (name not in words or "[" not in it.detail and name in it.question.changed.params):
+        given = "is given without a value, as None or NaN" if name in words else "has no value"
+        yield f"{name} {given}: give it to solve as {name}=.., or in a data file", True
+    elif name not in words:
         yield f"the data have no statement for {name}", True
 
 

@@ -306,15 +306,25 @@ class _Parser:
 
 
 class Shapes:
-    """The number of parts of each set's tuples and of each indexed name's keys."""
+    """The number of parts of each set's tuples and of each indexed name's keys. `text` is the model."""
 
-    def __init__(self, decls: list) -> None:
+    def __init__(self, decls: list, text: str = "") -> None:
+        self.text = text
         self.decls, self.sets, self.keys = {it.name: it for it in decls if it.name}, {}, {}
         for decl in decls:
             if decl.kind == "set":
                 self.sets[decl.name] = self.of_declared(decl)
             elif decl.name:
                 self.keys[decl.name] = self.of_braces(decl.braces)
+
+    def head(self, name: str) -> str:
+        """Returns a name with the braces of its declaration, such as `cost {BAKERIES, SHOPS}`."""
+        braces = self.decls[name].braces if name in self.decls else None
+        return " ".join(f"{name} {self.text[braces.start:braces.end]}".split()) if braces else name
+
+    def names(self, kind: str) -> list:
+        """Returns the names that the model declares by a word such as `param`."""
+        return [name for name, it in self.decls.items() if it.kind == kind]
 
     def of_declared(self, decl: Decl) -> int:
         for phrase in decl.phrases:

@@ -3,8 +3,9 @@ from __future__ import annotations
 
 import json
 import re
+from json.encoder import encode_basestring
 from fractions import Fraction
-from typing import Any, Callable, Mapping, Sequence
+from typing import Any, Mapping, Sequence
 
 from .texts import Network
 
@@ -29,42 +30,67 @@ def dumps(value: Any, indent: int | None = None) -> str:
     return MARKED.sub(r"\1", json.dumps(value, default=marked, indent=indent, ensure_ascii=False))
 
 
+class Columns(dict):
+    """A list of objects with the same fields, as a list for each field."""
+
+    def items_of(self) -> list:
+        """Returns the objects as dicts."""
+        return [dict(zip(self, row)) for row in zip(*self.values())]
+
+
+class JsonTexts(dict):
+    """JSON texts by value. Each is made once, since a large network has few members, bounds and prices."""
+
+    def __missing__(self, value: Any) -> str:
+        text = self[value] = encode_basestring(value) if isinstance(value, str) else str(value) if isinstance(value, int) else dumps(value)
+        return text
+
+    def of_column(self, values: list) -> list:
+        if values and isinstance(values[0], list):
+            return ["[" + ", ".join(map(self.__getitem__, it)) + "]" for it in values]
+        return list(map(self.__getitem__, values))
+
+
 def dump_lines(value: Mapping) -> str:
     """Returns the JSON text of an object with a line for each field and for each item of its lists: readable, and fast for many arcs."""
-    fields, encode = [], json.JSONEncoder(default=marked, ensure_ascii=False).encode
+    fields, texts = [], JsonTexts()
     for name, it in value.items():
         is_list = isinstance(it, list) and it and isinstance(it[0], Mapping)
-        text = "[\n    " + lines_of_items(it, encode) + "\n  ]" if is_list else encode(it)
-        fields.append(f"  {encode(name)}: {text}")
-    text = "{\n" + ",\n".join(fields) + "\n}"
-    return MARKED.sub(r"\1", text) if "\\u0000" in text else text
+        lines = column_lines(it, texts) if isinstance(it, Columns) else list(map(dumps, it)) if is_list else []
+        text = "[\n    " + ",\n    ".join(lines) + "\n  ]" if lines else dumps([] if isinstance(it, Columns) else it)
+        fields.append(f"  {dumps(name)}: {text}")
+    return "{\n" + ",\n".join(fields) + "\n}"
 
 
-def lines_of_items(items: list, encode: Callable[[Any], str]) -> str:
-    """Returns the JSON texts of objects with equal fields, one a line."""
-    if any(isinstance(part, list) and part and isinstance(part[0], Mapping) for part in items[0].values()):
-        return ",\n    ".join(map(encode, items))
-    # All at once is faster. After the quote that ends a JSON text there is no letter, so the first field is only found between two items.
-    first = f'{{"{next(iter(items[0]))}": '
-    return encode(items)[1:-1].replace(f"}}, {first}", f"}},\n    {first}")
+def column_lines(columns: Columns, texts: JsonTexts) -> list:
+    """Returns the JSON text of each object; `dumps` of the object gives the same and takes longer."""
+    template = "{" + ", ".join(f'"{name}": %s' for name in columns) + "}"
+    return list(map(template.__mod__, zip(*map(texts.of_column, columns.values()))))
 
 
-def arc_json(net: Network, arc: Any) -> dict:
-    nodes, src, dst = net.nodes, arc.src, arc.dst
-    return {"name": arc.name, "key": list(arc.key), "from": None if src is None else nodes[src].text,
-            "to": None if dst is None else nodes[dst].text, "flow": arc.flow,
-            "lower": arc.lower, "upper": None if arc.is_open else arc.upper, "price": arc.price}
+def arc_columns(net: Network) -> Columns:
+    arcs, ends = net.arcs, {None: None, **{number: it.text for number, it in enumerate(net.nodes)}}
+    return Columns({"name": [it.name for it in arcs], "key": [it.key for it in arcs], "from": [ends[it.src] for it in arcs],
+                    "to": [ends[it.dst] for it in arcs], "flow": [it.flow for it in arcs], "lower": [it.lower for it in arcs],
+                    "upper": [None if it.is_open else it.upper for it in arcs], "price": [it.price for it in arcs]})
 
 
-def node_json(node: Any) -> dict:
-    return {"name": node.text, "lower": node.low, "upper": node.high, "net_in": node.inflow}
+def node_columns(net: Network) -> Columns:
+    nodes = net.nodes
+    return Columns({"name": [it.text for it in nodes], "lower": [it.low for it in nodes], "upper": [it.high for it in nodes],
+                    "net_in": [it.inflow for it in nodes]})
+
+
+def plan_columns(net: Network) -> dict:
+    """Returns the object of a plan, its arcs and nodes as columns."""
+    return {"schema": SCHEMA, "status": "optimal",
+            "objective": {"name": net.objective, "sense": "minimize" if net.sign > 0 else "maximize", "value": net.value},
+            "arcs": arc_columns(net), "nodes": node_columns(net)}
 
 
 def plan_json(net: Network) -> dict:
     """Returns the object of a plan."""
-    return {"schema": SCHEMA, "status": "optimal",
-            "objective": {"name": net.objective, "sense": "minimize" if net.sign > 0 else "maximize", "value": net.value},
-            "arcs": [arc_json(net, it) for it in net.arcs], "nodes": [node_json(it) for it in net.nodes]}
+    return {name: it.items_of() if isinstance(it, Columns) else it for name, it in plan_columns(net).items()}
 
 
 def reason_json(net: Network, reason: Any) -> dict:
@@ -78,12 +104,13 @@ def change_json(change: Any) -> dict:
     return {"amount": change.amount, "what": change.text, "bound": change.what, "was": change.was, "becomes": change.becomes}
 
 
-def cut_json(side: str, cut: Sequence[str], reasons: Sequence, net: Network | None, changes: dict | None = None) -> dict:
-    """Returns the object of a model without a plan."""
+def cut_json(side: str, cut: Sequence[str], reasons: Sequence, net: Network | None, changes: Any = None) -> dict:
+    """Returns the object of a model without a plan, with its least changes if they are given and were computed."""
     found: dict = {"schema": SCHEMA, "status": "infeasible", "cut": {"side": side, "nodes": list(cut)}}
     found["reasons"] = [reason_json(net, it) for it in reasons] if net is not None else []
-    if changes is not None:
-        found["least_changes"] = {kind: None if it is None else [change_json(change) for change in it] for kind, it in changes.items()}
+    if changes is not None and not changes.is_large:
+        found["single_changes"] = list(map(change_json, changes.single))
+        found["least_changes"] = {kind: None if it is None else list(map(change_json, it)) for kind, it in changes.kinds.items()}
     return found
 
 

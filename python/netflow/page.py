@@ -7,7 +7,7 @@ from fractions import Fraction
 from html import escape
 
 from . import __version__
-from .changes import leaves_nothing, total, unserved
+from .changes import is_left_out, left_out_text, single_title, total
 from .draw import grouped
 from .style import PAGE_STYLE, SCRIPT
 from .why import Place, better
@@ -188,18 +188,17 @@ def reason_html(net, reason, most):
     return "".join(lines)
 
 
-def changes_html(net, found, is_large, most):
-    if is_large:
+def changes_html(net, found, most):
+    """The least changes: those at one place, then those of the other kinds of bounds."""
+    if found.is_large:
         return "<p>It is not computed: the model is too large.</p>"
-    lines = []
-    for what, changes in found.items():
+    lines = [f"<h3>{text(single_title(found.single))}</h3>" + bullets([it.sentence() for it in found.single])] if found.single else []
+    for what, changes in found.others().items():
         if changes is None:
             lines.append(f"<p>{text(capital(what))}: none is enough.</p>")
             continue
-        if leaves_nothing(changes):
-            names = unserved(net, changes)
-            lines.append(f"<p>{text(capital(what))}: {total(changes)} in all, which is all that {len(changes)} places ask for"
-                         f"{names and ': '}{text(', '.join(names[:most]))}.</p>")
+        if is_left_out(changes):
+            lines.append(f"<p>{text(capital(what))}: {total(changes)} in all. {text(left_out_text(net, changes, most))}.</p>")
             continue
         rows = [("", [it.amount, it.sentence()]) for it in sorted(changes, key=lambda it: -it.amount)[:most]]
         more = f"<p>and {len(changes) - most} more</p>" if len(changes) > most else ""

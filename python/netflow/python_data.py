@@ -8,10 +8,13 @@ from typing import Any, Iterable
 from .data_text import KEY_NUMBER, member_text, set_statement
 from .errors import DataError
 from .exact import as_fraction, parse_numeral
+from .model_text import Shapes
 from .scaling import BOUND, scaled_value
+from .words import few
 
 # The title that pandas gives to a column without one, as the first column of a grid in a file.
 UNNAMED = "Unnamed: 0"
+OPTIONS = ("objective", "scale", "bounds")
 FORMS = "give a dict by key, a list of tuples (key, .., value), a list of dicts, or a Series or DataFrame of pandas"
 
 
@@ -33,7 +36,8 @@ class PythonData:
     A part of a key that is a text in the form of a number becomes that number, unless a set has the text as a member: `texts` are those
     of the model and of data texts. With None every text stays one."""
 
-    def __init__(self, values: dict, sets: dict, keys: dict, texts: set | None = None) -> None:
+    def __init__(self, values: dict, sets: dict, keys: dict, texts: set | None = None, shapes: Shapes | None = None) -> None:
+        shapes = shapes or Shapes([])
         layers = {name: value if isinstance(value, Layers) else Layers([value]) for name, value in values.items()}
         self.sets: dict = {name: members_of(name, value[-1], sets[name]) for name, value in layers.items() if name in sets}
         self.params: dict = {}
@@ -41,10 +45,9 @@ class PythonData:
         kept = None if texts is None else texts | {part for rows in self.sets.values() for row in rows for part in row}
         for name, given in layers.items():
             if name in keys:
-                self.params[name] = {key: it for value in given for key, it in rows_of(name, value, keys[name], kept).items()}
+                self.params[name] = {key: it for value in given for key, it in rows_of(name, value, keys[name], kept, shapes.head(name)).items()}
             elif name not in sets:
-                meant = difflib.get_close_matches(name, [*sets, *keys], 1, 0.6)
-                raise DataError(f"{name}: the model declares no such set or parameter{f'; is {meant[0]} meant?' if meant else ''}")
+                raise DataError(f"{name}: the model declares no such set or parameter{declared_text(shapes, name, 'set', 'param')}")
 
     def numbers(self, name: str) -> list:
         return [it for it in self.params[name].values() if isinstance(it, Fraction)]
@@ -84,16 +87,17 @@ class PythonData:
 def members_of(name: str, value: Any, size: int) -> list:
     """Returns the members of a set as tuples."""
     if isinstance(value, str) or not hasattr(value, "__iter__"):
-        raise DataError(f"set {name}: {value!r} is no list of members")
+        members = value.replace(",", " ").split() if isinstance(value, str) else [value]
+        raise DataError(f"set {name}: {value!r} is {'a text' if isinstance(value, str) else 'no list'}; expected a list of members, such as {members!r}")
     if is_frame(value):
         if len(value.columns) != size:
-            raise DataError(f"set {name}: the table has {len(value.columns)} columns, and the model expects {size}")
+            raise DataError(f"set {name}: the table has {parts(value.columns, 'column')}; expected {size}, one for each part of a member")
         value = value.itertuples(index=False, name=None)
     found = [tuple(plain(part, f"set {name}") for part in (it if is_row(it) else (it,))) for it in value]
     seen = set()
     for it in found:
         if len(it) != size:
-            raise DataError(f"set {name}: {it} has {len(it)} parts, and the model expects {size}")
+            raise DataError(f"set {name}: the member {key_text(it)} has {parts(it)}; expected {size}")
         if it in seen:
             raise DataError(f"set {name}: the member {key_text(it)} is given twice")
         seen.add(it)
@@ -115,14 +119,35 @@ def plain(member: Any, owner: str) -> Any:
     raise DataError(f"{owner}: {member!r} is no member: a member is a whole number or a text, so use str(..)")
 
 
-def rows_of(name: str, value: Any, size: int, texts: set | None) -> dict:
-    """Returns the values of a parameter by key; a missing value (None, NaN) has no entry. `texts` are members that stay texts."""
+def parts(row: Any, what: str = "part") -> str:
+    """Returns how many parts there are, in words."""
+    return f"{len(row)} {what}{'s' * (len(row) != 1)}"
+
+
+def declared_text(shapes: Shapes, name: str, *kinds: str) -> str:
+    """Returns which name of the model is probably meant by an unknown one, or what the model declares by these words."""
+    known = [it for kind in kinds for it in shapes.names(kind)]
+    meant = difflib.get_close_matches(name, known, 1, 0.6)
+    if meant:
+        return f"; is {meant[0]} meant?"
+    if name in shapes.decls:
+        return f": {name} is {'an' if shapes.decls[name].kind == 'arc' else 'a'} {shapes.decls[name].kind}, and only sets and parameters have data"
+    option = difflib.get_close_matches(name, OPTIONS, 1, 0.7)
+    if option:
+        return f"; is the option {option[0]} meant?"
+    return f"; it has {few(known, 8)}" if known else ""
+
+
+def rows_of(name: str, value: Any, size: int, texts: set | None, head: str) -> dict:
+    """Returns the values of a parameter by key; a missing value (None, NaN) has no entry. `texts` are members that stay texts; `head` is
+    the name with the braces of its declaration."""
     found: dict = {}
     seen = set()
     for key, it in pairs_of(name, value, size):
         key = tuple(key_part(plain(part, f"param {name}"), texts) for part in key)
         if len(key) != size:
-            raise DataError(f"param {name}: the key {key} has {len(key)} parts, and the model expects {size}")
+            raise DataError(f"param {name}: the key {key_text(key)} has {parts(key)}; expected {size}, one member for each index of {head}" if size else
+                            f"param {name}: {name} has one value and no keys; expected a number or a text, not the key {key_text(key)}")
         if key in seen:
             raise DataError(f"param {name}: the key {key_text(key)} is given twice")
         seen.add(key)
@@ -150,7 +175,7 @@ def value_of(name: str, value: Any) -> Any:
         return number
     if isinstance(value, float) or hasattr(value, "__float__"):
         return float(value)
-    raise DataError(f"param {name}: {value!r} is no number and no text")
+    raise DataError(f"param {name}: {value!r} is no value; expected a number (int, float, Fraction or Decimal) or a text")
 
 
 def is_missing(value: Any) -> bool:
@@ -184,7 +209,7 @@ def pairs_of(name: str, value: Any, size: int) -> Iterable[tuple]:
     if size == 0:
         return [((), value)]
     if isinstance(value, str) or not hasattr(value, "__iter__"):
-        raise DataError(f"param {name}: {value!r} has no keys, and the model expects {size}: {FORMS}")
+        raise DataError(f"param {name}: {value!r} has no keys; expected a key of {parts(range(size))} for each value: {FORMS}")
     return row_pairs(name, value, size)
 
 
@@ -223,13 +248,15 @@ def row_pairs(name: str, rows: Iterable, size: int) -> Iterable[tuple]:
     for row in rows:
         if hasattr(row, "items"):
             keys = [it for title, it in row.items() if title != name]
-            if name not in row or len(keys) < size:
-                raise DataError(f"param {name}: a row has no column {name!r} with {size} keys before it: {row!r}")
+            if name not in row:
+                raise DataError(f"param {name}: the row {row!r} has no column {name!r}; expected the value in a column of this name")
+            if len(keys) < size:
+                raise DataError(f"param {name}: the row {row!r} has {parts(keys, 'column')} for the key; expected {size}")
             yield tuple(keys[:size]), row[name]
         else:
             if isinstance(row, str) or not hasattr(row, "__iter__"):
-                raise DataError(f"param {name}: {row!r} in the list has no key, and the model expects {size}: {FORMS}")
+                raise DataError(f"param {name}: {row!r} in the list has no key; expected a key of {parts(range(size))} and a value: {FORMS}")
             row = tuple(row)
             if len(row) != size + 1:
-                raise DataError(f"param {name}: {row!r} has {len(row)} parts; expected {size} keys and a value")
+                raise DataError(f"param {name}: {row!r} has {parts(row)}; expected {size + 1}, the key and the value")
             yield row[:-1], row[-1]

@@ -14,7 +14,7 @@ from .errors import DataError, ProgramError, ScaleError
 from .exact import common_factor, parse_numeral
 from .model_text import Shapes, Unparsed, parse, tokens_of
 from .program import UNREADABLE_FILE, Answer, Session, call
-from .python_data import PythonData
+from .python_data import PythonData, declared_text
 from .scaling import BOUND, Factors, Scaler, scaled_value
 from .texts import Network, read_compiled, read_cut, read_plan, read_prices
 from .without_decimals import CERTAIN, GRAMMAR, is_decimal, next_error
@@ -194,6 +194,10 @@ class Question:
         return self.origins.get((name, key)) or next((said for (other, _), said in self.origins.items() if other == name and not key), "") \
             or self.changed.described(row)
 
+    def is_from_python(self) -> bool:
+        """Whether values are given by Python, not by options of a command."""
+        return self.changed is not None and bool(self.changes) and not self.origins
+
     def value_at(self, row: int) -> tuple:
         """Returns the name, the key and the value of the change in a line of the joined data."""
         return self.changed.place(row - self.rows_of_data()) if self.changed is not None else ("", None, None)
@@ -222,9 +226,9 @@ class Question:
                 answer = solving.result()
             except ProgramError as problem:
                 raise self.placed(problem) from None
+            mark_open_sides(net, self.model.text())
             if answer.status == 0:
                 read_plan(answer.text, net)
-                mark_open_sides(net, self.model.text())
                 self.check_bounds(net)
             else:
                 net.cut = read_cut(answer.text, net)
@@ -246,20 +250,20 @@ class Question:
         self.is_rewritten, self.parsed = True, 0
         model = self.model.text()
         decls = parse(model)
-        shapes = Shapes(decls)
+        shapes = Shapes(decls, model)
         params = {it.name: shapes.keys[it.name] for it in decls if it.kind == "param"}
         pieces: list = []
         for it in self.data:
             pieces.append(DataText(it.text(), params, shapes.sets))
             self.parsed += 1
         # On the command line quotes say what is a text.
-        changes = PythonData(self.changes, shapes.sets, params, None if self.origins else texts_of(model, pieces))
+        changes = PythonData(self.changes, shapes.sets, params, None if self.origins else texts_of(model, pieces), shapes)
         edits = [Overrides(pieces, changes).edits(it) for it in pieces]
         needed = self.needed(pieces, changes, edits)
         unknown = {name: factor for name, factor in needed.items() if name not in params}
         for name, factor in self.scale.items():
             if name not in params:
-                raise DataError(f"--scale {name}: the model declares no such parameter")
+                raise DataError(f"scale of {name}: the model declares no such parameter{declared_text(shapes, name, 'param')}")
             needed[name] = factor
         factors, model_edits = Scaler(decls, needed, self.objective, self.add_bounds).scale()
         self.factors = factors

@@ -13,9 +13,10 @@ from .command import Words, fractions_text, note_fractions, print_error_json, qu
 from .draw import draw, grouped
 from .errors import ProgramError
 from .grids import grid_html, roster_html
-from .outputs import dump_lines, plan_json
+from .outputs import dump_lines, plan_columns
 from .page import Arcs, bullets, changes_html, page, places_html, reason_html, section, text
 from .reasons import reasons
+from .signs import opposite_sides
 from .sensitivity import Marginal
 from .tables import no_plan
 from .words import compared_texts, first_comment, headings
@@ -105,10 +106,11 @@ class Report:
         return what + (f", the {count} largest" if count == DRAWN and self.has_plan else f", the first {count}" if count == DRAWN else "")
 
     def why(self):
-        parts = [reason_html(self.net, it, SHOWN) for it in self.reasons[:SETS]]
+        parts = [f'<p class="reason">{text(it)}</p>' for it in opposite_sides(self.net)]
+        parts += [reason_html(self.net, it, SHOWN) for it in self.reasons[:SETS]]
         left = len(self.reasons) - SETS
         parts += [f"<p>{left} more sets of places are short; netflow-why --all lists them.</p>"] if left > 0 else []
-        changes = changes_html(self.net, *least_changes(self.net), SHOWN)
+        changes = changes_html(self.net, least_changes(self.net), SHOWN)
         return section("Why", "<hr>".join(parts)) + section("Least change with which there is a plan", changes)
 
     def bottleneck(self):
@@ -123,7 +125,7 @@ class Report:
         chosen = choices(self.net)
         felt = [(amount, it) for amount, it in self.gains.felt if it.is_full() and it.name not in chosen]
         doubt = "" if self.gains.is_exact else " at most"
-        saves = f"the first unit more {better(self.net)}{doubt}"
+        saves = f"one more unit {better(self.net)}{doubt}"
         lines = [f"{it.text}, full at {grouped(it.upper)}: {saves} {grouped(amount)}{self.gains.limit(it)}" for amount, it in felt[:MOST_GAINS]]
         left = len(felt) - MOST_GAINS
         lines += [f"{left} more, each {grouped(felt[MOST_GAINS][0])} or less: netflow-why --all lists them"] if left > 0 else []
@@ -196,7 +198,7 @@ def print_json(question):
         answer, net = question.network()
     except ProgramError as problem:
         return print_error_json(problem, question)
-    print(dump_lines(plan_json(net) if net.cut is None else no_plan(net)))
+    print(dump_lines(plan_columns(net) if net.cut is None else no_plan(net)))
     return answer.status
 
 

@@ -163,6 +163,7 @@ def solve(model: Text, data: Any = None, *, objective: str | None = None, scale:
 
     Raises ModelError if the model or its data have an error, Infeasible if no plan exists, DataError if Python data do not fit.
     """
+    require_options(objective, scale)
     texts, changes = inputs_of(data)
     override(changes, sets_and_params)
     first = input_of(model)
@@ -181,13 +182,26 @@ def solve(model: Text, data: Any = None, *, objective: str | None = None, scale:
     return Solution(net, question, names, os.path.basename(first.path) if first.path else "model")
 
 
-def input_of(value: Text) -> Input:
+def require_options(objective: Any, scale: Any) -> None:
+    """Raises TypeError or DataError if an option of `solve` has no usable value."""
+    if objective is not None and not isinstance(objective, str):
+        raise TypeError(f"objective: expected the name of an objective as a text, not {objective!r}")
+    if scale is not None and not isinstance(scale, Mapping):
+        raise TypeError(f"scale: expected a dict of parameters and factors, such as {{'cost': 100}}, not {scale!r}")
+    for name, factor in (scale or {}).items():
+        if isinstance(factor, bool) or not hasattr(factor, "__index__") or factor < 1:
+            raise DataError(f"scale of {name}: {factor!r} is no factor; expected a whole number of 1 or more, such as 100")
+
+
+def input_of(value: Text, what: str = "model", expected: str = "a path or the text of the model") -> Input:
+    """Returns a model or data text; raises TypeError for a value that is none."""
     if isinstance(value, str) and ("\n" in value or ";" in value):
         return Input(text=value)
-    path = os.fspath(value)
-    if not isinstance(path, str):
-        raise DataError(f"{value!r} is no path and no text")
-    return Input(path)
+    if isinstance(value, (str, os.PathLike)):
+        path = os.fspath(value)
+        if isinstance(path, str):
+            return Input(path)
+    raise TypeError(f"{what}: expected {expected}, not {value!r}")
 
 
 def inputs_of(data: Any) -> tuple:
@@ -198,7 +212,7 @@ def inputs_of(data: Any) -> tuple:
         if isinstance(it, Mapping):
             override(changes, it)
         else:
-            texts.append(input_of(it))
+            texts.append(input_of(it, "data", "a path, a text, a dict, or a list of these"))
     return texts, changes
 
 

@@ -9,7 +9,7 @@ from typing import Any, Iterable, Iterator
 
 from .command import note_fractions, print_error_json
 from .errors import ProgramError
-from .outputs import cut_json, dump_lines, plan_json
+from .outputs import cut_json, dump_lines, plan_columns
 from .program import REJECTED
 from .question import Question
 from .reasons import reasons
@@ -88,7 +88,7 @@ def plan(words: argparse.Namespace, question: Question) -> int:
             raise
         note_fractions(net)
         if words.json:
-            print(dump_lines(plan_json(net) if net.cut is None else no_plan(net)))
+            print(dump_lines(plan_columns(net) if net.cut is None else no_plan(net)))
             return answer.status
         if answer.status:
             sys.stderr.write(f"{divided_cut(answer.text, net)}netflow-sheet: netflow-why says why there is no plan\n")

@@ -1,9 +1,9 @@
 """usage: netflow-why MODEL [DATA ..] [--objective NAME] [--all] [--json] [--set NAME=VALUE] [--scale NAME=FACTOR] [--bounds]
 
 If a model has no plan, says why in its own names: which places, what they need together, which arcs lead there with their bounds, how
-much is short, and the least change that gives a plan. If it has one, says which arcs are at a bound, what one more unit at each place
-costs or saves, and how far that holds. Shows 20 lines of each list, with --all every line. If a check of the model fails, it asks
-again without the check. The exit status is that of netflow.
+much is short, and the least change that gives a plan: first the numbers each of which is enough alone. If it has one, says which arcs
+are at a bound, what one more unit at each place costs or saves, and how far that holds. Shows 20 lines of each list, with --all every
+line. If a check of the model fails, it asks again without the check. The exit status is that of netflow.
 """
 from __future__ import annotations
 
@@ -11,16 +11,17 @@ import math
 import re
 from typing import Any, Sequence
 
-from .changes import least_changes, leaves_nothing, total, unserved
+from .changes import is_left_out, least_changes, left_out_text, single_title, total
 from .command import Words, note_fractions, print_error_json, question_of, run as run_tool
 from .errors import ProgramError
 from .model_text import Unparsed, parse
-from .outputs import cut_json, dump_lines, plan_json
+from .outputs import cut_json, dump_lines, plan_columns
 from .question import Input, Question
 from .reasons import reasons
 from .sensitivity import Marginal, arc_change, arc_units
+from .signs import opposite_sides
 from .texts import Network
-from .words import compared_texts
+from .words import compared_texts, few
 
 SHOWN, SETS = 20, 3
 # Up to how many steps exact changes are computed: arcs of the network times listed arcs, or pairs of places.
@@ -58,10 +59,6 @@ def group_text(name: str, group: list) -> str:
     return f"{name}: {len(group)} {what[:-1] if len(group) == 1 else what}" + (f", {closed} of them 0" if closed and group[0].is_arc else "")
 
 
-def few(names: Sequence, most: int) -> str:
-    return ", ".join(names[:most]) + (f" and {len(names) - most} more" if len(names) > most else "")
-
-
 # No plan
 
 def reason_lines(net: Network, reason: Any, most: int) -> list:
@@ -75,16 +72,16 @@ def reason_lines(net: Network, reason: Any, most: int) -> list:
 
 
 def change_lines(net: Network, most: int) -> list:
-    """Returns the least change of needs alone and of arcs alone, and of both if that is less."""
-    found, is_large = least_changes(net)
-    if is_large:
+    """Returns the changes at one place that are enough, then the least change of each other kind of bounds."""
+    found = least_changes(net)
+    if found.is_large:
         return ["", "The least change with which there is a plan is not computed: the model is too large."]
-    lines = ["", "Least change with which there is a plan, all shortages together:"]
-    for what, changes in found.items():
+    title = single_title(found.single) if found.single else "all shortages together:"
+    lines = ["", f"Least change with which there is a plan{':' if found.single else ','} {title}", *(f"    {it.sentence()}" for it in found.single)]
+    for what, changes in found.others().items():
         lines.append(f"  {what}: none is enough" if changes is None else f"  {what}: {total(changes)} in all")
-        if leaves_nothing(changes):
-            names = unserved(net, changes)
-            lines[-1] += f", which is all that {len(changes)} places ask for" + (f": {few(names, most)}" if names else "")
+        if is_left_out(changes):
+            lines[-1] += f". {left_out_text(net, changes, most)}"
             continue
         listed = sorted(changes or [], key=lambda it: -it.amount)
         lines += rows([(it.amount, it.sentence()) for it in listed], most)
@@ -93,7 +90,7 @@ def change_lines(net: Network, most: int) -> list:
 
 def infeasible_lines(net: Network, found: list, most: int) -> list:
     """Returns the text of a model without a plan."""
-    lines = ["No plan."]
+    lines = ["No plan.", *(it for line in opposite_sides(net) for it in ("", line))]
     for reason in found[:most if most > SHOWN else SETS]:
         lines += ["", *reason_lines(net, reason, most)]
     if len(found) > SETS and most <= SHOWN:
@@ -159,11 +156,11 @@ def arc_lines(net: Network, gains: Gains, most: int) -> list:
     if not count:
         return ["", "No arc is full, and none is at a lower bound other than 0."]
     lines = ["", f"Arcs at a bound: {count} of {len(net.arcs)}. Arcs at their lower bound 0 are not counted."]
-    title = f"  The first unit past it {better(net)}{'' if gains.is_exact else ', at most'}:"
+    title = f"  If the bound were one unit wider, the plan would {better(net)[:-1]}{'' if gains.is_exact else ' at most'}:"
     # Only the lines that are shown get a limit.
     listed = [(amount, f"{it.text} {bound_text(it)}{gains.limit(it)}") for amount, it in gains.felt[:most]]
     lines += [title, *rows(listed + gains.felt[most:], most)] if gains.felt else []
-    return lines + ([f"  More room {better(net)} nothing at: {free_text(gains.free, most)}"] if gains.free else [])
+    return lines + ([f"  A wider bound {better(net)} nothing at: {free_text(gains.free, most)}"] if gains.free else [])
 
 
 def free_text(arcs: list, most: int) -> str:
@@ -292,16 +289,12 @@ def answer_lines(net: Network, most: int) -> list:
 
 def print_json(net: Network) -> None:
     if net.cut is None:
-        marginal = Marginal(net)
-        found = plan_json(net)
-        for it, node, more in zip(found["nodes"], net.nodes, marginal.more):
-            it["one_more_costs"] = more
-        for it, arc in zip(found["arcs"], net.arcs):
-            it["reduced_cost"] = arc.worth
+        found = plan_columns(net)
+        found["nodes"]["one_more_costs"] = Marginal(net).more
+        found["arcs"]["reduced_cost"] = [it.worth for it in net.arcs]
     else:
         side, inside = net.cut
-        changes, is_large = least_changes(net)
-        found = cut_json(side, [net.nodes[it].text for it in sorted(inside)], reasons(net, side, inside), net, None if is_large else changes)
+        found = cut_json(side, [net.nodes[it].text for it in sorted(inside)], reasons(net, side, inside), net, least_changes(net))
     print(dump_lines(found))
 
 

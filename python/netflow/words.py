@@ -20,6 +20,11 @@ class Token:
         return self.text[1:-1].replace(quote * 2, quote) if quote in ("'", '"') and len(self.text) > 1 else self.text
 
 
+def few(names, most):
+    """Returns the first names as a text, with how many more there are."""
+    return ", ".join(names[:most]) + (f" and {len(names) - most} more" if len(names) > most else "")
+
+
 def tokens(text):
     """Yields the words of a text, without comments, each with its row."""
     row, last = 1, 0

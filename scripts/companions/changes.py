@@ -67,18 +67,25 @@ def check_changes(complaints, folder, seeds):
         if status != 2:
             continue
         net = netflow_texts.read_compiled(run("netflow", "compile", *words)[1])
-        found = netflow_reasons.all_reasons(net, *netflow_texts.read_cut(text, net))
+        net.cut = netflow_texts.read_cut(text, net)
+        found = netflow_reasons.all_reasons(net, *net.cut)
         complaints.same(f"plain {seed}: sets that are short besides those that are listed", None, netflow_reasons.cut_besides(net, found))
         complaints.same(f"plain {seed}: sets that are listed twice", len(found), len({(it.side, *it.nodes) for it in found}))
         short = max(it.short() for it in found)
         complaints.want(f"{short} short" in said[1] or f"{short} too much" in said[1], f"plain {seed}: {short} is not reported as short")
-        for what, changes in netflow_changes.least_changes(net)[0].items():
+        least = netflow_changes.least_changes(net)
+        complaints.same(f"plain {seed}: changes at one place are no least changes", 0, sum(it.amount != min_total(least) for it in least.single))
+        for what, changes in [*least.kinds.items(), *(("at one place", [it]) for it in least.single)]:
             complaints.want(changes is None or sum(it.amount for it in changes) >= short, f"plain {seed}: {what}: less than is short")
             other = Plain(seed)
             if changes and all([other.take(it) for it in changes]):
                 tried += 1
                 complaints.same(f"plain {seed}: {what}: with {[it.sentence() for it in changes]}", 0, other.solve(folder)[1][0])
     complaints.want(tried * 6 > seeds, f"only {tried} changes were tried")
+
+
+def min_total(least):
+    return min((sum(it.amount for it in changes) for changes in least.kinds.values() if changes), default=None)
 
 
 def value(answer):
@@ -152,43 +159,61 @@ SHAPES = (
     ("too little in all", """minimize C; node Depot {d in 1..2}: net_out <= (if d = 1 then 200 else 120);
 node Shop {s in 1..3}: net_in = (if s = 1 then 200 else if s = 2 then 160 else 100);
 arc X {d in 1..2, s in 1..3} >= 0, <= 900, from Depot[d], to Shop[s];
-""", ("All 5 places together: 460 needed, 320 can come at most: 140 short", "200 Depot[1]", "need and give: 140 in all",
-      "carry: none is enough")),
+""", ("All 5 places together: 460 needed, 320 can come at most: 140 short", "200 Depot[1]", "plan: 140 units at one place. "
+      "Any one of these is enough: Shop[1]: needs 60 in place of 200 ", "Depot[2]: gives at most 260 in place of 120", "carry: none is enough")),
     ("a closed way", """minimize C; node Depot: net_out <= 90; node Shop: net_in = 15;
 arc X {i in 1..2} >= 0, <= 0, from Depot, to Shop;
-""", ("Shop: 15 needed, 0 can come at most: 15 short", "0 by X[1] from Depot, which carries 0 to 0", "arcs may carry: 15 in all")),
+""", ("Shop: 15 needed, 0 can come at most: 15 short", "0 by X[1] from Depot, which carries 0 to 0",
+      "plan: 15 units at one place. Any one of these is enough: X[1]: at most 15 in place of 0 X[2]: at most 15 in place of 0 Shop: needs 0 in place of 15")),
     ("lower bounds that clash", """minimize C; node A: net_out >= 0; node Store: 0 <= net_in <= 60;
 arc X >= 35, <= 40, from A, to Store; arc Y >= 30, <= 50, from A, to Store;
 """, ("Store: 65 there at least, room for 60 at most: 5 too much", "35 by X from A, which carries 35 to 40",
-      "5 Store: takes at most 65 in place of 60")),
+      "enough: Store: takes at most 65 in place of 60 X: at least 30 in place of 35 Y: at least 25 in place of 30 (")),
     ("an arc the wrong way round", """minimize C; node Depot: net_out <= 50; node Shop: net_in = 50;
 arc X >= 0, <= 70, from Shop, to Depot;
-""", ("Shop: 50 needed, 0 can come at most: 50 short", "no arc leads in, and nothing else helps", "is one reversed? or is net_out meant instead of net_in?", "X to Depot")),
+""", ("Shop: 50 needed, 0 can come at most: 50 short", "no arc leads in, and nothing else helps", "is one reversed? or is net_out meant instead of net_in?", "X to Depot",
+      "No plan. Shop needs units, but no arc leads in. Is the direction of X reversed?")),
+    ("net_out for net_in at all customers", """minimize C; node Depot {d in 1..2}: net_out <= 90; node Shop {s in 1..3}: net_out = 20 * s;
+arc X {d in 1..2, s in 1..3} >= 0, <= 40, from Depot[d], to Shop[s];
+""", ("No plan. Shop: each of its 3 places gives units, but no arc leads out. Is net_in meant instead of net_out in the condition of Shop? ",)),
+    ("net_in for net_out at all depots", """minimize C; node Depot {d in 1..2}: net_in = 30; node Shop {s in 1..3}: net_in = 20;
+arc X {d in 1..2, s in 1..3} >= 0, <= 40, from Depot[d], to Shop[s];
+""", ("No plan. Depot: each of its 2 places needs units, but no arc leads in. Is net_out meant instead of net_in in the condition of Depot? ",)),
+    ("the sign of all nodes", """minimize C; node City {i in 1..3}: net_in = (if i = 1 then 30 else -15); arc X {i in 2..3} >= 0, <= 40, from City[1], to City[i];
+""", ("No plan. City: each of its 3 places either gives units, but no arc leads out, or needs units, but no arc leads in. "
+      "Is the sign in the condition of City wrong? ",)),
+    ("one number of many", """minimize C; node Depot {d in 1..2}: net_out <= 55; node Shop {s in 1..6}: net_in = (if s = 3 then 60 else 17);
+arc X {d in 1..2, s in 1..6} >= 0, <= 55, from Depot[d], to Shop[s];
+""", ("plan: 35 units at one place. Any one of these is enough: Shop[3]: needs 25 in place of 60 Depot[1]: gives at most 90 in place of 55 "
+      "Depot[2]: gives at most 90 in place of 55 of what arcs may carry: none is enough",)),
+    ("places that get nothing", """minimize C; node Student {s in 1..4}: net_in = 1; arc X {s in 1..4} >= 0, <= (if s <= 2 then 0 else 1), to Student[s];
+""", ("need and give: 2 in all. 2 places would get nothing: Student[1], Student[2]", "carry: none is enough")),
     ("two units", """minimize C; node Depot: net_out <= 10; node Shop: net_in = 5000;
 arc X >= 0, <= 6, from Depot, to Shop; arc Y >= 0, <= 4, from Depot, to Shop;
-""", ("Shop: 5000 needed, 10 can come at most: 4990 short", "6 by X from Depot")),
+""", ("Shop: 5000 needed, 10 can come at most: 4990 short", "6 by X from Depot", "plan: 4990 units at one place: Shop: needs 10 in place of 5000 of what")),
     ("a choice is no bound", """minimize C; node Nurse {n in 1..2}: net_out <= 1; node Day {d in 1..3}: net_in = 1;
 arc Works {n in 1..2, d in 1..3} >= 0, <= 1, from Nurse[n], to Day[d];
-""", ("All 5 places together: 3 needed, 2 can come at most: 1 short", "carry: none is enough")),
+""", ("All 5 places together: 3 needed, 2 can come at most: 1 short", "carry: none is enough",
+      "1 unit at one place. Any one of these is enough: Nurse[1]: gives at most 2 in place of 1 Nurse[2]: gives at most 2 in place of 1 Day[1]: needs 0")),
     ("two shortages", """minimize C; node Depot: net_out <= 100; node Shop {s in 1..2}: net_in = 40;
 arc X {s in 1..2} >= 0, <= 10 * s, from Depot, to Shop[s];
 """, ("arcs may carry: 50 in all", "30 X[1]: at most 40 in place of 10", "20 X[2]: at most 40 in place of 20")),
     ("a shortage that hides a larger one", """minimize C; node Depot: net_out <= 100; node Shop {s in 1..3}: net_in = (if s = 1 then 90 else 20);
 arc X {s in 1..3} >= 0, <= 80, from Depot, to Shop[s];
 """, ("All 4 places together: 130 needed, 100 can come at most: 30 short", "Shop[1]: 90 needed, 80 can come at most: 10 short",
-      "need and give: 30 in all 30 Shop[1]: needs 60 in place of 90")),
+      "plan: 30 units at one place: Shop[1]: needs 60 in place of 90 of what")),
     ("one number that is too large", """minimize C; node Depot {d in 1..3}: net_out <= 20; node Shop {s in 1..6}: net_in = (if s = 5 then 65 else 8);
 arc X {d in 1..3, s in 1..6} >= 0, <= 20, from Depot[d], to Shop[s];
 """, ("All 9 places together: 105 needed, 60 can come at most: 45 short", "Shop[5]: 65 needed, 60 can come at most: 5 short",
-      "need and give: 45 in all 45 Shop[5]: needs 20 in place of 65")),
+      "plan: 45 units at one place: Shop[5]: needs 20 in place of 65 of what")),
     ("a contract that cannot be met", """minimize C; node Plant: net_out <= 100; node Hall; node Shop: net_in <= 100;
 arc X >= 0, <= 1, from Plant, to Hall; arc Y >= 2, <= 9, from Hall, to Shop;
 """, ("Hall: 2 needed, 1 can come at most: 1 short", "2 by Y to Shop, which carries 2 to 9", "1 by X from Plant, which carries 0 to 1",
-      "pass on what they get: Hall")),
+      "pass on what they get: Hall", "1 unit at one place. Any one of these is enough: X: at most 2 in place of 1 Y: at least 1 in place of 2 of what")),
     ("an equation that gives too little", """minimize C; node Plant: net_out = 5; arc X >= 16, <= 20, from Plant;
-""", ("11 Plant: gives 16 in place of 5", "11 X: at least 5 in place of 16")),
+""", ("plan: 11 units at one place. Any one of these is enough: Plant: gives 16 in place of 5 X: at least 5 in place of 16 (",)),
     ("an equation that takes too little", """minimize C; node Shop: net_in = 60; arc X >= 65, <= 70, to Shop;
-""", ("5 Shop: needs 65 in place of 60", "5 X: at least 60 in place of 65")),
+""", ("plan: 5 units at one place. Any one of these is enough: Shop: needs 65 in place of 60 X: at least 60 in place of 65 (",)),
 )
 
 # Models with a plan, and what has to be said of the arcs at their bounds.
@@ -197,7 +222,7 @@ PLANS = (
 """, ("No arc is full, and none is at a lower bound other than 0.",)),
     ("two full arcs in a row", """minimize C; node Hall; node Shop: net_in = 7;
 arc X >= 0, <= 5, to Hall; arc Z >= 0, <= 5, from Hall, to Shop, obj C 1; arc Y >= 0, <= 9, to Shop, obj C 3;
-""", ("Arcs at a bound: 2 of 3. Arcs at their lower bound 0 are not counted.", "More room saves nothing at: ")),
+""", ("Arcs at a bound: 2 of 3. Arcs at their lower bound 0 are not counted.", "A wider bound saves nothing at: ")),
     ("ends without an upper condition", """maximize F; node S: net_out >= 0; node T: net_in >= 0;
 arc X >= 0, <= 5, from S, to T, obj F 1;
 """, ("Bottleneck: 1 arc, 5 in all", "1 X at its most, 5; holds for any number")),

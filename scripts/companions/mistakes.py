@@ -88,7 +88,7 @@ MISTAKES = [Mistake(*it) for it in (
     ("below 0", "data", "Linz 90", "Linz -90", "E34 Restriction model 4:23 has['Linz']", "has['Linz'] is -90 in line 5, column 6; the model has >= 0"),
     ("a dot for a value", "data", "Enns 15 30", "Enns . 30", "E32 NoValue model 10:48 wants['Enns',1]", "wants['Enns',1] is a missing-value dot in line 9, column 6"),
     ("no row for a key", "data", "Graz 100;", ";", "E32 NoValue model 9:38 has['Graz']", "the data have no row of has['Graz']; has is in line 5"),
-    ("a pair of no set", "data", "(Graz, Enns)", "(Graz, Ens)", "E34 Restriction model 6:45 NEAR", "line 15 of the data has Ens, which SHOPS has not"),
+    ("a pair of no set", "data", "(Graz, Enns)", "(Graz, Ens)", "E34 Restriction model 6:45 NEAR", "(Graz,Ens) in line 15 is not in DEPOTS cross SHOPS: SHOPS has no Ens"),
     ("an arc too far", "model", "t in 1..last - 1} >=", "t in 1..last} >=", "E50 NoSuchNode model 14:24 Shop['Wien',3]", "its braces end one period earlier"),
     ("no upper bound", "model", ">= 0, <= room,", ">= 0,", "E52 NoUpper model 13:5 Keep",
      "room is declared and used nowhere: is the bound meant to be it?"),

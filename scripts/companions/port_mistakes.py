@@ -74,5 +74,12 @@ MISTAKES = (
     ("E10 in a line without if", "model", "minimize Cost;", "minimize 3;\nminimize Cost;", "E10", "check the token and the one before it", NO_IF),
     ("a check with >=", "model", "minimize Cost;", "check: sum {p in P} yard[p] >= 60;\nminimize Cost;", "E35", "the left side of >= is too small", "two sums"),
     ("a check with <", "model", "minimize Cost;", "check {p in P}: yard[p] < 25;\nminimize Cost;", "E35", "the right side of < is too small", "left side of"),
+    ("a pair outside a cross product", "data", "(HAM,GOA)", "(HAM,GOA)\n(GOA,ann)", "E34", "(GOA,ann) in line 4 is not in P cross P: P has no ann", "HAM,GOA"),
+    ("a pair outside a condition", "model", "P cross P", "{i in P, j in P: i = j}", "E34",
+     "(HAM,GOA) in line 3 is not in {i in P, j in P: i = j}: i = j is false", "see L"),
+    ("a pair outside a set of pairs", "model", "P cross P", "{('GOA','HAM')}", "E34", "(HAM,GOA) in line 3 is not in {('GOA','HAM')}", "see L"),
+    ("a slice of a set", "data", "(HAM,GOA)", "(HAM,*) GOA (*,HAM) GOA", "E20",
+     "(HAM,*) is a slice of AMPL, which netflow does not have: write whole tuples: set L := (HAM,GOA) (GOA,HAM);", "missing"),
+    ("a table of a set", "data", "set L := (HAM,GOA);", "set L: HAM GOA :=\nHAM - +\nGOA - -;", "E20", "list the pairs that have a +: set L := (HAM,GOA);", "missing"),
     ("decimals", "data", "HAM 20", "HAM 20.5", "E04", "scale the column, for example to cents. In data", "(units)"),
 )

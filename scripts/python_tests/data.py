@@ -73,8 +73,28 @@ MISTAKES = (
     ({"cost": {("north", "hill"): "x"}}, netflow.ModelError, "in key ('north', 'hill') of cost", "cost['north', 'hill'] = 'x'"),
     ({"wants": {"hil": 30}}, netflow.ModelError, "E33 OutsideSet wants['hil'] in key 'hil' of wants", "hil: is hill meant?"),
     ({"wants": {"hill": -3}}, netflow.ModelError, "E34 Restriction", "wants['hill'] is -3 in key 'hill' of wants; the model has >= 0"),
-    ({"cost": [4, 3, 2]}, netflow.DataError, "param cost: 4 in the list has no key, and the model expects 2", "a dict by key, a list of tuples", "a list of dicts"),
-    ({"wants": 5}, netflow.DataError, "param wants: 5 has no keys", "a list of dicts"),
+    ({"cost": [4, 3, 2]}, netflow.DataError, "param cost: 4 in the list has no key; expected a key of 2 parts and a value", "a dict by key, a list of tuples", "a list of dicts"),
+    ({"wants": 5}, netflow.DataError, "param wants: 5 has no keys; expected a key of 1 part for each value", "a list of dicts"),
+    ({"cost": {"north-hill": 4}}, netflow.DataError, "param cost: the key 'north-hill' has 1 part; expected 2, one member for each index of cost {BAKERIES, SHOPS}"),
+    ({"wants": {("hill", "x"): 3}}, netflow.DataError, "param wants: the key ('hill', 'x') has 2 parts; expected 1, one member for each index of wants {SHOPS}"),
+    ({"wants": {1.5: 3}}, netflow.DataError, "param wants: 1.5 is no member: a member is a whole number or a text, so use str(..)"),
+    ({"wants": {1: 3}}, netflow.ModelError, "E33 OutsideSet wants[1] in key 1 of wants", "1 is not in SHOPS, whose members are texts (hill, lake, mill)"),
+    ({"cost": {("hill", "north"): 3}}, netflow.ModelError, "are the two members exchanged? The parts of a key are those of cost {BAKERIES, SHOPS}"),
+    ({"van": {"north": 3}}, netflow.DataError, "param van: van has one value and no keys; expected a number or a text, not the key 'north'"),
+    ({"van": [40]}, netflow.DataError, "param van: [40] is no value; expected a number (int, float, Fraction or Decimal) or a text"),
+    ({"vans": 3}, netflow.DataError, "vans: the model declares no such set or parameter; is van meant?"),
+    ({"speed": 3}, netflow.DataError, "speed: the model declares no such set or parameter; it has BAKERIES, SHOPS, bakes, wants, cost, van"),
+    ({"objectiv": "Total"}, netflow.DataError, "objectiv: the model declares no such set or parameter; is the option objective meant?"),
+    ({"Drive": {("north", "hill"): 3}}, netflow.DataError, "Drive is an arc, and only sets and parameters have data"),
+    ({"SHOPS": "hill lake"}, netflow.DataError, "set SHOPS: 'hill lake' is a text; expected a list of members, such as ['hill', 'lake']"),
+    ({"SHOPS": 3}, netflow.DataError, "set SHOPS: 3 is no list; expected a list of members, such as [3]"),
+    ({"SHOPS": [("hill", 1)]}, netflow.DataError, "set SHOPS: the member ('hill', 1) has 2 parts; expected 1"),
+    ({"wants": [{"shop": "hill", "want": 3}]}, netflow.DataError, "has no column 'wants'; expected the value in a column of this name"),
+    ({"wants": [("hill", "x", 3)]}, netflow.DataError, "param wants: ('hill', 'x', 3) has 3 parts; expected 2, the key and the value"),
+    ({"scale": {"fan": 10}}, netflow.DataError, "scale of fan: the model declares no such parameter; is van meant?"),
+    ({"scale": {"van": 0}}, netflow.DataError, "scale of van: 0 is no factor; expected a whole number of 1 or more"),
+    ({"scale": 100}, TypeError, "scale: expected a dict of parameters and factors, such as {'cost': 100}, not 100"),
+    ({"objective": 3}, TypeError, "objective: expected the name of an objective as a text, not 3"),
     ({"wants": ["hill"]}, netflow.DataError, "param wants: 'hill' in the list has no key"),
     ({"wants": [("hill", 3), ("hill", 4)]}, netflow.DataError, "param wants: the key 'hill' is given twice"),
     ({"wants": [{"shop": "hill", "wants": 3}, {"shop": "hill", "wants": None}]}, netflow.DataError, "param wants: the key 'hill' is given twice"),
@@ -98,10 +118,44 @@ def check_mistakes(complaints):
                 complaints.want("second file" not in text and "dev/null" not in text, f"{values}: {text!r} names a file")
                 if kind is netflow.ModelError and problem.text == "data":
                     complaints.same(f"{values}: file, line, column", (None, 0, 0), (problem.file, problem.line, problem.column))
+    check_missing(complaints)
     try:
         complaints.append(f"no data give {netflow.solve(MODEL)!r}")
     except netflow.ModelError as problem:
         complaints.same("no data", "there are no data: give a data file, or the values from Python", problem.hint)
+
+
+# Which name Python does not give, or how, and the hint.
+MISSING = (
+    ("cost", {}, "cost has no value: give it to solve as cost=.., or in a data file"),
+    ("van", {}, "van has no value: give it to solve as van=.., or in a data file"),
+    ("SHOPS", {}, "SHOPS has no value: give it to solve as SHOPS=.., or in a data file"),
+    ("van", {"van": None}, "van is given without a value, as None or NaN: give it to solve as van=.., or in a data file"),
+    ("wants", {"wants": {"hill": 30, "lake": 45}}, "wants has no value at 'mill'; it has values at 'hill', 'lake'"),
+)
+
+
+PAIRS = "set A; set B; set L within A cross B; minimize C; node X {a in A}; arc Y {(a,b) in L} >= 0, <= 1, from X[a], obj C 1;"
+
+
+def check_missing(complaints):
+    """What Python does not give, a pair outside its sets, and arguments that are no model and no data."""
+    for name, values, hint in MISSING:
+        given = {other: it for other, it in {**WHOLE, "cost": COST}.items() if other != name}
+        try:
+            complaints.append(f"{name} missing gives {netflow.solve(MODEL, **given, **values)!r}")
+        except netflow.ModelError as problem:
+            complaints.same(f"{name} missing: the hint", ("E32", hint), (problem.code, problem.hint))
+    try:
+        complaints.append(f"a pair outside gives {netflow.solve(PAIRS, A=['a', 'b'], B=[1, 2], L=[('a', 1), ('b', 3)])!r}")
+    except netflow.ModelError as problem:
+        complaints.same("a pair outside: the hint", ("E34", "member ('b', 3) of L is not in A cross B: B has no 3"), (problem.code, problem.hint))
+    for words, said in (((None, DATA), "model: expected a path or the text of the model, not None"),
+                        ((MODEL, 5), "data: expected a path, a text, a dict, or a list of these, not 5"), ((MODEL, {"van"}), "not {'van'}")):
+        try:
+            complaints.append(f"{words} give {netflow.solve(*words)!r}")
+        except TypeError as problem:
+            complaints.want(said in str(problem), f"{words}: no {said!r} in {problem}")
 
 
 def check_overrides(complaints):
