@@ -64,7 +64,8 @@ def lines_of(it: Diagnostic) -> list:
     place = it.place() if it.called or it.is_change() else ""
     means, remedy = it.catalogue()
     lines = textwrap.wrap(f"{place}: {means}" if place else means, WIDTH, break_long_words=False, break_on_hyphens=False)
-    lines += source_lines(it) if it.shown.strip() and not it.is_change() else []
+    is_text = "\0" not in it.shown and not it.shown.startswith("PK\x03\x04")
+    lines += source_lines(it) if it.shown.strip() and is_text and not it.is_change() else []
     lines += [f"  Hint: {hint}" for hint in it.hints()]
     if remedy and not it.has_sure_hint():
         lines += textwrap.wrap(f"To fix: {remedy}", WIDTH, initial_indent="  ", subsequent_indent="  ")

@@ -43,10 +43,24 @@ def unread_file(it: Diagnostic) -> Hint:
                 yield f"is {os.path.join(folder, near[0])} meant?", True
 
 
+def spreadsheet(it: Diagnostic) -> str:
+    """Returns what to do with a spreadsheet that is given as a model or as data; an empty text if the file is none."""
+    raw = it.texts.get(it.text, "").encode("utf-8", "surrogateescape")
+    if raw.startswith(b"\xd0\xcf\x11\xe0"):
+        return "this is a spreadsheet of an old form (.xls): save it as .xlsx, and `netflow-sheet list FILE.xlsx` makes data of it"
+    if not raw.startswith(b"PK\x03\x04"):
+        return ""
+    if b"opendocument" in raw[:100]:
+        return "this is a spreadsheet (.ods): save it as .xlsx, and `netflow-sheet list FILE.xlsx` makes data of it"
+    name = it.called if it.called and it.called.lower().endswith(".xlsx") else "FILE.xlsx"
+    return f"this is a spreadsheet (.xlsx): `netflow-sheet list {name}` makes data of it"
+
+
 def odd_character(it: Diagnostic) -> Hint:
     character = it.at()[:1]
-    if it.texts.get(it.text, "").startswith("PK\x03\x04"):
-        yield "this is a spreadsheet (.xlsx): `netflow-sheet list FILE.xlsx` makes data of it", True
+    found = spreadsheet(it)
+    if found:
+        yield found, True
     elif character == "\ufeff":
         yield "the file begins with a byte order mark, which cannot be seen: save it as UTF-8 without one", True
     elif character == "=" and it.text == "data":
@@ -60,8 +74,10 @@ def odd_character(it: Diagnostic) -> Hint:
 
 
 def not_utf8(it: Diagnostic) -> Hint:
-    raw = it.texts.get(it.text, "").encode("utf-8", "surrogateescape")[:2]
-    if raw in (b"\xff\xfe", b"\xfe\xff"):
+    raw, found = it.texts.get(it.text, "").encode("utf-8", "surrogateescape")[:2], spreadsheet(it)
+    if found:
+        yield found, True
+    elif raw in (b"\xff\xfe", b"\xfe\xff"):
         yield "the file is UTF-16: save it as UTF-8, or use iconv -f utf-16 -t utf-8", True
     else:
         yield "the file is perhaps Latin-1 or Windows-1252: save it as UTF-8, or use iconv -f latin1 -t utf-8", False
