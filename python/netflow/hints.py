@@ -10,7 +10,7 @@ import re
 import unicodedata
 from typing import Iterator
 
-from . import hints_data, hints_forms, hints_keys, hints_names, hints_sets, hints_syntax, hints_values
+from . import hints_data, hints_forms, hints_keys, hints_names, hints_sets, hints_syntax, hints_tables, hints_values
 from .ampl_words import KEYWORDS, MEANT, REPLACEMENTS
 from .diagnostics import DECLARING, Diagnostic
 from .words import TOKEN, tokens
@@ -21,6 +21,12 @@ PAIRS = {")": "(", "]": "[", "}": "{"}
 
 
 def hints_of(it: Diagnostic) -> Hint:
+    """Yields the hints for an error. Some leave no doubt, and come without others, which would be wrong next to them."""
+    alone = [found for numbers, hint in hints_tables.ALONE if it.number in numbers for found in hint(it)]
+    yield from alone[:1] or all_hints(it)
+
+
+def all_hints(it: Diagnostic) -> Hint:
     for numbers, hint in (*hints_syntax.HINTS, *hints_forms.HINTS, *hints_sets.HINTS, *HINTS, *hints_keys.HINTS, *hints_values.HINTS,
                           *hints_names.HINTS, *hints_data.HINTS):
         if it.number in numbers:

@@ -8,6 +8,7 @@ import re
 from typing import Any, Iterator
 
 from .hints_keys import heading_place, near, outside_set
+from .hints_tables import heading_fault
 from .hints_values import misspelt_statement, missing_in_set
 from .words import TOKEN, tokens
 
@@ -70,8 +71,13 @@ def uneven(it: Any) -> Hint:
     cells = {row: sum(token.text != "," for token in line) for row, line in rows.items()}
     counts = sorted(cells.values())
     usual = wanted_cells(whole[:cut]) or next((count for count in counts if 2 * counts.count(count) > len(counts) > 2), 0)
+    whole_rows = [[token for token in line if token.text != ","] for line in rows.values()]
+    heading = heading_fault(it, whole[:cut], whole_rows, wanted_cells(whole[:cut])) if it.number == "E21" else ""
+    if heading:
+        yield heading, True
+        return
     if not usual or counts[-1] > 2 * usual - 2 > 0:
-        found = misfit(it, whole[:cut], [token for line in rows.values() for token in line if token.text != ","])
+        found = misfit(it, whole[:cut], [token for line in whole_rows for token in line])
         # A digit that is written as a letter is the mistake, and no cell is missing.
         if found and not any(True for _ in almost_number(it)):
             yield found, True

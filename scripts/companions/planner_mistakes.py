@@ -20,8 +20,36 @@ def workbook():
 
 
 BREAD, CITIES = example("bread"), example("cities")
+BLANK = {**BREAD, "data": BREAD["data"].replace("hill", "'Old hill'")}
+WEEKS = {"model": """set WEEKS;
+param need {WEEKS};
+minimize Total;
+node Week {t in WEEKS}: net_in = need[t];
+arc Make {t in WEEKS} >= 0, <= 30, to Week[t], obj Total 2;
+arc Keep {t in WEEKS: t + 1 in WEEKS} >= 0, <= 9, from Week[t], to Week[t + 1], obj Total 1;
+""", "data": "set WEEKS := 1 2 3;\nparam need := 1 10 2 20 3 30;\n"}
 
 MISTAKES = (
     (BREAD, "a whole workbook as data", "data", "", workbook(), "E06", "this is a spreadsheet (.xlsx): `netflow-sheet list FILE.xlsx` makes data of it", "Latin-1"),
     (BREAD, "an old workbook as data", "data", "", b"\xd0\xcf\x11\xe0\xa1\xb1\x1a\xe1\x00\xff", "E06", "save it as .xlsx", "Latin-1"),
+    (BREAD, "a default of a statement", "data", "param bakes :=", "param default 0: bakes :=", "E20", "give default with each name: param bakes default 0 := ..", "missing"),
+    (BREAD, "a default of two names", "data", "param van := 40;", "param van := 40;\nparam default 5 : bakes wants := north 60 1;", "E20",
+     "param bakes default 5 := ; param wants default 5 := ; param: bakes wants := ..", "missing"),
+    (CITIES, "a default of each column", "data", "param supply default 0 := PITT 450;", "param: supply default 0 demand default 1 := PITT 450 0;", "E20",
+     "param supply default 0 := ; param demand default 1 := ; param: supply demand := ..", "missing"),
+    (BREAD, "no colon of a table", "data", "param cost:", "param cost", "E20", "is a : missing after cost?", ":= missing"),
+    (BLANK, "a name with a blank in a heading", "data", "'Old hill' lake mill :=", "Old hill lake mill :=", "E21",
+     "the heading in line 6 has 4 columns, and each row has 3 values: write a name with a blank in quotes, 'Old hill'", "line 7"),
+    (BREAD, "two words in a heading", "data", "hill lake mill :=", "hill lake side mill :=", "E21",
+     "the heading in line 6 has 4 columns, and each row has 3 values: is a name with a blank in it?", "line 7"),
+    (BREAD, "a column missing in a heading", "data", "hill lake mill :=", "hill lake :=", "E21",
+     "the heading in line 6 has 2 columns, and each row has 3 values: is mill missing in the heading?", "line 7"),
+    (BREAD, "a blank in the names of all rows", "data", "north    4    6    9\n      south    7", "north end    4    6    9\n      south end    7", "E21",
+     "is a name with a blank in the rows? Write it with quotes, 'north end'", "line 7"),
+    (BREAD, "columns that the model lacks", "data", "param wants := hill 30, lake 45, mill 25;",
+     "param: region wants remark := hill N 30 urgent lake S 45 . mill S 25 .;", "E30",
+     "the model has no region and no remark: leave the columns out (netflow-sheet list SHEET --columns KEY,wants)", "is bakes meant"),
+    (WEEKS, "a range in data", "data", "set WEEKS := 1 2 3;", "set WEEKS := 1..3;", "E33",
+     "data have no ranges: write 1 2 3 in line 1, or set WEEKS := 1..3; in the model", "whose members are texts"),
+    (WEEKS, "a long range in data", "data", "set WEEKS := 1 2 3;", "set WEEKS := 1..52;", "E33", "write 1 2 3 4 5 6 .. 52 in line 1", "whose members are texts"),
 )
