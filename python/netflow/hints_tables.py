@@ -73,7 +73,7 @@ def heading_fault(it: Any, head: list, rows: list, wanted: int) -> str:
         return f"{said}: {blank_text(it, columns, wanted - count)}"
     if all(not VALUE.fullmatch(row[1].text) for row in rows):
         first = " ".join(token.bare() for token in rows[0][:count - wanted + 1])
-        return f"each row has {count - 1} cells after its first word, and the heading {wanted - 1} columns: is a name with a blank in the rows? Write it with quotes, '{first}'"
+        return f"{said}: is a name with a blank in the rows? Write it with quotes, '{first}'"
     missing = missing_columns(it, columns, count - wanted)
     return f"{said}: {f'is {missing} missing in the heading?' if missing else 'is a column missing in the heading?'}"
 

@@ -19,6 +19,7 @@ from .reasons import reasons
 from .signs import opposite_sides
 from .sensitivity import Marginal
 from .tables import no_plan
+from .thousands import lines_of_question
 from .words import compared_texts, first_comment, headings
 from .why import Gains, better, bottleneck
 
@@ -37,7 +38,7 @@ class Report:
         self.answer, self.net = question.network(with_prices=True)
         model = question.model.text()
         self.files, self.model, self.reasons = files, model, []
-        self.odd = compared_texts(model, [it.text() for it in question.data])
+        self.odd = [*compared_texts(model, [it.text() for it in question.data]), *lines_of_question(question)]
         self.title, self.unit = first_comment(model) or files, unit or objective_unit(model, self.net.objective)
         self.has_plan = self.net.cut is None
         self.marginal = Marginal(self.net) if self.has_plan else None
