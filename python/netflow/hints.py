@@ -10,7 +10,7 @@ import re
 import unicodedata
 from typing import Iterator
 
-from . import hints_data, hints_forms, hints_keys, hints_names, hints_sets, hints_syntax, hints_tables, hints_values
+from . import hints_data, hints_forms, hints_keys, hints_names, hints_network, hints_sets, hints_syntax, hints_tables, hints_values
 from .ampl_words import KEYWORDS, MEANT, REPLACEMENTS
 from .diagnostics import DECLARING, Diagnostic
 from .words import TOKEN, tokens
@@ -22,7 +22,7 @@ PAIRS = {")": "(", "]": "[", "}": "{"}
 
 def hints_of(it: Diagnostic) -> Hint:
     """Yields the hints for an error. Some leave no doubt, and come without others, which would be wrong next to them."""
-    alone = [found for numbers, hint in hints_tables.ALONE if it.number in numbers for found in hint(it)]
+    alone = [found for numbers, hint in (*hints_tables.ALONE, *hints_network.ALONE) if it.number in numbers for found in hint(it)]
     yield from alone[:1] or all_hints(it)
 
 
@@ -203,7 +203,7 @@ def misplaced(it: Diagnostic) -> Hint:
         yield "in: is within meant?", True
     if it.word() == "=" and any(token.text == "set" for token in statement[:1]):
         yield "a set gets its members by :=, not by =", True
-    if before.endswith(",") and re.search(r"\bfrom\b[^,]*(\[[^\]]*\])?,$", before):
+    if before.endswith(",") and it.word() not in REPLACEMENTS and re.search(r"\bfrom\b[^,]*(\[[^\]]*\])?,$", before):
         yield f"is a to missing before {it.detail or it.word()}?", True
     mark = it.at()[:2]
     if statement and statement[0].text == "arc" and mark in ("<=", ">=") and mark in before and not in_braces(it):

@@ -20,6 +20,14 @@ def workbook():
 
 
 BREAD, CITIES = example("bread"), example("cities")
+TERM = "Feed is a term of the condition of Plant: write an arc to Plant[p] without from, and leave Feed out of the condition:"
+FEED = {"model": """set PLANTS; param least {PLANTS};
+minimize Total;
+arc Feed {p in PLANTS} >= least[p], <= 10;
+node Plant {p in PLANTS}: net_out = Feed[p];
+node Town: net_in = 20;
+arc Send {p in PLANTS} >= 0, <= 20, from Plant[p], to Town, obj Total 1;
+""", "data": "set PLANTS := a b;\nparam least := a 1 b 5;\n"}
 BLANK = {**BREAD, "data": BREAD["data"].replace("hill", "'Old hill'")}
 WEEKS = {"model": """set WEEKS;
 param need {WEEKS};
@@ -52,4 +60,20 @@ MISTAKES = (
     (WEEKS, "a range in data", "data", "set WEEKS := 1 2 3;", "set WEEKS := 1..3;", "E33",
      "data have no ranges: write 1 2 3 in line 1, or set WEEKS := 1..3; in the model", "whose members are texts"),
     (WEEKS, "a long range in data", "data", "set WEEKS := 1 2 3;", "set WEEKS := 1..52;", "E33", "write 1 2 3 4 5 6 .. 52 in line 1", "whose members are texts"),
+    (FEED, "a variable in a condition", "model", "arc Feed", "var Feed", "E14", f"{TERM} arc Feed {{p in PLANTS}} .., to Plant[p]", "a network has arcs"),
+    (FEED, "an arc in a condition", "model", "param least", "param least", "E12", f"{TERM} arc Feed {{p in PLANTS}} .., to Plant[p]", "already counts"),
+    (FEED, "a variable in a condition with net_in", "model", "net_out = Feed", "net_in = Feed", "E12", "write an arc from Plant[p] without to, and leave", "already counts"),
+    (BREAD, "a var in no condition", "model", "node Bakery", "var Sold {SHOPS} >= 0;\nnode Bakery", "E14", "var: a network has arcs", "term"),
+    (BREAD, "coeff after from", "model", "to Shop[s]", "coeff Shop[s] 1", "E14", "coeff Shop[s] 1: write to Shop[s]", "missing before"),
+    (BREAD, "coeff -1", "model", "from Bakery[b]", "coeff Bakery[b] -1", "E14", "coeff Bakery[b] -1: write from Bakery[b]", "gain"),
+    (BREAD, "another coeff", "model", "to Shop[s]", "coeff Shop[s] 2", "E14", "another coefficient is a gain", "missing before"),
+    (BREAD, "cover", "model", "to Shop[s]", "cover {i in SHOPS: i <> s} Shop[i]", "E14", "an arc has one `to`: an arc that reaches several nodes at once makes no network",
+     "missing before"),
+    (BREAD, "= after the objective", "model", "obj Total cost[b,s]", "obj Total = cost[b,s]", "E10", "no = comes after the objective's name: obj Total cost[b,s]", "bound"),
+    (BREAD, "an end with parentheses", "model", "from Bakery[b]", "from Bakery(b)", "E15", "subscripts are in brackets: Bakery[b]", "gain"),
+    (BREAD, "two pairs of brackets", "model", "cost[b,s];", "cost[b][s];", "E10", "subscripts are in one pair of brackets: cost[b,s]", "check the token"),
+    (BREAD, "an index in brackets", "model", "Drive {b in BAKERIES, s in SHOPS}", "Drive [b in BAKERIES, s in SHOPS]", "E10",
+     "an index is in braces: arc Drive {b in BAKERIES, s in SHOPS}", "check the token"),
+    (BREAD, "no comma between sets", "model", "{BAKERIES, SHOPS}", "{BAKERIES SHOPS}", "E10", "is a , missing before SHOPS?", "check the token"),
+    (BREAD, "no comma between indices", "model", "{b in BAKERIES, s in SHOPS}", "{b in BAKERIES s in SHOPS}", "E10", "is a , missing before s?", "check the token"),
 )
