@@ -10,7 +10,7 @@ import re
 import unicodedata
 from typing import Iterator
 
-from . import hints_data, hints_forms, hints_keys, hints_names, hints_network, hints_sets, hints_syntax, hints_tables, hints_values
+from . import hints_data, hints_forms, hints_keys, hints_names, hints_network, hints_sets, hints_sizes, hints_syntax, hints_tables, hints_values
 from .ampl_words import KEYWORDS, MEANT, REPLACEMENTS
 from .diagnostics import DECLARING, Diagnostic
 from .words import TOKEN, tokens
@@ -28,7 +28,7 @@ def hints_of(it: Diagnostic) -> Hint:
 
 def all_hints(it: Diagnostic) -> Hint:
     for numbers, hint in (*hints_syntax.HINTS, *hints_forms.HINTS, *hints_sets.HINTS, *HINTS, *hints_keys.HINTS, *hints_values.HINTS,
-                          *hints_names.HINTS, *hints_data.HINTS):
+                          *hints_names.HINTS, *hints_data.HINTS, *hints_sizes.HINTS):
         if it.number in numbers:
             yield from hint(it)
 

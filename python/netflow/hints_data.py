@@ -2,7 +2,6 @@
 from __future__ import annotations
 
 import difflib
-import math
 import os
 import re
 from typing import Any, Iterator
@@ -308,26 +307,6 @@ def failed_check(it: Any) -> Hint:
         yield again, False
 
 
-def too_many(it: Any) -> Hint:
-    """How many keys the braces at the place, or those of the declaration, have, if their sets are plain."""
-    words = it.statement()
-    name = it.detail or (words[1].text if len(words) > 1 else "")
-    found = re.match(r"\{([^}]*)\}", it.at()) or (re.search(rf"\b{re.escape(name)}\s*\{{([^}}]*)\}}", it.texts.get("model", "")) if name else None)
-    if not found:
-        return
-    sets, sizes = listed(it), []
-    values = {words[0]: words[1] for words in re.findall(r"\bparam\s+(\w+)\s*:=\s*(\d+)\s*;", it.texts["model"] + it.texts.get("data", ""))}
-    for item in found[1].split(":")[0].split(","):
-        part = item.split(" in ")[-1].strip()
-        span = re.fullmatch(r"(\w+)\s*\.\.\s*(\w+)", part)
-        ends = [values.get(end, end) for end in span.groups()] if span else []
-        size = len(sets.get(part, ())) if not span else int(ends[1]) - int(ends[0]) + 1 if all(end.isdigit() for end in ends) else 0
-        if size < 1:
-            return
-        sizes.append(size)
-    yield f"{name} has {' x '.join(map(str, sizes))} = {math.prod(sizes):,} keys: index it by a set of the pairs that exist", True
-
-
 HINTS: tuple = (
     (("E20", "E01", "E21"), sheet),
     (("E20",), joined),
@@ -345,6 +324,5 @@ HINTS: tuple = (
     (("E32",), no_data),
     (("E31", "E32", "E34", "E53", "E54"), speaking),
     (("E35",), failed_check),
-    (("E40", "E59", "E60"), too_many),
 )
 

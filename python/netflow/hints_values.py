@@ -182,6 +182,14 @@ def given_twice(it: Any) -> Hint:
         yield from listed_twice(it)
 
 
+def second_statement(it: Any) -> Hint:
+    """A set or parameter with two statements, as in two data files that were joined."""
+    name, words = it.detail.partition("[")[0], list(tokens(it.texts.get("data", "")))
+    rows = [word.row for word, following in zip(words, words[1:]) if word.text in ("set", "param") and following.bare() == name]
+    if it.text == "data" and not it.is_change() and len(rows) > 1 and rows[0] < it.row:
+        yield f"its first statement is in {it.rows_text(rows[:1])}; are two data files joined? Give both to the tools", True
+
+
 def listed_twice(it: Any) -> Hint:
     """A member, or a tuple, that a set's statement lists twice."""
     words = list(tokens(it.texts.get("data", "")))
@@ -249,6 +257,7 @@ HINTS: tuple = (
     (("E20",), missing_mark),
     (("E34",), restricted),
     (("E31",), given_twice),
+    (("E31",), second_statement),
     (("E32",), no_value),
     (("E32",), missing_value),
     (("E33",), missing_in_set),

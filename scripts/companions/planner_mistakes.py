@@ -28,6 +28,13 @@ node Plant {p in PLANTS}: net_out = Feed[p];
 node Town: net_in = 20;
 arc Send {p in PLANTS} >= 0, <= 20, from Plant[p], to Town, obj Total 1;
 """, "data": "set PLANTS := a b;\nparam least := a 1 b 5;\n"}
+PAIRS = {"model": """minimize Total;
+set P := 1..2000;
+set Q := 2..2000;
+node Plant {p in P}: net_out <= 1;
+node Town {q in Q}: net_in <= 1;
+arc Ship {p in P, q in {p}} >= 0, <= 1, from Plant[p], to Town[q], obj Total 1;
+""", "data": ""}
 BLANK = {**BREAD, "data": BREAD["data"].replace("hill", "'Old hill'")}
 WEEKS = {"model": """set WEEKS;
 param need {WEEKS};
@@ -64,6 +71,16 @@ MISTAKES = (
     (FEED, "an arc in a condition", "model", "param least", "param least", "E12", f"{TERM} arc Feed {{p in PLANTS}} .., to Plant[p]", "already counts"),
     (FEED, "a variable in a condition with net_in", "model", "net_out = Feed", "net_in = Feed", "E12", "write an arc from Plant[p] without to, and leave", "already counts"),
     (BREAD, "a var in no condition", "model", "node Bakery", "var Sold {SHOPS} >= 0;\nnode Bakery", "E14", "var: a network has arcs", "term"),
+    (BREAD, "two data files joined", "data", "south    7    5    3;", f"south 7 5 3;\n{BREAD['data']}", "E31",
+     "its first statement is in line 1; are two data files joined? Give both to the tools", "remove one"),
+    (BREAD, "a second statement of a parameter", "data", "south    7    5    3;", "south 7 5 3;\nparam bakes := south 40;", "E31",
+     "bakes['south'] is 50 in line 3 and 40 in line 9: remove one of the two Hint: its first statement is in line 3; are two data files joined?", None),
+    (PAIRS, "too many tuples", "model", "q in {p}}", "q in Q: p = q}", "E40",
+     "Ship has 2,000 x 1,999 = 3,998,000 tuples before their condition, and 1,000,000 are the most: write {p in P inter Q, q in {p}}", "put the smaller"),
+    (PAIRS, "too many tuples of two conditions", "model", "q in {p}}", "q in Q: p > 5 and q = p}", "E40", "write {p in P inter Q, q in {p}: p > 5}", "put the smaller"),
+    (PAIRS, "too many tuples of one set", "model", "{p in P, q in {p}}", "{p in P, q in P: p = q and p in Q}", "E40", "write {p in P, q in {p}: p in Q}", "put the smaller"),
+    (PAIRS, "too many arcs", "model", "arc Ship {p in P, q in {p}}", "arc Ship {p in 1..500, q in 2..401}", "E60",
+     "Ship has 500 x 400 = 200,000 arcs, and 100,000 are the most: index it by a set of the tuples that exist", "split"),
     (BREAD, "coeff after from", "model", "to Shop[s]", "coeff Shop[s] 1", "E14", "coeff Shop[s] 1: write to Shop[s]", "missing before"),
     (BREAD, "coeff -1", "model", "from Bakery[b]", "coeff Bakery[b] -1", "E14", "coeff Bakery[b] -1: write from Bakery[b]", "gain"),
     (BREAD, "another coeff", "model", "to Shop[s]", "coeff Shop[s] 2", "E14", "another coefficient is a gain", "missing before"),
