@@ -10,19 +10,20 @@ import re
 import unicodedata
 from typing import Iterator
 
-from . import hints_data, hints_forms, hints_keys, hints_names, hints_network, hints_sets, hints_sizes, hints_syntax, hints_tables, hints_values
+from . import hints_data, hints_forms, hints_keys, hints_names, hints_network, hints_numbers, hints_sets, hints_sizes, hints_syntax, hints_tables, hints_values
 from .ampl_words import KEYWORDS, MEANT, REPLACEMENTS
 from .diagnostics import DECLARING, Diagnostic
 from .words import TOKEN, tokens
 
 Hint = Iterator[tuple]
 FUNCTIONS = {"card", "abs", "next", "prev", "first", "last"}
+SIDE = r"(?:[^,;\[\]]|\[[^\]]*\])+?"
 PAIRS = {")": "(", "]": "[", "}": "{"}
 
 
 def hints_of(it: Diagnostic) -> Hint:
     """Yields the hints for an error. Some leave no doubt, and come without others, which would be wrong next to them."""
-    alone = [found for numbers, hint in (*hints_tables.ALONE, *hints_network.ALONE) if it.number in numbers for found in hint(it)]
+    alone = [found for numbers, hint in (*hints_numbers.ALONE, *hints_tables.ALONE, *hints_network.ALONE) if it.number in numbers for found in hint(it)]
     yield from alone[:1] or all_hints(it)
 
 
@@ -151,8 +152,7 @@ def condition_word(it: Diagnostic) -> Hint:
         if token.text in ("to_come", "cover", "coeff"):
             yield f"{token.text}: {REPLACEMENTS[token.text]}", True
             return
-    words = " ".join(token.text for token in statement)
-    found = re.search(r"(net_(?:in|out)) > = (\S+) , < = (\S+)", words) or re.search(r"(net_(?:in|out)) >= (\S+) , <= (\S+)", words)
+    found = re.search(rf"(net_(?:in|out))\s*>=\s*({SIDE})\s*,\s*<=\s*({SIDE})\s*(?:;|$)", it.shown)
     if found:
         yield f"a range is one condition: {found[2]} <= {found[1]} <= {found[3]}", True
 
@@ -171,7 +171,7 @@ def unended_declaration(it: Diagnostic) -> Hint:
 def unended_text(it: Diagnostic) -> Hint:
     """The text ends before its last `;`."""
     rest = [token for token in tokens(it.texts.get(it.text, ""))]
-    if rest and rest[-1].text != ";" and rest[-1].row == it.row and not it.at().strip():
+    if rest and rest[-1].text != ";" and rest[-1].row == it.row and not list(tokens(it.at())):
         opened = [token.text for token in rest if token.text in PAIRS.values()]
         closed = [token.text for token in rest if token.text in PAIRS]
         if len(opened) == len(closed):

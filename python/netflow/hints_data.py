@@ -261,7 +261,11 @@ def comma_in_number(it: Any) -> Hint:
     before = it.before.rstrip()
     if it.text == "data" and before.endswith(",") and re.search(r"\d\s*,$", before) and it.word()[:1].isdigit():
         first = before.rstrip(",").split()[-1]
-        yield f"is the comma part of a number? Write {first}{it.word().rstrip(';')} without it", True
+        second = it.word().rstrip(";")
+        if re.fullmatch(r"\d{3}", second):
+            yield f"is the comma part of a number? Write {first}{second} without it", True
+        else:
+            yield f"is the comma part of a number? Decimals have a point: {first}.{second}", True
 
 
 def speaking(it: Any) -> Hint:

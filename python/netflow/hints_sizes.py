@@ -55,7 +55,7 @@ def too_many(it: Any) -> Hint:
         return
     condition = found.args[-1] if found.op == "braces" and found.value else None
     total = f"{' x '.join(f'{count:,}' for count in sizes)} = {math.prod(sizes):,}"
-    said = MOST[it.number].replace(",", " before their condition,", 1) if condition is not None else MOST[it.number]
+    said = MOST[it.number].replace(",", " before the condition is evaluated,", 1) if condition is not None else MOST[it.number]
     smaller = fewer(sets, it.texts["model"], items, condition)
     yield f"{decl.name or decl.kind} has {total} {said}: {f'write {smaller}' if smaller else 'index it by a set of the tuples that exist'}", True
 

@@ -17,6 +17,7 @@ def bread(folder, name, *changes):
 def check_remarks(complaints, folder):
     check_points(complaints, folder)
     check_points_of_sheets(complaints, folder)
+    check_error_values(complaints, folder)
 
 
 def check_points(complaints, folder):
@@ -50,3 +51,10 @@ def check_points_of_sheets(complaints, folder):
     for place, text, meant in (("B2", "1.200", 1200), ("B4", "1.000", 1000)):
         complaints.want(f"{sheet}:{place}: {text}: is {meant} meant? {POINT}\n" in told, f"sheet list: {place} in {told!r}")
     complaints.same("sheet list: points", 2, told.count(POINT))
+
+
+def check_error_values(complaints, folder):
+    """An error value of a spreadsheet is no value; its cell is named."""
+    sheet = write(folder, "errors.csv", ",hill,lake\nnorth,4,#N/A\n")
+    said = f"{sheet}:C2: '#N/A' is an error value of the spreadsheet: write the number, or leave the cell empty\n"
+    complaints.same("sheet grid: an error value", (3, "", said), run("netflow-sheet", "grid", "cost", sheet))
