@@ -18,6 +18,7 @@ from .model_text import Unparsed, parse
 from .outputs import cut_json, dump_lines, plan_columns
 from .question import Input, Question
 from .reasons import reasons
+from .remarks import remark_lines
 from .sensitivity import Marginal, arc_change, arc_units
 from .signs import opposite_sides
 from .texts import Network
@@ -291,7 +292,7 @@ def answer_lines(net: Network, most: int) -> list:
 def text_lines(question: Question, net: Network, most: int) -> list:
     """Returns the answer with what is worth a look; below `No plan.` the numbers that may be the reason come first."""
     lines, grouped = answer_lines(net, most), lines_of_question(question)
-    odd = compared_texts(question.model.text(), [it.text() for it in question.data])
+    odd = [*compared_texts(question.model.text(), [it.text() for it in question.data]), *remark_lines(question, net)]
     if net.cut is not None and grouped:
         lines[1:1] = ["", *grouped]
         grouped = []

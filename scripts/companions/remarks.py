@@ -18,6 +18,8 @@ def check_remarks(complaints, folder):
     check_points(complaints, folder)
     check_points_of_sheets(complaints, folder)
     check_error_values(complaints, folder)
+    check_limits(complaints, folder)
+    check_empty(complaints, folder)
 
 
 def check_points(complaints, folder):
@@ -58,3 +60,27 @@ def check_error_values(complaints, folder):
     sheet = write(folder, "errors.csv", ",hill,lake\nnorth,4,#N/A\n")
     said = f"{sheet}:C2: '#N/A' is an error value of the spreadsheet: write the number, or leave the cell empty\n"
     complaints.same("sheet grid: an error value", (3, "", said), run("netflow-sheet", "grid", "cost", sheet))
+
+
+def check_limits(complaints, folder):
+    """A limit on net_in where no arc leads in, and on net_out where none leads out, limits nothing; the example has neither."""
+    text = (BREAD / "bread.mod").read_text(encoding="utf-8")
+    no_arc_in = "Bakery['north']: no arc leads in, so net_in <= 60 limits nothing: is net_out meant? (1 more of Bakery)"
+    no_arc_out = "Shop['hill']: no arc leads out, so net_out <= 30 limits nothing: is net_in meant? (2 more of Shop)"
+    for right, wrong, line in (("net_out <= bakes[b]", "net_in <= bakes[b]", no_arc_in), ("net_in = wants[s]", "net_out <= wants[s]", no_arc_out),
+                               ("no such text", "", "")):
+        model = write(folder, "limits.mod", text.replace(right, wrong))
+        for tool in ("netflow-why", "netflow-report"):
+            out = run(tool, model, BREAD / "bread.dat")[1].replace("&#x27;", "'").replace("&lt;", "<")
+            complaints.want(line in out and ("limits nothing" in out) == bool(line), f"{tool}: {wrong!r}: {line!r}")
+
+
+def check_empty(complaints, folder):
+    """An empty set, and a condition that no key fulfils, leave a declaration without arcs."""
+    data = write(folder, "empty.dat", "set BAKERIES := north south;\nset SHOPS := ;\nparam bakes := north 60 south 50;\nparam van := 40;\n")
+    text = (BREAD / "bread.mod").read_text(encoding="utf-8")
+    never = write(folder, "never.mod", text.replace("s in SHOPS} >=", "s in SHOPS: van > 99} >="))
+    for tool in ("netflow-why", "netflow-report"):
+        complaints.want("Drive has no arcs: the set SHOPS is empty" in run(tool, BREAD / "bread.mod", data)[1], f"{tool}: an empty set")
+        complaints.want("Drive has no arcs: no key fulfils the condition of its braces" in run(tool, never, BREAD / "bread.dat")[1], f"{tool}: no key")
+        complaints.want("has no arcs" not in run(tool, BREAD / "bread.mod", BREAD / "bread.dat")[1], f"{tool}: a remark on the example")
