@@ -15,8 +15,8 @@ KEY = r"(?:\s*\[[^\]]*\])?"
 def node_with(it: Any, name: str) -> Any:
     """Returns the match of the node in whose condition a name is a term: `node`, `braces`, `net`, `sign`; None if there is none."""
     model = re.sub(r"#[^\n]*", "", it.texts.get("model", ""))
-    pattern = rf"\bnode\s+(?P<node>{NAME})\s*(?P<braces>\{{[^{{}}]*\}})?\s*:\s*(?P<net>net_in|net_out)\s*=(?P<side>[^;]*?(?P<sign>[-+]?)\s*\b{re.escape(name)}\b{KEY}[^;]*);"
-    return re.search(pattern, model)
+    head = rf"\bnode\s+(?P<node>{NAME})\s*(?P<braces>\{{[^{{}}]*\}})?\s*:\s*(?P<net>net_in|net_out)\s*="
+    return re.search(rf"{head}(?P<side>[^;]*?(?P<sign>[-+]?)\s*\b{re.escape(name)}\b{KEY}[^;]*);", model)
 
 
 def index_of(braces: str) -> str:
@@ -63,7 +63,8 @@ def end_with_parentheses(it: Any) -> Hint:
     """`from Bakery(b)`."""
     found = re.search(rf"\b(?:from|to)\s+({NAME})\s*$", it.before)
     inside = re.match(rf"\(((?:\s*{NAME}\s*,?)+)\)", it.at())
-    if it.text == "model" and found and inside:
+    has_index = found and re.search(rf"\bnode\s+{found[1]}\s*\{{", it.texts["model"])
+    if it.text == "model" and found and has_index and inside:
         yield f"subscripts are in brackets: {found[1]}[{','.join(part.strip() for part in inside[1].split(','))}]", True
 
 

@@ -19,7 +19,8 @@ def error_value(it: Any) -> Hint:
     text = it.texts.get("data", "")
     for found in ERROR_LINE.finditer(text) if it.text == "data" else ():
         row = text.count("\n", 0, found.start(1)) + 1
-        yield f"{found[1]} in {it.rows_text([row])} is an error value of a spreadsheet, and # begins a comment: write the number, or a point if there is none", True
+        said = f"{found[1]} in {it.rows_text([row])} is an error value of a spreadsheet, and # begins a comment"
+        yield f"{said}: write the number, or a point if there is none", True
         return
 
 
@@ -55,11 +56,16 @@ def grouped_in_list(it: Any) -> Hint:
     body = re.sub(r"#[^\n]*", "", body.partition(head[1])[2].partition(":=")[2].partition(";")[0])
     for pattern in (COMMA, BLANK):
         found = re.search(pattern, body)
-        joined = re.sub(pattern, "0", body)
-        if found and size > 1 and len(re.split(r"[\s,]+", joined.strip(" \n,"))) % size == 0:
+        if found and size > 1 and has_values(re.sub(pattern, "0", body), size) and not has_values(body, size):
             row = next(row for row in range(words[0].row, words[-1].row + 1) if found[0] in lines[row - 1])
             yield f"{found[0]} in {it.rows_text([row])}: {number_of(found[0])}", True
             return
+
+
+def has_values(body: str, size: int) -> bool:
+    """Whether a list has whole rows with a number as the last cell of each."""
+    cells = body.replace(",", " ").split()
+    return len(cells) % size == 0 and all(re.match(r"[+-]?[.\d]", cell) for cell in cells[size - 1::size])
 
 
 def many_points(it: Any) -> Hint:

@@ -38,9 +38,9 @@ def without_arcs(net: Network, model: str, data: list) -> list:
         shapes = Shapes(parse(model), model)
     except Unparsed:
         return []
-    lines = []
+    lines, declared = [], net.declared()
     for name in shapes.names("arc"):
-        if name in net.declared():
+        if name in declared:
             continue
         braces = shapes.decls[name].braces
         sets = [part.value for part in braces.walk() if part.op == "name" and part.value in shapes.sets] if braces else []

@@ -65,8 +65,8 @@ def scenarios(words: argparse.Namespace, out: Any) -> int:
     for case in cases:
         try:
             with question_of(words, case) as question:
-                note_grouped(question)
                 row = case_cells(base, question.network()[1])
+                note_grouped(question)
         except ProgramError as problem:
             if problem.status != REJECTED:
                 raise

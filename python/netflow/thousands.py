@@ -10,7 +10,7 @@ from .texts import shown
 
 # A first 0, as in 0.125, begins a decimal.
 GROUPED = re.compile(r"[+-]?[1-9][0-9]{0,2}(?:\.[0-9]{3})+")
-MAYBE = re.compile(r"[1-9]\.[0-9]{3}|[0-9]{2}\.[0-9]{3}")
+MAYBE = re.compile(r"(?<![\w.])[1-9][0-9]{0,2}\.[0-9]{3}(?![0-9])")
 SOME = 5
 
 

@@ -89,6 +89,8 @@ MISTAKES = (
     (BREAD, "a decimal comma in a list", "data", "hill 30", "hill 30,5", "E37", "30,5 in line 4: is 30.5 meant? Decimals have a point", "cells"),
     (BREAD, "a comma for thousands in a list", "data", "north 60", "north 1,060", "E37", "1,060 in line 3: is 1060 meant? Digits are not grouped", "cells"),
     (BREAD, "a blank for thousands in a list", "data", "hill 30", "hill 1 030", "E37", "1 030 in line 4: is 1030 meant? Digits are not grouped", "cells"),
+    (BREAD, "two decimal commas in a list", "data", "hill 30, lake 45", "hill 30,5, lake 45,5", "E3", "30,5 in line 4: is 30.5 meant? Decimals have a point", "cells"),
+    (WEEKS, "commas between numbers", "data", "1 10 2 20 3 30", "1 10,2 20,9 30", "E33", "9 is not in WEEKS", "meant?"),
     (BREAD, "a decimal comma in one value", "data", "van := 40", "van := 30,5", "E31", "is the comma part of a number? Decimals have a point: 30.5", "305"),
     (BREAD, "two points", "data", "hill 30", "hill 1.200.000", "E36", "1.200.000: is 1200000 meant? A point begins decimals", "cells"),
     (BREAD, "the last ; before a comment", "model", "obj Total cost[b,s];", "obj Total cost[b,s]  # per loaf", "E10", "is a ; missing at the end of line 13?", "check the token"),
