@@ -13,30 +13,38 @@ KEY = r"(?:\s*\[[^\]]*\])?"
 
 
 def node_with(it: Any, name: str) -> Any:
-    """Returns the match of the node in whose condition a name is a term: `node`, `braces`, `net`, `sign`; None if there is none."""
+    """Returns the match of the node in whose condition a name is a term, with its `node`, `braces`, `net`, `sign` and `key`; None if there
+    is none."""
     model = re.sub(r"#[^\n]*", "", it.texts.get("model", ""))
     head = rf"\bnode\s+(?P<node>{NAME})\s*(?P<braces>\{{[^{{}}]*\}})?\s*:\s*(?P<net>net_in|net_out)\s*="
-    return re.search(rf"{head}(?P<side>[^;]*?(?P<sign>[-+]?)\s*\b{re.escape(name)}\b{KEY}[^;]*);", model)
+    term = rf"(?P<sign>[-+]?)\s*(?:sum\s*\{{[^{{}}]*\}}\s*)?\b{re.escape(name)}\b\s*(?:\[(?P<key>[^\]]*)\])?"
+    return re.search(rf"{head}[^;]*?{term}[^;]*;", model)
 
 
-def index_of(braces: str) -> str:
-    """Returns the subscripts for the indices of braces, such as `[p]`; an empty text without braces."""
-    parts = [part.partition(" in ")[0].strip("{}() ") for part in (braces or "").partition(":")[0].split(",")]
-    return f"[{','.join(parts)}]" if braces else ""
+def indices_of(braces: str | None) -> list:
+    """Returns the indices of braces such as `{p in PLANTS, (i,j) in L: i <> j}`, and for an item without one an empty text."""
+    inside = (braces or "")[1:-1].partition(":")[0]
+    return [part.strip("() ") if is_in else "" for part, is_in, _ in (item.partition(" in ") for item in inside.split(","))] if inside.strip() else []
 
 
 def variable_in_condition(it: Any) -> Hint:
     """`var Feed {p in PLANTS}` or `arc Feed`, and `node Plant {p in PLANTS}: net_out = Feed[p]`."""
     name = it.detail if it.number == "E12" else (TOKEN.findall(it.at())[1:2] or [""])[0]
-    declared = re.search(rf"\b(?:var|arc)\s+{re.escape(name)}\b[^;]*", it.texts.get("model", "")) if name else None
-    is_declared = declared is not None and not re.search(r"\b(?:from|to)\b", declared[0])  # an arc with ends has been understood
-    found = node_with(it, name) if it.text == "model" and re.fullmatch(NAME, name) and is_declared else None
-    if found and (it.number == "E12" or it.word() == "var"):
-        enters = (found["net"] == "net_out") != (found["sign"] == "-")
-        node = f"{found['node']}{index_of(found['braces'])}"
-        end = f"to {node} without from" if enters else f"from {node} without to"
-        yield (f"{name} is a term of the condition of {found['node']}: write an arc {end}, and leave {name} out of the condition: "
-               f"arc {name}{' ' + found['braces'] if found['braces'] else ''} .., {end.rpartition(' without')[0]}"), True
+    if it.text != "model" or not re.fullmatch(NAME, name) or not (it.number == "E12" or it.word() == "var"):
+        return
+    declared = re.search(rf"\b(?:var|arc)\s+{re.escape(name)}\b\s*(\{{[^{{}}]*\}})?[^;]*", it.texts["model"])
+    found = node_with(it, name)
+    if found is None or declared is None or re.search(r"\b(?:from|to)\b", declared[0]):  # an arc with ends has been understood
+        return
+    # The indices of the arc, by those of the term that the node's indices are.
+    key, own = [part.strip() for part in (found["key"] or "").split(",")], indices_of(declared[1])
+    names = {part: index for part, index in zip(key, own) if index}
+    subscripts = ",".join(names.get(index, index) for index in indices_of(found["braces"]))
+    enters = (found["net"] == "net_out") != (found["sign"] == "-")
+    end, without = (f"{word} {found['node']}{f'[{subscripts}]' if subscripts else ''}" for word in (("to", "from") if enters else ("from", "to")))
+    is_var = "var " if it.number == "E14" else ""
+    yield (f"{is_var}{name} is a term of the condition of {found['node']}: write an arc {end} without {without.partition(' ')[0]}, and leave {name} out of "
+           f"the condition: arc {name}{' ' + declared[1] if declared[1] else ''} .., {end}"), True
 
 
 def coefficient(it: Any) -> Hint:
