@@ -211,7 +211,11 @@ def second_statement(it: Any) -> Hint:
     """A set or parameter with two statements, as in two data files that were joined."""
     name, words = it.detail.partition("[")[0], list(tokens(it.texts.get("data", "")))
     rows = [word.row for word, following in zip(words, words[1:]) if word.text in ("set", "param") and following.bare() == name]
-    if it.text == "data" and not it.is_change() and len(rows) > 1 and rows[0] < it.row:
+    if it.text != "data" or it.is_change():
+        return
+    if "[" not in it.detail and re.match(rf"{re.escape(name)}\s+default\b", it.at()):
+        yield f"{name} has a default in an earlier statement: its statements are in {it.rows_text(rows)}; keep one default", True
+    elif len(rows) > 1 and rows[0] < it.row:
         yield f"its first statement is in {it.rows_text(rows[:1])}; are two data files joined? Give both to the tools", True
 
 

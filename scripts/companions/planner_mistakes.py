@@ -79,6 +79,8 @@ MISTAKES = (
     (BREAD, "a var in no condition", "model", "node Bakery", "var Sold {SHOPS} >= 0;\nnode Bakery", "E14", "var: a network has arcs", "term"),
     (BREAD, "two data files joined", "data", "south    7    5    3;", f"south 7 5 3;\n{BREAD['data']}", "E31",
      "its first statement is in line 1; are two data files joined? Give both to the tools", "remove one"),
+    (BREAD, "two defaults", "data", "param bakes := north 60, south 50;", "param bakes default 1 := north 60;\nparam bakes default 2 := south 50;", "E31",
+     "bakes has a default in an earlier statement: its statements are in line 3, 4; keep one default", "joined"),
     (BREAD, "a second statement of a parameter", "data", "south    7    5    3;", "south 7 5 3;\nparam bakes := south 40;", "E31",
      "bakes['south'] is 50 in line 3 and 40 in line 9: remove one of the two Hint: its first statement is in line 3; are two data files joined?", None),
     (PAIRS, "too many tuples", "model", "q in {p}}", "q in Q: p = q}", "E40",
