@@ -19,7 +19,9 @@ from .outputs import dump_lines, error_json
 from .program import INTERNAL, REJECTED, UNREADABLE_FILE, USAGE, Patience
 from .question import Input, Question
 from .texts import Network
+from .thousands import lines_of_question
 
+NOTED: set = set()
 OTHER_VERSION = "the output of netflow does not have the documented form; is the program of another version?"
 
 
@@ -142,6 +144,13 @@ def note_fractions(net: Network) -> None:
     text = fractions_text(net)
     if text:
         sys.stderr.write(f"{os.path.basename(sys.argv[0])}: {text}\n")
+
+
+def note_grouped(question: Question) -> None:
+    """Prints on standard error the decimals that may be whole numbers with grouped digits, each once."""
+    new = [line for line in lines_of_question(question) if line not in NOTED]
+    NOTED.update(new)
+    sys.stderr.write("".join(f"{os.path.basename(sys.argv[0])}: {line}\n" for line in new))
 
 
 def title_of(words: argparse.Namespace) -> str:

@@ -27,6 +27,8 @@ from .outputs import dump_lines, error_json
 from .program import USAGE, Session, program
 from .question import Question
 from .texts import divided_cut, shown
+from .thousands import grouped_lines, lines_of_question
+from .words import read
 
 WIDTH, AROUND = 100, 60
 
@@ -64,7 +66,8 @@ def lines_of(it: Diagnostic) -> list:
     place = it.place() if it.called or it.is_change() else ""
     means, remedy = it.catalogue()
     lines = textwrap.wrap(f"{place}: {means}" if place else means, WIDTH, break_long_words=False, break_on_hyphens=False)
-    lines += source_lines(it) if it.shown.strip() and not it.is_change() else []
+    is_text = "\0" not in it.shown and not it.shown.startswith("PK\x03\x04")
+    lines += source_lines(it) if it.shown.strip() and is_text and not it.is_change() else []
     lines += [f"  Hint: {hint}" for hint in it.hints()]
     if remedy and not it.has_sure_hint():
         lines += textwrap.wrap(f"To fix: {remedy}", WIDTH, initial_indent="  ", subsequent_indent="  ")
@@ -90,6 +93,9 @@ def explain(words: list, is_json: bool) -> int:
             print_json(found, options)
             return done.returncode
         sys.stderr.buffer.write(done.stderr)
+        if words[0] == "solve" and done.returncode in (0, 2):
+            texts = [read(path) for path in session.files]
+            write_hints(grouped_lines(texts[0], [(None, text) for text in texts[1:]]))
         sys.stderr.write("".join(f"{it}\n" for it in [*lines_of(found), *further_lines(found, options)]) if found else "")
     return done.returncode
 
@@ -121,6 +127,7 @@ def explain_rewritten(words: list, is_json: bool) -> int:
                 return 0
             answer = question.ask("solve")
             sys.stdout.write(answer.text if question.factors.is_plain() else divided_text(question))
+            write_hints(lines_of_question(question))
             return answer.status
         except ProgramError as problem:
             found = Diagnostic.of_question(problem, question)
@@ -132,6 +139,12 @@ def explain_rewritten(words: list, is_json: bool) -> int:
                 lines = [problem.message.rstrip("\n"), *lines_of(found), *further_lines(found, question.options)]
                 sys.stderr.write("".join(f"{it}\n" for it in lines))
             return problem.status
+
+
+def write_hints(lines: list) -> None:
+    """Writes on standard error what is worth a look next to an answer."""
+    sys.stdout.flush()
+    sys.stderr.write("".join(f"Hint: {line}\n" for line in lines))
 
 
 def divided_text(question: Question) -> str:

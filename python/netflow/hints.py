@@ -10,19 +10,26 @@ import re
 import unicodedata
 from typing import Iterator
 
-from . import hints_data, hints_forms, hints_keys, hints_names, hints_sets, hints_syntax, hints_values
+from . import hints_data, hints_forms, hints_keys, hints_names, hints_network, hints_numbers, hints_sets, hints_sizes, hints_syntax, hints_tables, hints_values
 from .ampl_words import KEYWORDS, MEANT, REPLACEMENTS
 from .diagnostics import DECLARING, Diagnostic
 from .words import TOKEN, tokens
 
 Hint = Iterator[tuple]
 FUNCTIONS = {"card", "abs", "next", "prev", "first", "last"}
+SIDE = r"(?:[^,;\[\]]|\[[^\]]*\])+?"
 PAIRS = {")": "(", "]": "[", "}": "{"}
 
 
 def hints_of(it: Diagnostic) -> Hint:
+    """Yields the hints for an error. Some leave no doubt, and come without others, which would be wrong next to them."""
+    alone = [found for numbers, hint in (*hints_numbers.ALONE, *hints_tables.ALONE, *hints_network.ALONE) if it.number in numbers for found in hint(it)]
+    yield from alone[:1] or all_hints(it)
+
+
+def all_hints(it: Diagnostic) -> Hint:
     for numbers, hint in (*hints_syntax.HINTS, *hints_forms.HINTS, *hints_sets.HINTS, *HINTS, *hints_keys.HINTS, *hints_values.HINTS,
-                          *hints_names.HINTS, *hints_data.HINTS):
+                          *hints_names.HINTS, *hints_data.HINTS, *hints_sizes.HINTS):
         if it.number in numbers:
             yield from hint(it)
 
@@ -43,10 +50,24 @@ def unread_file(it: Diagnostic) -> Hint:
                 yield f"is {os.path.join(folder, near[0])} meant?", True
 
 
+def spreadsheet(it: Diagnostic) -> str:
+    """Returns what to do with a spreadsheet that is given as a model or as data; an empty text if the file is none."""
+    raw = it.texts.get(it.text, "").encode("utf-8", "surrogateescape")
+    if raw.startswith(b"\xd0\xcf\x11\xe0"):
+        return "this is a spreadsheet of an old form (.xls): save it as .xlsx, and `netflow-sheet list FILE.xlsx` makes data of it"
+    if not raw.startswith(b"PK\x03\x04"):
+        return ""
+    if b"opendocument" in raw[:100]:
+        return "this is a spreadsheet (.ods): save it as .xlsx, and `netflow-sheet list FILE.xlsx` makes data of it"
+    name = it.called if it.called and it.called.lower().endswith(".xlsx") else "FILE.xlsx"
+    return f"this is a spreadsheet (.xlsx): `netflow-sheet list {name}` makes data of it"
+
+
 def odd_character(it: Diagnostic) -> Hint:
     character = it.at()[:1]
-    if it.texts.get(it.text, "").startswith("PK\x03\x04"):
-        yield "this is a spreadsheet (.xlsx): `netflow-sheet list FILE.xlsx` makes data of it", True
+    found = spreadsheet(it)
+    if found:
+        yield found, True
     elif character == "\ufeff":
         yield "the file begins with a byte order mark, which cannot be seen: save it as UTF-8 without one", True
     elif character == "=" and it.text == "data":
@@ -60,8 +81,10 @@ def odd_character(it: Diagnostic) -> Hint:
 
 
 def not_utf8(it: Diagnostic) -> Hint:
-    raw = it.texts.get(it.text, "").encode("utf-8", "surrogateescape")[:2]
-    if raw in (b"\xff\xfe", b"\xfe\xff"):
+    raw, found = it.texts.get(it.text, "").encode("utf-8", "surrogateescape")[:2], spreadsheet(it)
+    if found:
+        yield found, True
+    elif raw in (b"\xff\xfe", b"\xfe\xff"):
         yield "the file is UTF-16: save it as UTF-8, or use iconv -f utf-16 -t utf-8", True
     else:
         yield "the file is perhaps Latin-1 or Windows-1252: save it as UTF-8, or use iconv -f latin1 -t utf-8", False
@@ -129,8 +152,7 @@ def condition_word(it: Diagnostic) -> Hint:
         if token.text in ("to_come", "cover", "coeff"):
             yield f"{token.text}: {REPLACEMENTS[token.text]}", True
             return
-    words = " ".join(token.text for token in statement)
-    found = re.search(r"(net_(?:in|out)) > = (\S+) , < = (\S+)", words) or re.search(r"(net_(?:in|out)) >= (\S+) , <= (\S+)", words)
+    found = re.search(rf"(net_(?:in|out))\s*>=\s*({SIDE})\s*,\s*<=\s*({SIDE})\s*(?:;|$)", it.shown)
     if found:
         yield f"a range is one condition: {found[2]} <= {found[1]} <= {found[3]}", True
 
@@ -149,7 +171,7 @@ def unended_declaration(it: Diagnostic) -> Hint:
 def unended_text(it: Diagnostic) -> Hint:
     """The text ends before its last `;`."""
     rest = [token for token in tokens(it.texts.get(it.text, ""))]
-    if rest and rest[-1].text != ";" and rest[-1].row == it.row and not it.at().strip():
+    if rest and rest[-1].text != ";" and rest[-1].row == it.row and not list(tokens(it.at())):
         opened = [token.text for token in rest if token.text in PAIRS.values()]
         closed = [token.text for token in rest if token.text in PAIRS]
         if len(opened) == len(closed):
@@ -181,7 +203,7 @@ def misplaced(it: Diagnostic) -> Hint:
         yield "in: is within meant?", True
     if it.word() == "=" and any(token.text == "set" for token in statement[:1]):
         yield "a set gets its members by :=, not by =", True
-    if before.endswith(",") and re.search(r"\bfrom\b[^,]*(\[[^\]]*\])?,$", before):
+    if before.endswith(",") and it.word() not in REPLACEMENTS and re.search(r"\bfrom\b[^,]*(\[[^\]]*\])?,$", before):
         yield f"is a to missing before {it.detail or it.word()}?", True
     mark = it.at()[:2]
     if statement and statement[0].text == "arc" and mark in ("<=", ">=") and mark in before and not in_braces(it):

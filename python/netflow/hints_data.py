@@ -2,12 +2,12 @@
 from __future__ import annotations
 
 import difflib
-import math
 import os
 import re
 from typing import Any, Iterator
 
 from .hints_keys import heading_place, near, outside_set
+from .hints_tables import heading_fault
 from .hints_values import misspelt_statement, missing_in_set
 from .words import TOKEN, tokens
 
@@ -70,8 +70,13 @@ def uneven(it: Any) -> Hint:
     cells = {row: sum(token.text != "," for token in line) for row, line in rows.items()}
     counts = sorted(cells.values())
     usual = wanted_cells(whole[:cut]) or next((count for count in counts if 2 * counts.count(count) > len(counts) > 2), 0)
+    whole_rows = [[token for token in line if token.text != ","] for line in rows.values()]
+    heading = heading_fault(it, whole[:cut], whole_rows, wanted_cells(whole[:cut])) if it.number == "E21" else ""
+    if heading:
+        yield heading, True
+        return
     if not usual or counts[-1] > 2 * usual - 2 > 0:
-        found = misfit(it, whole[:cut], [token for line in rows.values() for token in line if token.text != ","])
+        found = misfit(it, whole[:cut], [token for line in whole_rows for token in line])
         # A digit that is written as a letter is the mistake, and no cell is missing.
         if found and not any(True for _ in almost_number(it)):
             yield found, True
@@ -256,7 +261,11 @@ def comma_in_number(it: Any) -> Hint:
     before = it.before.rstrip()
     if it.text == "data" and before.endswith(",") and re.search(r"\d\s*,$", before) and it.word()[:1].isdigit():
         first = before.rstrip(",").split()[-1]
-        yield f"is the comma part of a number? Write {first}{it.word().rstrip(';')} without it", True
+        second = it.word().rstrip(";")
+        if re.fullmatch(r"\d{3}", second):
+            yield f"is the comma part of a number? Write {first}{second} without it", True
+        else:
+            yield f"is the comma part of a number? Decimals have a point: {first}.{second}", True
 
 
 def speaking(it: Any) -> Hint:
@@ -302,26 +311,6 @@ def failed_check(it: Any) -> Hint:
         yield again, False
 
 
-def too_many(it: Any) -> Hint:
-    """How many keys the braces at the place, or those of the declaration, have, if their sets are plain."""
-    words = it.statement()
-    name = it.detail or (words[1].text if len(words) > 1 else "")
-    found = re.match(r"\{([^}]*)\}", it.at()) or (re.search(rf"\b{re.escape(name)}\s*\{{([^}}]*)\}}", it.texts.get("model", "")) if name else None)
-    if not found:
-        return
-    sets, sizes = listed(it), []
-    values = {words[0]: words[1] for words in re.findall(r"\bparam\s+(\w+)\s*:=\s*(\d+)\s*;", it.texts["model"] + it.texts.get("data", ""))}
-    for item in found[1].split(":")[0].split(","):
-        part = item.split(" in ")[-1].strip()
-        span = re.fullmatch(r"(\w+)\s*\.\.\s*(\w+)", part)
-        ends = [values.get(end, end) for end in span.groups()] if span else []
-        size = len(sets.get(part, ())) if not span else int(ends[1]) - int(ends[0]) + 1 if all(end.isdigit() for end in ends) else 0
-        if size < 1:
-            return
-        sizes.append(size)
-    yield f"{name} has {' x '.join(map(str, sizes))} = {math.prod(sizes):,} keys: index it by a set of the pairs that exist", True
-
-
 HINTS: tuple = (
     (("E20", "E01", "E21"), sheet),
     (("E20",), joined),
@@ -339,6 +328,5 @@ HINTS: tuple = (
     (("E32",), no_data),
     (("E31", "E32", "E34", "E53", "E54"), speaking),
     (("E35",), failed_check),
-    (("E40", "E59", "E60"), too_many),
 )
 

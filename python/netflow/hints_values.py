@@ -8,8 +8,9 @@ from typing import Any, Iterator
 
 from .data_text import DataText
 from .errors import Unreadable
+from .memberships import Memberships, Unknown
 from .model_text import Shapes, Unparsed, parse
-from .texts import members, shown
+from .texts import members, reference, shown
 from .words import few, tokens
 
 Hint = Iterator[tuple]
@@ -182,6 +183,42 @@ def given_twice(it: Any) -> Hint:
         yield from listed_twice(it)
 
 
+def crossed(it: Any) -> Hint:
+    """Both bounds of an arc whose lower one is above its upper one, with their lines."""
+    try:
+        world, (name, key) = Memberships(it.texts.get("model", ""), it.texts.get("data", "")), reference(it.detail)
+        decl = world.shapes.decls[name]
+        indices = [part.value for item in decl.braces.args if item.op == "in" for part in item.args[0].walk() if part.op == "name"] if decl.braces else []
+        sides = [bound_text(it, world, decl.phrase(sign), dict(zip(indices, key))) for sign in (">=", "<=")]
+    except (Unparsed, Unknown, Unreadable, ValueError, KeyError, IndexError, TypeError):
+        return
+    yield f"the lower bound, {sides[0]}, is above the upper bound, {sides[1]}", True
+
+
+def bound_text(it: Any, world: Memberships, phrase: Any, env: dict) -> str:
+    """Returns a bound with its value and the line of the data that gives it, such as `van, is 40 in line 5`."""
+    expr = phrase.exprs[0]
+    value, text = world.value(expr, env), world.text(expr)
+    if expr.op != "name":
+        return str(value) if text == str(value) else f"{text}, which is {value}"
+    key = [world.value(part, env) for part in expr.args]
+    rows = [row for cell, row in cells_of(it) if cell.name == expr.value and list(cell.key) == key]
+    title = f"{expr.value}[{','.join(map(shown, key))}]" if key else expr.value
+    return f"{title} = {value}{f' in {it.rows_text(rows[-1:])}' if rows else ''}"
+
+
+def second_statement(it: Any) -> Hint:
+    """A set or parameter with two statements, as in two data files that were joined."""
+    name, words = it.detail.partition("[")[0], list(tokens(it.texts.get("data", "")))
+    rows = [word.row for word, following in zip(words, words[1:]) if word.text in ("set", "param") and following.bare() == name]
+    if it.text != "data" or it.is_change():
+        return
+    if "[" not in it.detail and re.match(rf"{re.escape(name)}\s+default\b", it.at()):
+        yield f"{name} has a default in an earlier statement: its statements are in {it.rows_text(rows)}; keep one default", True
+    elif len(rows) > 1 and rows[0] < it.row:
+        yield f"its first statement is in {it.rows_text(rows[:1])}; are two data files joined? Give both to the tools", True
+
+
 def listed_twice(it: Any) -> Hint:
     """A member, or a tuple, that a set's statement lists twice."""
     words = list(tokens(it.texts.get("data", "")))
@@ -249,6 +286,8 @@ HINTS: tuple = (
     (("E20",), missing_mark),
     (("E34",), restricted),
     (("E31",), given_twice),
+    (("E31",), second_statement),
+    (("E53",), crossed),
     (("E32",), no_value),
     (("E32",), missing_value),
     (("E33",), missing_in_set),

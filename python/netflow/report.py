@@ -16,9 +16,11 @@ from .grids import grid_html, roster_html
 from .outputs import dump_lines, plan_columns
 from .page import Arcs, bullets, changes_html, page, places_html, reason_html, section, text
 from .reasons import reasons
+from .remarks import remark_lines
 from .signs import opposite_sides
 from .sensitivity import Marginal
 from .tables import no_plan
+from .thousands import lines_of_question
 from .words import compared_texts, first_comment, headings
 from .why import Gains, better, bottleneck
 
@@ -37,7 +39,7 @@ class Report:
         self.answer, self.net = question.network(with_prices=True)
         model = question.model.text()
         self.files, self.model, self.reasons = files, model, []
-        self.odd = compared_texts(model, [it.text() for it in question.data])
+        self.odd = [*compared_texts(model, [it.text() for it in question.data]), *lines_of_question(question), *remark_lines(question, self.net)]
         self.title, self.unit = first_comment(model) or files, unit or objective_unit(model, self.net.objective)
         self.has_plan = self.net.cut is None
         self.marginal = Marginal(self.net) if self.has_plan else None

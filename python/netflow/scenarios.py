@@ -7,7 +7,7 @@ import itertools
 import re
 from typing import Any
 
-from .command import question_of
+from .command import note_grouped, question_of
 from .diagnostics import Diagnostic
 from .errors import DataError, ProgramError, ScaleError, Unbounded
 from .program import REJECTED, USAGE
@@ -43,7 +43,9 @@ def answer_of(words: argparse.Namespace, changes: list, extra_data: list | None 
     asked = copy.copy(words)
     asked.data = [*words.data, *(extra_data or [])]
     with question_of(asked, changes) as question:
-        return question.network()[1]
+        net = question.network()[1]
+        note_grouped(question)
+        return net
 
 
 def difference(value: Any, base: Any) -> str:
@@ -64,6 +66,7 @@ def scenarios(words: argparse.Namespace, out: Any) -> int:
         try:
             with question_of(words, case) as question:
                 row = case_cells(base, question.network()[1])
+                note_grouped(question)
         except ProgramError as problem:
             if problem.status != REJECTED:
                 raise

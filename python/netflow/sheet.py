@@ -36,6 +36,7 @@ from .program import REJECTED
 from .scenarios import diff, scenarios
 from .spreadsheet import filled, column_number, read_sheet, stem
 from .tables import plan
+from .thousands import GROUPED, meant
 
 KINDS = ("plan", "scenarios", "diff", "set", "list", "grid", "data")
 
@@ -86,6 +87,7 @@ def as_list(rows: list, keys: int, members: str, scale: dict, has_comma: bool) -
     body = [filled(it, len(rows[0])) for it in rows[1:]]
     cells = [[it.value(scale.get(name, 1), has_comma) for name, it in zip(names, row[keys:])] for row in body]
     note_decimals(names, cells)
+    note_points([cell for row in body for cell in row[keys:]])
     lines = [" ".join([it.member() for it in row[:keys]] + values) for row, values in zip(body, cells)]
     return [f"param: {members + ': ' if members else ''}{' '.join(names)} :=", *lines, ";"]
 
@@ -103,6 +105,15 @@ def note_decimals(names: Sequence[str], cells: list) -> None:
         sys.stderr.write(f"netflow-sheet: {', '.join(factors)}: decimals are kept, and the tools scale them; for netflow itself add {scale}\n")
 
 
+def note_points(cells: list) -> None:
+    """Reports the decimals of a text file that may be whole numbers with a point between groups of digits."""
+    found = [it for it in cells if GROUPED.fullmatch(it.text) and not it.path.lower().endswith(".xlsx")]
+    for it in found[:3]:
+        sys.stderr.write(f"netflow-sheet: {it.place()}: {it.text}: {meant(it.text)}\n")
+    if len(found) > 3:
+        sys.stderr.write(f"netflow-sheet: {len(found) - 3} more cells of {found[0].path} have such a point\n")
+
+
 def as_grid(name: str, rows: list, is_turned: bool, scale: dict, has_comma: bool) -> list:
     columns = [it.member() for it in rows[0][1:]]
     if not columns:
@@ -110,6 +121,7 @@ def as_grid(name: str, rows: list, is_turned: bool, scale: dict, has_comma: bool
     body = [filled(it, len(rows[0])) for it in rows[1:]]
     cells = [[it.value(scale.get(name, 1), has_comma) for it in row[1:]] for row in body]
     note_decimals([name] * len(columns), cells)
+    note_points([cell for row in body for cell in row[1:]])
     lines = [" ".join([row[0].member(), *values]) for row, values in zip(body, cells)]
     return [f"param {name}{' (tr)' if is_turned else ''}: {' '.join(columns)} :=", *lines, ";"]
 

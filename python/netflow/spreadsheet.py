@@ -18,6 +18,7 @@ from .program import REJECTED, UNREADABLE_FILE
 
 WHOLE = re.compile(r"[+-]?[0-9]+")
 LIKE_NUMBER = re.compile("[+\\-\u2212]?[0-9][0-9.,'\u2019\u00a0\u202f ]*(?:[eE][+-]?[0-9]+)?%?")
+ERROR_VALUE = re.compile(r"#(?:N/A|REF!|DIV/0!|VALUE!|NAME\?|NUM!|NULL!)")
 PART = "{http://schemas.openxmlformats.org/spreadsheetml/2006/main}"
 LINK = "{http://schemas.openxmlformats.org/officeDocument/2006/relationships}id"
 
@@ -48,6 +49,8 @@ class Cell:
         """Returns the cell as a value: a point if it is empty, a number times the factor, or a text."""
         if not self.text:
             return "."
+        if ERROR_VALUE.fullmatch(self.text):
+            self.reject("is an error value of the spreadsheet: write the number, or leave the cell empty")
         text = self.text.replace(",", ".") if has_comma and re.fullmatch(r"[+-]?[0-9]*,[0-9]+", self.text) else self.text
         if NUMERAL.fullmatch(text):
             number = parse_numeral(text)

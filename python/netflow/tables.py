@@ -7,7 +7,7 @@ import io
 import sys
 from typing import Any, Iterable, Iterator
 
-from .command import note_fractions, print_error_json
+from .command import note_fractions, note_grouped, print_error_json
 from .errors import ProgramError
 from .outputs import cut_json, dump_lines, plan_columns
 from .program import REJECTED
@@ -87,6 +87,7 @@ def plan(words: argparse.Namespace, question: Question) -> int:
                 return print_error_json(problem, question)
             raise
         note_fractions(net)
+        note_grouped(question)
         if words.json:
             print(dump_lines(plan_columns(net) if net.cut is None else no_plan(net)))
             return answer.status

@@ -12,15 +12,17 @@ import re
 from typing import Any, Sequence
 
 from .changes import is_left_out, least_changes, left_out_text, single_title, total
-from .command import Words, note_fractions, print_error_json, question_of, run as run_tool
+from .command import Words, note_fractions, note_grouped, print_error_json, question_of, run as run_tool
 from .errors import ProgramError
 from .model_text import Unparsed, parse
 from .outputs import cut_json, dump_lines, plan_columns
 from .question import Input, Question
 from .reasons import reasons
+from .remarks import remark_lines
 from .sensitivity import Marginal, arc_change, arc_units
 from .signs import opposite_sides
 from .texts import Network
+from .thousands import lines_of_question
 from .words import compared_texts, few
 
 SHOWN, SETS = 20, 3
@@ -287,6 +289,16 @@ def answer_lines(net: Network, most: int) -> list:
     return infeasible_lines(net, reasons(net, *net.cut), most)
 
 
+def text_lines(question: Question, net: Network, most: int) -> list:
+    """Returns the answer with what is worth a look; below `No plan.` the numbers that may be the reason come first."""
+    lines, grouped = answer_lines(net, most), lines_of_question(question)
+    odd = [*compared_texts(question.model.text(), [it.text() for it in question.data]), *remark_lines(question, net)]
+    if net.cut is not None and grouped:
+        lines[1:1] = ["", *grouped]
+        grouped = []
+    return [*lines, *(["", *odd, *grouped] if odd or grouped else [])]
+
+
 def print_json(net: Network) -> None:
     if net.cut is None:
         found = plan_columns(net)
@@ -318,10 +330,10 @@ def main(words: Sequence[str]) -> int:
                 continue
             note_fractions(net)
             if parsed.json:
+                note_grouped(question)
                 print_json(net)
             else:
-                odd = compared_texts(question.model.text(), [it.text() for it in question.data])
-                print("\n".join([*answer_lines(net, 10**9 if parsed.all else SHOWN), *(["", *odd] if odd else [])]))
+                print("\n".join(text_lines(question, net, 10**9 if parsed.all else SHOWN)))
             return refused or answer.status
 
 

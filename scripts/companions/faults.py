@@ -6,7 +6,7 @@ import shlex
 import subprocess
 import sys
 
-from companions import bread_mistakes, mistakes, port_mistakes
+from companions import bread_mistakes, mistakes, planner_mistakes, port_mistakes
 from companions.common import COMPANIONS, EXAMPLES, TOP, run, write
 from netflow import diagnostics, explain
 
@@ -61,6 +61,7 @@ def check_mistakes(complaints, folder):
 def check_bread(complaints, folder):
     """Mistakes of a planner's first hours: the explanation names the mistake, and gives no advice that is wrong there."""
     cases = [(bread_mistakes.TEXTS, *it, None) for it in bread_mistakes.MISTAKES] + [(port_mistakes.TEXTS, *it) for it in port_mistakes.MISTAKES]
+    cases += planner_mistakes.MISTAKES
     for whole, name, text, right, wrong, code, named, absent in cases:
         texts = dict(whole)
         if right:
