@@ -23,14 +23,14 @@ def check_remarks(complaints, folder):
 
 
 def check_points(complaints, folder):
-    """1.200 is 1.2 for netflow; each tool says where it is and what may be meant. 0.125 and 12.5 are decimals."""
+    """1.200 is 1.2 for netflow; each tool prints its position and what may be meant. 0.125 and 12.5 are decimals."""
     model = BREAD / "bread.mod"
     pointed = bread(folder, "points.dat", ("hill 30", "hill 1.050"), ("van := 40", "van := 1.200"), ("4    6    9", "1.125 2.125 0.125"), ("7    5", "12.5 5"))
     said = ["wants['hill'] is 1.050 in line 4: is 1050 meant?", "van is 1.200 in line 5: is 1200 meant?",
             "cost['north','hill'] is 1.125 in line 7: is 1125 meant?", "(1 more of cost)"]
     for words in (["netflow-why"], ["netflow-why", "--json"], ["netflow-report"], ["netflow-explain"], ["netflow-sheet", "plan"]):
-        status, out, told = run(*words, model, pointed)
-        shown = (out + told).replace("&#x27;", "'")
+        status, out, errors = run(*words, model, pointed)
+        shown = (out + errors).replace("&#x27;", "'")
         complaints.want(status == 2 and all(it in shown for it in said) and shown.count(POINT) == 3, f"{words}: grouped digits: {status} {shown[-900:]!r}")
     whole = bread(folder, "whole.dat", ("van := 40", "van := 1.000"))
     line = f"van is 1.000 in line 5: is 1000 meant? {POINT}"
@@ -49,10 +49,10 @@ def check_points(complaints, folder):
 def check_points_of_sheets(complaints, folder):
     """The same in a sheet, whose cells are named; a number of a workbook has no such point."""
     sheet = write(folder, "points.csv", "shop,wants\nhill,1.200\nlake,1.25\nmill,1.000\n")
-    told = run("netflow-sheet", "list", sheet)[2]
+    errors = run("netflow-sheet", "list", sheet)[2]
     for place, text, meant in (("B2", "1.200", 1200), ("B4", "1.000", 1000)):
-        complaints.want(f"{sheet}:{place}: {text}: is {meant} meant? {POINT}\n" in told, f"sheet list: {place} in {told!r}")
-    complaints.same("sheet list: points", 2, told.count(POINT))
+        complaints.want(f"{sheet}:{place}: {text}: is {meant} meant? {POINT}\n" in errors, f"sheet list: {place} in {errors!r}")
+    complaints.same("sheet list: points", 2, errors.count(POINT))
 
 
 def check_error_values(complaints, folder):
@@ -63,7 +63,7 @@ def check_error_values(complaints, folder):
 
 
 def check_limits(complaints, folder):
-    """A limit on net_in where no arc leads in, and on net_out where none leads out, limits nothing; the example has neither."""
+    """A limit on net_in without an arc that leads in, and on net_out without one that leads out, limits nothing; the example has neither."""
     text = (BREAD / "bread.mod").read_text(encoding="utf-8")
     no_arc_in = "Bakery['north']: no arc leads in, so net_in <= 60 limits nothing: is net_out meant? (1 more of Bakery)"
     no_arc_out = "Shop['hill']: no arc leads out, so net_out <= 30 limits nothing: is net_in meant? (2 more of Shop)"
