@@ -2,6 +2,7 @@
 from __future__ import annotations
 
 import os
+import warnings
 from typing import Any, Iterator, Mapping, Union
 
 from .errors import DataError, Infeasible, ModelError, ProgramError
@@ -15,6 +16,7 @@ from .question import Input, Question
 from .reasons import reasons
 from .sensitivity import Marginal
 from .texts import Network, read_prices
+from .thousands import lines_of_question
 
 Text = Union[str, "os.PathLike[str]"]
 
@@ -161,7 +163,8 @@ def solve(model: Text, data: Any = None, *, objective: str | None = None, scale:
     tuples; a parameter is a number, a dict by key, a list of tuples that end with the value, a list of dicts, or a pandas object.
     Decimals are scaled exactly; `scale` gives the factor of a parameter. `bounds=True` lets arcs have no upper or lower bound.
 
-    Raises ModelError if the model or its data have an error, Infeasible if no plan exists, DataError if Python data do not fit.
+    Raises ModelError if the model or its data have an error, Infeasible if no plan exists, DataError if Python data do not fit. Warns of
+    decimals in a model or data file that may be whole numbers with grouped digits, such as 1.200.
     """
     require_options(objective, scale)
     texts, changes = inputs_of(data)
@@ -174,6 +177,8 @@ def solve(model: Text, data: Any = None, *, objective: str | None = None, scale:
         raise model_error(problem, question) from None
     except Unparsed as problem:
         raise DataError(f"the model has a form that options cannot change (offset {problem.offset})") from None
+    for line in lines_of_question(question):
+        warnings.warn(line, stacklevel=2)
     if answer.status:
         raise infeasible(net)
     from .words import headings

@@ -1,6 +1,7 @@
 """Decimals: a model with decimals is worth exactly what the same model in whole numbers is, divided by the factors."""
 import pathlib
 import random
+import warnings
 from fractions import Fraction
 
 import netflow
@@ -154,3 +155,19 @@ def check_copies(complaints):
         found = whole_copy(text, kind)
         complaints.same(f"{text!r} without decimals", wanted, found)
         complaints.same(f"{text!r}: the length", len(text), len(found))
+
+
+def check_grouped(complaints):
+    """`solve` warns of 1.200 in a text and of no other decimal, with and without a plan; a number from Python is what it is."""
+    model, data = BREAD.joinpath("bread.mod").read_text(encoding="utf-8"), BREAD.joinpath("bread.dat").read_text(encoding="utf-8")
+    said = "van is 1.200 in line 5: is 1200 meant? A point begins decimals"
+    for text, values, wanted in ((data.replace("van := 40", "van := 1.200"), {}, [said]), (data.replace("van := 40", "van := 40.25"), {}, []),
+                                 (data.replace("van := 40", "van := 0.125"), {}, []), (data, {"van": 40.125}, []), (data, {}, [])):
+        with warnings.catch_warnings(record=True) as found:
+            warnings.simplefilter("always")
+            try:
+                netflow.solve(model, text, **values)
+            except netflow.Infeasible:
+                pass
+        complaints.same(f"warnings of {text[-60:]!r}, {values}", wanted, [str(it.message) for it in found])
+        complaints.want(all(it.filename == __file__ for it in found), "a warning does not name the line that calls solve")
