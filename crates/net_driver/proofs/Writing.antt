@@ -5,6 +5,10 @@ use Rattle.std.specs.Io.KnownBytes.{Appends}
 use Rattle.std.proofs.KnownBytes.{Appends-trans}
 use Rattle.net_io.specs.Ends.{WritesFront}
 
+-- both texts were written
+pub both_written : (a b c : Option (List ℕ)) (bytes first second : List ℕ) → bytes ≡ first → Appends a b bytes → Appends b c second → Appends a c (first ++ second)
+both_written a b c bytes first second e gone w = Appends-trans a b c first second (subst (λ (l : List ℕ). Appends a b l) e gone) w
+
 -- a write failed in the first text
 pub first_failed : {A E : Type 0} (a b : Option (List ℕ)) (bytes first second : List ℕ) (r : Result A E) → bytes ≡ first → WritesFront a b bytes → OnErr r (WritesFront a b (first ++ second))
 first_failed a b bytes first second (Ok v) e w = tt

@@ -2,7 +2,7 @@ pub mod Reading
 pub mod FirstFaults
 pub mod FaultLines
 pub mod Texts
-pub mod MappedNetwork
+pub mod CompiledNetwork
 pub mod Reporting
 pub mod IsBuilt
 pub mod Made

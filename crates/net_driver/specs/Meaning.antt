@@ -61,7 +61,7 @@ pub record MeanNetwork (requested : Option Name) (model_text data_text : List �
 
 -- ---- compiled models
 
--- the label, in the form of the lists of names
+-- the label as a record of net_inst, which has the same fields
 abbrev pub listed_label : Label → written.Label
 listed_label l = record { name = l.name; indexed = l.indexed; key = l.key }
 
@@ -74,7 +74,8 @@ abbrev pub arc_declared : Declaration → List Declared
 arc_declared (arc n b ps) = (record { name = n; indexed = is_some b }) ∷ []
 arc_declared _ = []
 
--- the names to print are those of the network: its objective, the names of its declarations, and in order the key of each node and each arc
+-- the names to print are those of the network: its objective, and for nodes and for arcs (`AreNames`) the names of the declarations and in order
+-- the label of each node or arc
 pub record AreNetworkNames (ds : List Declaration) (vs : List Node) (all : List Arc) (o : Objective) (names : Names) : Type 0 where
   pub objective : names.objective ≡ o.name
   pub nodes : AreNames (flat_map node_declared ds) (map (λ (v : Node). listed_label v.label) vs) names.nodes
@@ -97,8 +98,8 @@ pub record IsCompilation (requested : Option Name) (model_text data_text : List 
 
 -- ---- solved models
 
--- there is a flow for each arc, in order; the assignment of these flows is feasible and has this value, and no feasible assignment has a better
--- one
+-- there is a flow for each arc, in order; the assignment of these flows is feasible and has this value, and this value is at least as good as
+-- that of every feasible assignment
 pub record IsOptimal (vs : List Node) (all : List Arc) (o : Objective) (flows : List ℤ) (value : ℤ) : Type 0 where
   pub each : length flows ≡ length all
   pub feasible : IsFeasible vs all (by_label all flows)

@@ -7,7 +7,7 @@ ghost use Rattle.net_normal.specs.Flows.{IsFeasibleFlow, cost_of};
 ghost use Rattle.net_check.specs.Certificates.{IsCertificate};
 ghost use Rattle.net_driver.specs.IsSolved.{IsSolved, text_of};
 ghost use Rattle.net_driver.specs.IsBuilt.{IsBuilt};
-ghost use Rattle.net_driver.specs.MappedNetwork.{written};
+ghost use Rattle.net_driver.specs.CompiledNetwork.{written};
 ghost use Rattle.net_driver.specs.Meaning.{IsSolution};
 ghost use Rattle.net_driver.specs.Made.{SizesAgree};
 ghost use Rattle.net_expr.specs.Worlds.{Name};
@@ -15,7 +15,7 @@ ghost use Rattle.net_driver.specs.Outcomes.{IsOutcomeOf, IsDisplayOf, IsCutOf};
 ghost use Rattle.net_driver.specs.Reporting.{IsRejection};
 
 use crate::compiled::{Compiled, Options, with_text};
-use crate::compiled_network::{CompiledNetwork, read_model};
+use crate::compiled_network::{CompiledNetwork, compile_network};
 use crate::fault::Fault;
 use crate::meaning::solutions_are_sound;
 use net_check::Side;
@@ -86,9 +86,9 @@ pub fn solve_model_with<'s>(
     ensures means { IfOk result (IsSolution (option_copied options.now.objective) model.entry.now «data».entry.now) }
     ensures rejected { IfErr result (IsRejection (option_copied options.now.objective) model.entry.now «data».entry.now) }
 {
-    let unwritten = read_model(alloc, options, model, data)?;
-    let outcome = solve_network(alloc, &unwritten)?;
-    let compiled = with_text(alloc, unwritten)?;
+    let network = compile_network(alloc, options, model, data)?;
+    let outcome = solve_network(alloc, &network)?;
+    let compiled = with_text(alloc, network)?;
     solutions_are_sound();
     Ok(Answer { compiled, outcome })
 }
@@ -96,14 +96,14 @@ pub fn solve_model_with<'s>(
 /// Solves a compiled model, for which no text is needed. Fails only if memory runs out.
 pub(crate) fn solve_network(
     alloc: Global,
-    unwritten: &CompiledNetwork<'_>,
+    network: &CompiledNetwork<'_>,
 ) -> Result<Outcome, AllocError>
-    requires { SizesAgree (written unwritten.now) }
-    ensures { (lean : Bool) (wanted : Option Name) (m d : List ℕ) → IsBuilt lean wanted m d (written unwritten.now)
-        → IfOk result (λ outcome. IsSolved lean wanted m d (record { compiled = written unwritten.now; outcome = outcome })) }
+    requires { SizesAgree (written network.now) }
+    ensures { (lean : Bool) (wanted : Option Name) (m d : List ℕ) → IsBuilt lean wanted m d (written network.now)
+        → IfOk result (λ outcome. IsSolved lean wanted m d (record { compiled = written network.now; outcome = outcome })) }
 {
-    let settled = solve_problem(alloc, &unwritten.problem)?;
-    let outcome = outcome_of(alloc, unwritten, settled)?;
+    let settled = solve_problem(alloc, &network.problem)?;
+    let outcome = outcome_of(alloc, network, settled)?;
     objective_is_written();
     Ok(outcome)
 }
@@ -111,34 +111,34 @@ pub(crate) fn solve_network(
 /// Returns the outcome for a certificate of the problem. Fails only if memory runs out.
 fn outcome_of(
     alloc: Global,
-    unwritten: &CompiledNetwork<'_>,
+    network: &CompiledNetwork<'_>,
     settled: Settled,
 ) -> Result<Outcome, AllocError>
-    requires sizes { SizesAgree (written unwritten.now) }
-    requires settled { IsCertificate unwritten.now.problem settled }
-    ensures { IfOk result (IsOutcomeOf (written unwritten.now) settled) }
+    requires sizes { SizesAgree (written network.now) }
+    requires settled { IsCertificate network.now.problem settled }
+    ensures { IfOk result (IsOutcomeOf (written network.now) settled) }
 {
     match settled {
-        Settled::Optimal { value, flows, .. } => displayed(alloc, unwritten, value, &flows),
-        Settled::Cut { flags, side } => infeasible(alloc, unwritten, flags, side),
+        Settled::Optimal { value, flows, .. } => displayed(alloc, network, value, &flows),
+        Settled::Cut { flags, side } => infeasible(alloc, network, flags, side),
     }
 }
 
 /// Returns the plan that corresponds to a feasible flow. Fails only if memory runs out.
 fn displayed(
     alloc: Global,
-    unwritten: &CompiledNetwork<'_>,
+    network: &CompiledNetwork<'_>,
     cost: i128,
     flows: &[i64],
 ) -> Result<Outcome, AllocError>
-    requires sizes { SizesAgree (written unwritten.now) }
-    requires feasible { IsFeasibleFlow unwritten.now.problem flows.now }
-    requires cost { cost ≡ cost_of unwritten.now.problem flows.now }
-    ensures { IfOk result (IsDisplayOf (written unwritten.now) flows.now cost) }
+    requires sizes { SizesAgree (written network.now) }
+    requires feasible { IsFeasibleFlow network.now.problem flows.now }
+    requires cost { cost ≡ cost_of network.now.problem flows.now }
+    ensures { IfOk result (IsDisplayOf (written network.now) flows.now cost) }
 {
-    let assignment = map_back(alloc, &unwritten.link, flows)?;
-    let value = unwritten.link.value(cost);
-    let text = write_display(alloc, &unwritten.names, &assignment, value)?;
+    let assignment = map_back(alloc, &network.link, flows)?;
+    let value = network.link.value(cost);
+    let text = write_display(alloc, &network.names, &assignment, value)?;
     Ok(Outcome::Displayed {
         text,
         assignment,
@@ -149,14 +149,14 @@ fn displayed(
 /// Returns the explanation of a violated cut. Fails only if memory runs out.
 fn infeasible(
     alloc: Global,
-    unwritten: &CompiledNetwork<'_>,
+    network: &CompiledNetwork<'_>,
     flags: Vec<bool>,
     side: Side,
 ) -> Result<Outcome, AllocError>
-    requires sizes { SizesAgree (written unwritten.now) }
-    requires violated { IsViolatedCut unwritten.now.problem flags.items side }
-    ensures { IfOk result (IsCutOf (written unwritten.now) flags.items side) }
+    requires sizes { SizesAgree (written network.now) }
+    requires violated { IsViolatedCut network.now.problem flags.items side }
+    ensures { IfOk result (IsCutOf (written network.now) flags.items side) }
 {
-    let text = write_cut(alloc, &unwritten.names, &unwritten.problem, &flags, side)?;
+    let text = write_cut(alloc, &network.names, &network.problem, &flags, side)?;
     Ok(Outcome::Infeasible { text, flags, side })
 }

@@ -2,21 +2,21 @@
 
 ghost use Rattle.std.specs.Prelude.{◌≡◌, None, false, IfOk, IfErr};
 ghost use Rattle.std.specs.Option.{option_copied};
-ghost use Rattle.net_driver.specs.MappedNetwork.{written};
+ghost use Rattle.net_driver.specs.CompiledNetwork.{written};
 ghost use Rattle.net_driver.specs.Made.{SizesAgree};
 ghost use Rattle.net_driver.specs.Reporting.{IsRejection};
 ghost use Rattle.net_driver.specs.IsBuilt.{IsBuilt};
 ghost use Rattle.net_driver.specs.Meaning.{IsCompilation};
 
-use crate::compiled_network::{CompiledNetwork, read_model};
+use crate::compiled_network::{CompiledNetwork, compile_network};
 use crate::fault::Fault;
-use crate::mapped_network::with_name_map;
 use crate::meaning::compilations_are_sound;
 use crate::text::Text;
 use net_dimacs::write_problem_to;
 use net_inst::Names;
 use net_io::GrowingSink;
 use net_normal::{Link, Problem};
+use net_report::write_links;
 use std::alloc::{AllocError, Global};
 
 /// Options of the caller.
@@ -75,8 +75,8 @@ pub fn compile_with<'s>(
     ensures means { IfOk result (IsCompilation (option_copied options.now.objective) model.entry.now «data».entry.now) }
     ensures rejected { IfErr result (IsRejection (option_copied options.now.objective) model.entry.now «data».entry.now) }
 {
-    let unwritten = read_model(alloc, options, model, data)?;
-    let compiled = with_text(alloc, unwritten)?;
+    let network = compile_network(alloc, options, model, data)?;
+    let compiled = with_text(alloc, network)?;
     compilations_are_sound();
     Ok(compiled)
 }
@@ -85,19 +85,19 @@ pub fn compile_with<'s>(
 /// runs out.
 pub(crate) fn with_text(
     alloc: Global,
-    unwritten: CompiledNetwork<'_>,
+    network: CompiledNetwork<'_>,
 ) -> Result<Compiled<'_>, AllocError>
-    requires { SizesAgree (written unwritten) }
-    ensures { IfOk result (λ compiled. compiled ≡ written unwritten.entry) }
+    requires { SizesAgree (written network) }
+    ensures { IfOk result (λ compiled. compiled ≡ written network.entry) }
 {
-    let linked = with_name_map(alloc, unwritten)?;
-    let mut sink = GrowingSink::new(linked.lines);
-    match write_problem_to(&linked.problem, &mut sink) {
+    let name_map = write_links(alloc, &network.names, &network.link)?;
+    let mut sink = GrowingSink::new(name_map);
+    match write_problem_to(&network.problem, &mut sink) {
         Ok(()) => Ok(Compiled {
             text: Text::new(sink.taken),
-            problem: linked.problem,
-            link: linked.link,
-            names: linked.names,
+            problem: network.problem,
+            link: network.link,
+            names: network.names,
         }),
         Err(_) => Err(AllocError),
     }

@@ -1,22 +1,27 @@
 //! Compiled models without their text.
 
-ghost use Rattle.std.specs.Prelude.{IfOk, IfErr};
+ghost use Rattle.std.specs.Prelude.{◌≡◌, ◌||◌, IfOk, IfErr, OnOk, OnErr, is_err};
 ghost use Rattle.std.specs.Option.{option_copied};
+ghost use Rattle.std.specs.Io.KnownBytes.{Appends};
+ghost use Rattle.net_io.specs.Ends.{WritesFront};
 ghost use Rattle.net_normal.specs.NormalForm.{IsFormIn};
 ghost use Rattle.net_normal.specs.Correspondence.{CorrespondsOneToOne};
+ghost use Rattle.net_report.specs.Links.{link_text};
 ghost use Rattle.net_driver.specs.IsBuilt.{IsBuilt};
-ghost use Rattle.net_driver.specs.MappedNetwork.{written};
-ghost use Rattle.net_driver.specs.Made.{IsNormalFormOf, profile_of};
+ghost use Rattle.net_driver.specs.CompiledNetwork.{written};
+ghost use Rattle.net_driver.specs.Made.{profile_of};
 ghost use Rattle.net_driver.specs.Reporting.{IsRejection};
 
 use crate::compiled::Options;
 use crate::fault::Fault;
 use crate::network::read_network;
 use crate::reporting::reported;
+use net_dimacs::write_problem_to;
 use net_inst::{
     Names, arcs_are_written, flows_stand_for_assignments, names_are_declared, objective_is_written,
     ranges_are_conditions,
 };
+use net_io::{Failed, Sink, write_whole};
 use net_normal::{Instance, Link, Problem, normalise, normalise_lean};
 use std::alloc::{AllocError, Global};
 
@@ -29,7 +34,7 @@ pub(crate) struct CompiledNetwork<'s> {
 }
 
 /// Compiles a model with its data and options, except for the text.
-pub(crate) fn read_model<'s>(
+pub(crate) fn compile_network<'s>(
     alloc: Global,
     options: &Options<'_>,
     model: &'s [u8],
@@ -38,29 +43,16 @@ pub(crate) fn read_model<'s>(
     ensures value { IfOk result (λ u. IsBuilt options.now.lean (option_copied options.now.objective) model.entry.now «data».entry.now (written u)) }
     ensures rejected { IfErr result (IsRejection (option_copied options.now.objective) model.entry.now «data».entry.now) }
 {
-    let unwritten = made_of(alloc, options, model, data)?;
-    names_are_declared();
-    arcs_are_written();
-    ranges_are_conditions();
-    objective_is_written();
-    flows_stand_for_assignments();
-    Ok(unwritten)
-}
-
-fn made_of<'s>(
-    alloc: Global,
-    options: &Options<'_>,
-    model: &'s [u8],
-    data: &'s [u8],
-) -> Result<CompiledNetwork<'s>, Fault>
-    ensures made { IfOk result (λ u. IsNormalFormOf options.now.lean (option_copied options.now.objective) model.entry.now «data».entry.now (written u)) }
-    ensures rejected { IfErr result (IsRejection (option_copied options.now.objective) model.entry.now «data».entry.now) }
-{
     let named = match read_network(alloc, model, data, options.objective) {
         Ok(named) => named,
         Err(stop) => return Err(reported(alloc, model, data, &stop)),
     };
     let (problem, link) = form_of(alloc, options.lean, &named.instance)?;
+    names_are_declared();
+    arcs_are_written();
+    ranges_are_conditions();
+    objective_is_written();
+    flows_stand_for_assignments();
     Ok(CompiledNetwork {
         problem,
         link,
@@ -79,4 +71,21 @@ fn form_of(alloc: Global, lean: bool, instance: &Instance) -> Result<(Problem, L
     } else {
         normalise(alloc, instance)
     }
+}
+
+/// Writes the text of a compiled model: its name map, then the problem's lines through a buffer.
+/// Allocates no memory.
+pub(crate) fn write_text<W: Sink>(
+    sink: &mut W,
+    name_map: &[u8],
+    network: &CompiledNetwork<'_>,
+) -> Result<(), Failed>
+    requires { name_map.now ≡ link_text network.now.names network.now.link }
+    ensures ok { OnOk result (Appends (W.taken sink.old) (W.taken sink.new) (written network.now).text.items) }
+    ensures err { OnErr result (WritesFront (W.taken sink.old) (W.taken sink.new) (written network.now).text.items) }
+    ensures flag { W.failed sink.new ≡ (W.failed sink.old || is_err result) }
+{
+    write_whole(sink, name_map)?;
+    write_problem_to(&network.problem, sink)?;
+    Ok(())
 }

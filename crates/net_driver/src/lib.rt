@@ -7,13 +7,9 @@ mod compiled;
 mod compiled_network;
 mod exit_kind;
 mod fault;
-mod first_fault;
 mod laws;
-mod line_names;
 mod line_runs;
-mod mapped_network;
 mod meaning;
-mod naming;
 mod network;
 mod problem_source;
 mod reporting;
@@ -21,24 +17,22 @@ mod run;
 mod settling;
 mod solve_run;
 mod text;
-mod texts;
 
 pub use answer::{Answer, Outcome, solve_model, solve_model_with};
 pub use checking::check_bytes;
 pub use compiled::{Compiled, Options, compile, compile_with};
 pub use exit_kind::ExitKind;
 pub use fault::{Fault, LineRejection, Rejection, TextName};
-pub use first_fault::{
-    first_error_is_in_its_file, one_first_fault, one_of_network_and_error, read_or_rejected,
+pub use laws::{
+    answers_are_accepted, first_error_is_in_its_file, line_names_are_exact,
+    names_are_declared_once, nodes_and_arcs_are_apart, one_first_fault, one_of_network_and_error,
+    read_or_rejected, texts_have_one_answer, well_named,
 };
-pub use laws::{answers_are_accepted, texts_have_one_answer};
-pub use line_names::line_names_are_exact;
 pub use line_runs::{run_check, run_min};
 pub use meaning::{
     answers_solve_models, compilations_are_sound, compiled_problems_represent_models,
     models_have_one_network, solutions_are_sound,
 };
-pub use naming::{names_are_declared_once, nodes_and_arcs_are_apart, well_named};
 pub use net_check::{Reason, Side, Verdict};
 pub use net_dimacs::LineFault;
 pub use net_fault::{ErrorCode, Span};

@@ -5,39 +5,18 @@ ghost use Rattle.std.specs.Option.{option_copied};
 ghost use Rattle.net_tree.specs.View as view;
 ghost use Rattle.net_inst.specs.Instances.{seen_as};
 ghost use Rattle.net_eval.specs.Binding.{AreNew};
-ghost use Rattle.net_driver.specs.Reading.{ComeTo, IsModel, IsNetworkOf};
-ghost use Rattle.net_driver.specs.FirstFaults.{IsNetworkStop, IsStop};
+ghost use Rattle.net_driver.specs.Reading.{IsModel, IsNetworkOf};
+ghost use Rattle.net_driver.specs.FirstFaults.{IsStop};
 
-use crate::texts::read_model;
-use net_data::{Tables, parse_data};
-use net_eval::bind;
+use crate::laws::well_named;
+use net_data::parse_data;
+use net_eval::{bind, well_named_are_new};
 use net_fault::Fault;
 use net_inst::{Named, instantiate_for};
-use net_lex::lex_data;
-use net_model::free_model;
+use net_lex::{lex_data, lex_model};
+use net_model::{free_model, parse_model};
 use net_tree::Model;
 use std::alloc::Global;
-
-/// Returns the network of declarations with statements.
-fn network_of<'s>(
-    alloc: Global,
-    model: &Model<'s>,
-    tables: &Tables<'_, 's>,
-    objective: Option<&str>,
-) -> Result<Named<'s>, Fault>
-    requires { AreNew [] (view.model model.now) }
-    ensures ok { IfOk result (λ n. ComeTo (option_copied objective.entry) (view.model model.now) tables.now (seen_as n)) }
-    ensures rejected { IfErr result (IsNetworkStop (option_copied objective.entry) (view.model model.now) tables.now) }
-{
-    let world = match bind(alloc, model, tables) {
-        Ok(world) => world,
-        Err(fault) => return Err(fault),
-    };
-    match instantiate_for(alloc, model, &world, objective) {
-        Ok(named) => Ok(named),
-        Err(fault) => Err(fault),
-    }
-}
 
 /// Returns the network of a parsed model with a data file.
 fn network_with<'s>(
@@ -51,18 +30,10 @@ fn network_with<'s>(
         «data».entry.now (seen_as n)) }
     ensures rejected { (text : List ℕ) → IsModel text (view.model declared.now) → IfErr result (IsStop (option_copied objective.entry) text «data».entry.now) }
 {
-    let tokens = match lex_data(alloc, data) {
-        Ok(tokens) => tokens,
-        Err(fault) => return Err(fault),
-    };
-    let tables = match parse_data(alloc, &tokens) {
-        Ok(tables) => tables,
-        Err(fault) => return Err(fault),
-    };
-    match network_of(alloc, declared, &tables, objective) {
-        Ok(named) => Ok(named),
-        Err(fault) => Err(fault),
-    }
+    let tokens = lex_data(alloc, data)?;
+    let tables = parse_data(alloc, &tokens)?;
+    let world = bind(alloc, declared, &tables)?;
+    instantiate_for(alloc, declared, &world, objective)
 }
 
 /// Returns the network of a model with its data, and its names, for the objective of the given name
@@ -79,10 +50,10 @@ pub fn read_network<'s>(
     ensures ok { IfOk result (λ n. IsNetworkOf (option_copied objective.entry) model.entry.now «data».entry.now (seen_as n)) }
     ensures rejected { IfErr result (IsStop (option_copied objective.entry) model.entry.now «data».entry.now) }
 {
-    let declared = match read_model(alloc, model) {
-        Ok(declared) => declared,
-        Err(fault) => return Err(fault),
-    };
+    let tokens = lex_model(alloc, model)?;
+    let declared = parse_model(alloc, &tokens)?;
+    well_named();
+    well_named_are_new();
     let read = network_with(alloc, &declared, data, objective);
     free_model(declared);
     read

@@ -7,11 +7,12 @@ ghost use Rattle.net_io.specs.Ends.{ReadsToLimit};
 ghost use Rattle.net_driver.specs.Runs.{IsCompileRun, IsAskedFew};
 
 use crate::compiled::Options;
+use crate::compiled_network::{compile_network, write_text};
 use crate::fault::{Fault, TextName};
-use crate::mapped_network::{link_model, write_mapped};
 use crate::meaning::compilations_are_sound;
 use net_io::{ReadFault, Sink, Source, read_to_limit};
 use net_lex::{DATA_LIMIT, MODEL_LIMIT};
+use net_report::write_links;
 use std::alloc::Global;
 
 /// Compiles the model and data of two sources, with the model's only objective, in the normal form,
@@ -57,9 +58,10 @@ pub fn run_compile_with<M: Source, D: Source, W: Sink>(
 {
     let model_text = read_text(alloc, model, MODEL_LIMIT, TextName::Model)?;
     let data_text = read_text(alloc, data, DATA_LIMIT, TextName::Data)?;
-    let linked = link_model(alloc, options, &model_text, &data_text)?;
+    let network = compile_network(alloc, options, &model_text, &data_text)?;
+    let name_map = write_links(alloc, &network.names, &network.link)?;
     compilations_are_sound();
-    match write_mapped(output, &linked) {
+    match write_text(output, &name_map, &network) {
         Ok(()) => Ok(()),
         Err(_) => Err(Fault::Unwritten),
     }

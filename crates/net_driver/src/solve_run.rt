@@ -8,7 +8,7 @@ ghost use Rattle.net_driver.specs.Runs.{IsSolveRun};
 
 use crate::answer::{Outcome, solve_network};
 use crate::compiled::Options;
-use crate::compiled_network::read_model;
+use crate::compiled_network::compile_network;
 use crate::exit_kind::ExitKind;
 use crate::fault::{Fault, TextName};
 use crate::meaning::solutions_are_sound;
@@ -70,8 +70,8 @@ pub fn run_solve_with<M: Source, D: Source, W: Sink>(
 {
     let model_text = read_text(alloc, model, MODEL_LIMIT, TextName::Model)?;
     let data_text = read_text(alloc, data, DATA_LIMIT, TextName::Data)?;
-    let unwritten = read_model(alloc, options, &model_text, &data_text)?;
-    let outcome = solve_network(alloc, &unwritten)?;
+    let network = compile_network(alloc, options, &model_text, &data_text)?;
+    let outcome = solve_network(alloc, &network)?;
     solutions_are_sound();
     let exit_kind = exit_kind_of(&outcome);
     match write_whole(output, outcome.text()) {

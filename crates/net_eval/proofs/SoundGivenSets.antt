@@ -3,7 +3,6 @@ use Rattle.std.specs.Prelude.{◌≡◌, ◌+◌, ◌<◌, ℕ, zero, suc, Bool,
 use Rattle.std.specs.List.{AllByRecursion, AllZip, flat_map}
 use Rattle.std.specs.Str.{bytes_eq}
 use Rattle.std.proofs.Common.{refl, ap, sym, ◌∙◌, subst, arith, append-nil}
-use Rattle.std.proofs.lemmas.Bool.Decides.{nat_tests}
 use Rattle.net_fault.specs.declared.error_code.ErrorCode.TheVariants.{Arity}
 use Rattle.net_fault.specs.declared.span.Span.{Span}
 use Rattle.net_fault.specs.Outcomes.{rejected_there}
@@ -47,6 +46,8 @@ use Rattle.net_eval.proofs.SoundGroups.{HasGroups, rows_grouped, set_rows_whole}
 use Rattle.net_eval.proofs.SetItems.{IsInside, items_inside, all_take, all_drop, item_rows, item_rows_made}
 use Rattle.net_eval.proofs.SetRowsSound.{IsCell, mentions_are, rows_given, rows_in, rows_of_statements, no_data, one_data, members_added, rows_values}
 use Rattle.net_eval.proofs.SoundSets.{AreClaimed, claims_are, assigned_alike, all_own, all_satisfied}
+use Rattle.net_eval.proofs.DataRowsTaken.{cut_is}
+use Rattle.net_eval.proofs.SoundGroups.{some_names}
 
 -- ---- well-formed data for a name
 
@@ -72,10 +73,6 @@ headed_sound first values cells place n (t ∷ ts) l h =
 set_sound : (first values : ℕ) (cells : List Token) (n : Name) (s : Option NamedSet) → 0 < values → AllByRecursion HasValue cells → AllByRecursion IsSoundData (set_for first values cells n s)
 set_sound first values cells n None l h = tt
 set_sound first values cells n (Some s) l h = if_sound (bytes_eq s.name.text n) (named s.name None (grouped first values 0 cells)) (l, h)
-
-some_names : (ts : List Token) (at : Token) → heading_judged ts at ≡ Ok tt → 0 < length ts
-some_names [] at e = cc
-some_names (t ∷ ts) at e = omega arith
 
 data_sound : (ds : Declared) (i : ℕ) (n : Name) (s : Statement) → IsStatement s → judged s ≡ Ok tt → HaveValues s → AllByRecursion IsSoundData (data_in ds i n s)
 data_sound ds i n (SetStatement s) w j v = if_sound (bytes_eq s.name.text n) _ (w.items, v)
@@ -136,9 +133,6 @@ groups_made P size zero ts h = tt
 groups_made P size (suc turns) [] h = tt
 groups_made P size (suc turns) (t ∷ ts) h = (all_take P size (t ∷ ts) h, groups_made P size turns (drop size (t ∷ ts)) (all_drop P size (t ∷ ts) h))
 
-cut_is : (n : ℕ) (cells : List Token) → 0 < n → cut n cells ≡ groups n cells
-cut_is n cells l = let no : nat_eq n 0 ≡ false = grind (arith, nat_tests) in ap (λ b. if b then [] else groups n cells) no
-
 -- the rows that the code takes are those of the statement, and their tokens are members
 rows_are : (widths : List ℕ) (d : ℕ) (word : Token) (g : Given) (rows : List (List Token)) → IsSoundGiven g → given_rows widths d word g ≡ Ok rows → (rows ≡ rows_given d g) × AllByRecursion (AllByRecursion IsCell) rows
 rows_are widths d word (given.Members ts) rows h e =
@@ -148,7 +142,7 @@ rows_are widths d word (given.Members ts) rows h e =
 rows_are widths d word (given.Groups g) rows h e =
     then_ok (agrees word (leading_size widths g.leader d) d) _ rows e (λ u f k.
     then_ok (whole_groups word.span d (d + g.values) (cut (d + g.values) g.cells)) (λ v. Ok (map (take d) (cut (d + g.values) g.cells))) rows k (λ v i l.
-    let some : cut (d + g.values) g.cells ≡ groups (d + g.values) g.cells = cut_is (d + g.values) g.cells (omega (arith, h.0)) in
+    let some : cut (d + g.values) g.cells ≡ groups (d + g.values) g.cells = cut_is (d + g.values) (d + g.values) g.cells refl (omega (arith, h.0)) in
     let own = is_ok (map (take d) (cut (d + g.values) g.cells)) rows l in
     let made = subst (AllByRecursion (AllByRecursion HasValue)) (sym some) (groups_made HasValue (d + g.values) (length g.cells) g.cells h.1) in
     (sym own ∙ ap (map (take d)) some, subst (AllByRecursion (AllByRecursion IsCell)) own (groups_are word.span d (d + g.values) (cut (d + g.values) g.cells) v made i))))

@@ -4,7 +4,6 @@ use Rattle.std.specs.List.{AllByRecursion, list_any}
 use Rattle.std.specs.Str.{bytes_eq}
 use Rattle.std.proofs.Common.{refl, ap, sym, ◌∙◌, subst, arith}
 use Rattle.std.proofs.lemmas.Bool.{eqb-true}
-use Rattle.std.proofs.lemmas.Bool.Decides.{nat_tests}
 use Rattle.net_fault.specs.declared.error_code.ErrorCode.TheVariants.{Arity}
 use Rattle.net_fault.specs.declared.span.Span.{Span}
 use Rattle.net_fault.specs.Outcomes.{Outcome, and_then, each, rejected_there}
@@ -29,6 +28,7 @@ use Rattle.net_eval.specs.Rows.{has_two, shaped}
 use Rattle.net_eval.specs.SetData.{begins_at, without_points, whole_group, whole_groups, cut, leading_size, agrees, given_rows}
 use Rattle.net_eval.proofs.NamesDeclared.{NamesNoParameter}
 use Rattle.net_eval.proofs.RowsTaken.{then_ok}
+use Rattle.net_eval.proofs.DataRowsTaken.{cut_is}
 
 -- ---- groups
 
@@ -46,11 +46,8 @@ groups_sized : (at : Span) (keys size : ℕ) (gs : List (List Token)) (u : Unit 
 groups_sized at keys size [] u e = tt
 groups_sized at keys size (g ∷ gs) u e = then_ok (whole_group at keys size g) (λ v. whole_groups at keys size gs) u e (λ v i k. (group_sized at keys size g v i, groups_sized at keys size gs u k))
 
-cut_is : (n : ℕ) (cells : List Token) → 0 < n → cut n cells ≡ groups n cells
-cut_is n cells l = let no : nat_eq n 0 ≡ false = grind (arith, nat_tests) in ap (λ b. if b then [] else groups n cells) no
-
 whole_of : (n m : ℕ) (cells : List Token) → 0 < n → n ≡ m → AreSized n (cut n cells) → AreWhole m cells
-whole_of n m cells l e h = subst (λ k. AreWhole k cells) e (subst (AreSized n) (cut_is n cells l) h)
+whole_of n m cells l e h = subst (λ k. AreWhole k cells) e (subst (AreSized n) (cut_is n n cells refl l) h)
 
 -- ---- the data of a name
 
@@ -170,7 +167,7 @@ parameter_rows_whole ds i size n (s ∷ ss) k h =
     let parts = front (IsWholeFor size) (data_in ds i n s) (data_for ds i n ss) h in (statement_whole ds i size n s k.0 parts.0, parameter_rows_whole ds i size n ss k.1 parts.1)
 
 -- a heading names parameters
-some_names : (ts : List Token) (at : Token) → heading_judged ts at ≡ Ok tt → 0 < length ts
+pub some_names : (ts : List Token) (at : Token) → heading_judged ts at ≡ Ok tt → 0 < length ts
 some_names [] at e = cc
 some_names (t ∷ ts) at e = omega arith
 

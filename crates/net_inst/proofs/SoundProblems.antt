@@ -1,5 +1,5 @@
 -- The normal form and the lean form of a network represent the network of the model.
-use Rattle.std.specs.Prelude.{◌≡◌, ◌+◌, ℕ, zero, suc, Bool, true, false, List, [], ◌∷◌, ◌++◌, length, map, slice_get, Option, None, Some, unwrap_or, if◌then◌else◌, IsTrue, ℤ, neg_ℤ}
+use Rattle.std.specs.Prelude.{◌≡◌, ◌+◌, ℕ, zero, suc, Bool, true, false, List, [], ◌∷◌, ◌++◌, length, map, slice_get, Option, None, Some, unwrap_or, if◌then◌else◌, IsTrue, ℤ, neg_ℤ, ◌+ℤ◌}
 use Rattle.std.specs.List.{AllByRecursion, AllZip, IsDistinct}
 use Rattle.std.proofs.Common.{refl, ap, sym, ◌∙◌, subst, arith, append_assoc}
 use Rattle.std.proofs.lemmas.Int.{ints}
@@ -147,6 +147,10 @@ supplies_long : (p : Profile) (arcs : List InstArc) (v : ℕ) (ranges : List Nod
 supplies_long p arcs v [] = refl
 supplies_long p arcs v (r ∷ ranges) = ap suc (supplies_long p arcs (suc v) ranges)
 
+sum-append : (xs : List ℤ) (x : ℤ) → sum_of (xs ++ x ∷ []) ≡ sum_of xs +ℤ x
+sum-append [] x = omega (arith, ints)
+sum-append (y ∷ xs) x = omega (arith, ints, sum-append xs x)
+
 -- ---- the law
 
 pub problems_represent : ProblemsRepresent
@@ -156,6 +160,7 @@ problems_represent requested w ds n p problem link sets names good e form one = 
   record {
     sense = form.sense ∙ sym a.has.same_sense;
     nodes = counted;
+    total = ap sum_of form.supplies ∙ omega (arith, ints, sum-append (supplies_from p is 0 n.instance.nodes.items) (neg_ℤ (sum_of (supplies_from p is 0 n.instance.nodes.items))));
     arcs = arcs;
     forward = λ flows h. (a.feasible (assignment_of all link flows)).1 (subst (IsFeasibleAssignment n.instance) (sym (numbers flows)) (one.forward flows h));
     onto = λ x h.

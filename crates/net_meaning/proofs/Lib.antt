@@ -15,3 +15,7 @@ pub mod TextWorlds
 pub mod TextNetworks
 pub mod TextTokens
 mod Examples
+mod Cities
+mod CitiesLemmas
+mod CitiesWorld
+mod CitiesNetwork

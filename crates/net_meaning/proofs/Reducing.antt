@@ -16,7 +16,8 @@ use Rattle.net_expr.specs.Numbers.{gathered, sized}
 use Rattle.net_expr.specs.Rows.{gathered_over, reduced_to, reduce}
 use Rattle.net_expr.specs.Worlds.{Scope}
 use Rattle.net_meaning.specs.Laws.{meaning_of}
-use Rattle.net_meaning.specs.Operators.{Value, number, sum_of, IsAmong, Reduces}
+use Rattle.net_normal.specs.Sums.{sum_of}
+use Rattle.net_meaning.specs.Operators.{Value, number, IsAmong, Reduces}
 use Rattle.net_meaning.proofs.Giving.{gives_then, gives_as}
 use Rattle.net_meaning.proofs.Operating.{number_is, sized_is}
 

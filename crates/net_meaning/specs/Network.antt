@@ -1,4 +1,7 @@
 -- The network of a model: its nodes and arcs by name and key, the feasible assignments of flows to arcs, and their values (AMPL book, chapter 15).
+-- The grammar of declarations (`GrammarOfDeclarations.antt` of net_model) guarantees what is not repeated here. In a condition exactly one term
+-- is `net_in` or `net_out`, without a factor, and they occur nowhere else. Its relations are `=`, `<=` and `>=`; if it has two, they are the same.
+-- An arc has each phrase at most once, except `obj`.
 use Rattle.std.specs.Prelude.{◌≡◌, ◌+◌, ◌||◌, ◌&&◌, ℕ, Bool, true, false, List, [], ◌∷◌, ◌++◌, map, take, filter, Option, None, Some, is_some, if◌then◌else◌, IsTrue, ⊤, ℤ, pos, ◌+ℤ◌, ◌-ℤ◌, ◌*ℤ◌, ◌≤ℤ◌}
 use Rattle.std.specs.List.{AllByRecursion, AllZip, IsDistinct, list_any}
 use Rattle.std.specs.Str.{bytes_eq}
@@ -52,7 +55,7 @@ pub data IsEnd (e : Env) : Option Expression → Option (Name × Tuple) → Type
   name : (t : Token) → IsEnd e (Some (leaf t)) (Some (t.text, []))
   name_and_key : (n : Name) (x : Expression) (l : Expressions) (key : Tuple) → AreMembers (IsValue e x) (AreValues e l) key → IsEnd e (Some (indexed n x l)) (Some (n, key))
 
--- the number of an `obj` phrase if it names this objective; otherwise 0, and its expression is not evaluated
+-- the number of an `obj` phrase: that of its expression, if it names this objective (the last argument); otherwise 0, whatever its expression
 abbrev pub IsCoefficientFor : Env → Expression → ℤ → Bool → Type 0
 IsCoefficientFor e x c true = IsValue e x (number c)
 IsCoefficientFor e x c false = c ≡ pos 0
@@ -68,12 +71,13 @@ abbrev pub IsCoefficient : Name → Env → List Phrase → ℤ → Type 0
 IsCoefficient objective_name e [] c = c ≡ pos 0
 IsCoefficient objective_name e (p ∷ ps) c = (a : ℤ) × (b : ℤ) × IsCoefficientIn objective_name e p.body a × IsCoefficient objective_name e ps b × (c ≡ a +ℤ b)
 
--- the expression is present, and its value is this number
+-- the expression is present, and its value is this number. An arc has to have both bounds: without one, it has no number.
 abbrev pub HasNumber : Env → Option Expression → ℤ → Type 0
 HasNumber e None n = ⊥
 HasNumber e (Some x) n = IsValue e x (number n)
 
--- the arc a that a declaration of arcs, with name n, indexing expression b and phrases ps, declares at the key k
+-- the arc a that a declaration of arcs, with name n, indexing expression b and phrases ps, declares at the key k. If its bounds cross
+-- (`ordered`), the model has no network. A node's condition that no net inflow satisfies is no error: then no assignment is feasible.
 pub record IsArc (objective_name n : Name) (b : Option Braces) (ps : List Phrase) (k : Key) (a : Arc) : Type 0 where
   pub label : a.label ≡ label_at n b k
   pub lower : HasNumber k.env (phrase_value is_at_least ps) a.lower
@@ -104,7 +108,7 @@ entries_after k (param n b ps) = k + 1
 entries_after k _ = k
 
 -- `InOrder P w k ds all`: all is the concatenation of what P gives for each declaration, in order. Each declaration sees the sets and parameters
--- declared before it, which are the first k entries of the world w.
+-- declared before it, which are the first k entries of the world w: k counts sets and parameters, not declarations.
 abbrev pub InOrder : {A : Type 0} → (World → Declaration → List A → Type 0) → World → ℕ → List Declaration → List A → Type 0
 InOrder P w k [] all = all ≡ []
 InOrder {A} P w k (d ∷ ds) all = (these : List A) × (others : List A) × P (take k w) d these × InOrder P w (entries_after k d) ds others × (all ≡ these ++ others)
@@ -246,7 +250,7 @@ HasSides e (one x o z) = IsNumeric e x × IsNumeric e z
 HasSides e (between x o z p u) = IsNumeric e x × IsNumeric e z × IsNumeric e u
 
 -- nothing in the network is without a value: at each net inflow the sides of each node's condition have numbers, and each assignment has a
--- value, which depends on the flows of the network's arcs alone: an expression may name an arc that does not exist if its flow has no effect
+-- value. The flow of an arc that does not exist has no effect on it (`alike`).
 pub record IsEvaluated (vs : List Node) (all : List Arc) (o : Objective) : Type 0 where
   pub conditions : (y : ℤ) → AllByRecursion (λ (v : Node). HasSides (with_inflow v.env y) v.condition) vs
   pub objective : (x : Assignment) → (n : ℤ) × HasValue o all x n

@@ -1,6 +1,7 @@
 -- Values, and the results of operators. An operation that is an error, such as a division by zero, has no result.
 use Rattle.std.specs.Prelude.{◌≡◌, ◌⊎◌, ◌↔◌, ◌<◌, ◌/◌, ◌%◌, ℕ, Bool, true, false, not, List, [], ◌∷◌, ◌++◌, length, ℤ, pos, ◌+ℤ◌, ◌-ℤ◌, ◌*ℤ◌, ◌≤ℤ◌, int_lt, int_le}
 use Rattle.std.specs.List.{AllByRecursion}
+use Rattle.net_normal.specs.Sums.{sum_of}
 use Rattle.net_sets.specs.declared.member.Member.{Member}
 use Rattle.net_sets.specs.declared.member.Member.TheVariants as member
 use Rattle.net_sets.specs.Operations as sets
@@ -33,7 +34,7 @@ abbrev pub HaveOneDimension : List Tuple → Type 0
 HaveOneDimension ts = (d : ℕ) × AllByRecursion (λ t. length t ≡ d) ts
 
 -- `IsResult o u v x`: the operator o applied to u and v gives x. Operators on sets, except `cross`, have a result only if the tuples of both
--- operands have the same number of components. The empty set fits every operand.
+-- operands have the same number of components. The empty set fits every operand. `div` and `mod` have no result if an operand is negative.
 pub data IsResult : BinOp → Value → Value → Value → Type 0 where
   plus : (a b : ℤ) → IsResult op.Plus (number a) (number b) (number (a +ℤ b))
   minus : (a b : ℤ) → IsResult op.Minus (number a) (number b) (number (a -ℤ b))
@@ -62,11 +63,6 @@ pub data IsResult : BinOp → Value → Value → Value → Type 0 where
 pub data ShortCircuits : BinOp → Value → Type 0 where
   and_false : ShortCircuits op.And (Truth false)
   or_true : ShortCircuits op.Or (Truth true)
-
--- the sum of the numbers
-abbrev pub sum_of : List ℤ → ℤ
-sum_of [] = pos 0
-sum_of (n ∷ ns) = n +ℤ sum_of ns
 
 -- the number occurs in the list
 abbrev pub IsAmong : List ℤ → ℤ → Type 0

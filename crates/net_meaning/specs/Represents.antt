@@ -1,5 +1,5 @@
 -- A min-cost flow problem represents a network: which arc of the problem is which arc of the model, and how flows correspond to
--- assignments.
+-- assignments. The flows and costs of a problem are those of `Flows.antt` of net_normal, and `Links.antt` there maps them back.
 use Rattle.std.specs.Prelude.{◌≡◌, ◌+◌, ℕ, suc, List, [], ◌∷◌, length, slice_get, Option, None, Some, IsTrue, if◌then◌else◌, ◌&&◌, ℤ, pos, ◌+ℤ◌}
 use Rattle.std.specs.List.{AllZip}
 use Rattle.std.specs.Str.{bytes_eq}
@@ -10,15 +10,17 @@ use Rattle.net_normal.specs.declared.problem.FlowArc.{FlowArc}
 use Rattle.net_normal.specs.declared.problem.Problem.{Problem}
 use Rattle.net_normal.specs.Flows.{net_outflow, IsWithinCapacity, IsFeasibleFlow, cost_of}
 use Rattle.net_normal.specs.Links.{mapped_back, value_at}
+use Rattle.net_normal.specs.Sums.{sum_of}
 use Rattle.net_meaning.specs.Network.{Node, Arc, Objective, Assignment, Agree, is_at, AreWithinBounds, IsSatisfiedBy, IsFeasible, HasValue}
 
--- the number of a node in the problem. The problem has one more node after the model's nodes, which is the missing end of arcs with one end.
+-- the number of a node in the problem, from 0. The problem has one more node after the model's nodes, which is the missing end of arcs with one end.
 pub data IsNodeNumber (vs : List Node) : Option (Name × Tuple) → ℕ → Type 0 where
   outside : IsNodeNumber vs None (length vs)
   named : (r : Name × Tuple) (i : ℕ) (v : Node) → slice_get vs i ≡ Some v → IsTrue (is_at (Some r) v.label) → IsNodeNumber vs (Some r) i
 
 -- the arc of the problem that encodes an arc of the model: it joins the same nodes, and its bounds are those of the model's arc minus the
--- offset. Numbers start at 1; number 0 marks an arc whose bounds are equal, which the problem leaves out, and the offset is its flow.
+-- offset. Arcs are numbered from 1: number suc i is the arc with index i. Number 0: the arc is not in the problem, since its bounds are equal;
+-- the offset is its flow. `balanced` excludes that arcs whose flows can vary share a number.
 pub data IsEncoded (vs : List Node) (arcs : List FlowArc) (a : Arc) (offset : ℤ) : ℕ → Type 0 where
   fixed : a.lower ≡ offset → a.upper ≡ offset → IsEncoded vs arcs a offset 0
   at : (i : ℕ) (f : FlowArc) → slice_get arcs i ≡ Some f → IsNodeNumber vs a.from f.src → IsNodeNumber vs a.to f.dst → f.low +ℤ offset ≡ a.lower → f.cap +ℤ offset ≡ a.upper
@@ -40,7 +42,7 @@ by_label (a ∷ all) (y ∷ ys) n key = if bytes_eq a.label.name n && same_tuple
 abbrev pub assignment_of : List Arc → Link → List ℤ → Assignment
 assignment_of all link flows = by_label all (mapped_back link flows)
 
--- node i sends out its supply: its outflow minus its inflow
+-- node i sends out its supply: its outflow minus its inflow. So a supply is a negated net inflow, except for offsets.
 abbrev pub IsBalanced : Problem → List ℤ → ℕ → Type 0
 IsBalanced problem flows i = slice_get problem.supplies.items i ≡ Some (net_outflow problem.arcs.items flows i)
 
@@ -49,12 +51,14 @@ IsBalanced problem flows i = slice_get problem.supplies.items i ≡ Some (net_ou
 pub record Represents (vs : List Node) (all : List Arc) (o : Objective) (problem : Problem) (link : Link) : Type 0 where
   pub sense : link.sense ≡ o.sense
   pub nodes : length problem.supplies.items ≡ length vs + 1
+  -- so the supplies of the model's nodes determine that of the other node
+  pub total : sum_of problem.supplies.items ≡ pos 0
   pub arcs : AreEncoded vs problem.arcs.items all link.offsets.items link.numbers.items
   -- feasible flows correspond one to one to feasible assignments
   pub forward : (flows : List ℤ) → IsFeasibleFlow problem flows → IsFeasible vs all (assignment_of all link flows)
   pub onto : (x : Assignment) → IsFeasible vs all x → (flows : List ℤ) × IsFeasibleFlow problem flows × Agree all (assignment_of all link flows) x
   pub injective : (flows others : List ℤ) → IsFeasibleFlow problem flows → IsFeasibleFlow problem others → Agree all (assignment_of all link flows) (assignment_of all link others) → flows ≡ others
-  -- the cost of a flow, feasible or not, gives the value of its assignment
+  -- the cost of a flow, feasible or not, gives the value of its assignment: the constant plus the cost, or minus it to maximize
   pub value : (flows : List ℤ) → length flows ≡ length problem.arcs.items → HasValue o all (assignment_of all link flows) (value_at link (cost_of problem flows))
   -- If no assignment is feasible, the fields above say nothing of supplies. These two do, node by node: a flow within the capacities that balances
   -- a node satisfies its condition; an assignment within the bounds has a flow that balances every node whose condition it satisfies.

@@ -2,6 +2,9 @@
 -- chapters 5 to 8 and appendix A). The definitions are relations: an expression with an error of kind, of division or of a missing value has no
 -- value, so no value is a default. Nor has an expression whose tuples have a wrong number of components. The dimension of an empty set, and
 -- limits on sizes except that of numerals, are not part of the meaning.
+-- Other files use `IsValue` and `AreKeys`, at the end; what precedes them are their parts. For example, {(i, 2) in L, j in B : j > i}, where L has
+-- (1, 2) and (1, 3), and B has 1 and 5: with (1, 2) the first item extends the empty key to (1), where i is 1, and it passes over (1, 3) (`Extends`).
+-- The second extends (1) to (1, 1) and (1, 5), where j is 1 and 5 (`Iterates`). The condition keeps (1, 5) (`Filters`).
 use Rattle.std.specs.Prelude.{◌≡◌, ◌⊎◌, ◌+◌, ◌&&◌, ℕ, Bool, true, false, not, List, [], ◌∷◌, ◌++◌, map, length, Option, None, Some, if◌then◌else◌, ⊤, ℤ, pos}
 use Rattle.std.specs.List.{AllZip}
 use Rattle.net_lex.specs.Limits.{limits}
@@ -65,7 +68,7 @@ abbrev pub Continues : (Key → List Key → Type 0) → Option Key → List Key
 Continues Next None keys = keys ≡ []
 Continues Next (Some k) keys = Next k keys
 
--- In {(i, 2) in L, j in B} Place takes the tuple (1, 2) to the key (1) with i = 1, and (1, 3) to None; Next runs j through B. In order of the set.
+-- the keys from each tuple of an item's set, in order. `Place t r`: t takes the partial key to r, or is passed over (None). `Next`: the items after it.
 abbrev pub FromEach : (Tuple → Option Key → Type 0) → (Key → List Key → Type 0) → List Tuple → List Key → Type 0
 FromEach Place Next [] keys = keys ≡ []
 FromEach Place Next (t ∷ ts) keys =
@@ -73,7 +76,7 @@ FromEach Place Next (t ∷ ts) keys =
 
 -- the keys from an item of an indexing expression: those from each tuple of its set
 abbrev pub FromItem : (List Tuple → Type 0) → (Tuple → Option Key → Type 0) → (Key → List Key → Type 0) → List Key → Type 0
-FromItem IsSet Place Next keys = (ts : List Tuple) × IsSet ts × FromEach Place Next ts keys
+FromItem IsItsSet Place Next keys = (ts : List Tuple) × IsItsSet ts × FromEach Place Next ts keys
 
 -- the flow of an arc at a key if the name is an arc's; otherwise what Else says
 abbrev pub IsArcOr : Option (Tuple → ℤ) → Tuple → Value → Type 0 → Type 0
@@ -126,7 +129,7 @@ abbrev pub new_dummy : Env → Expression → Option Name
 new_dummy e (leaf t) = if is_name t.kind && not (is_known e.world e.dummies t.text) then Some t.text else None
 new_dummy e _ = None
 
--- the set of an item: the one after `in`, or the item itself
+-- the set of an item: the one after `in`, or the item itself (`Own v`: the item's expression has the value v)
 abbrev pub IsItemSet : Expression → (List Tuple → Type 0) → (Value → Type 0) → List Tuple → Type 0
 IsItemSet i After Own ts = Whether (has_in i) (After ts) (Own (Many ts))
 
@@ -138,7 +141,7 @@ IsLeaf e kinds.Name text v = Denotes e text [] v
 IsLeaf e _ text v = ⊥
 
 -- one component of a tuple to the left of `in`: a new dummy index takes the member at its place; any other expression selects, since
--- its value has to equal the member
+-- its value (`Own`) has to equal the member. `Rest`: the other components.
 abbrev pub Matches : Key → Option Name → (Value → Type 0) → Member → (Key → Option Key → Type 0) → Option Key → Type 0
 Matches k (Some n) Own m Rest r = Rest (bind n m k) r
 Matches k None Own m Rest r = (u : Member) × Own (One u) × Whether (same_member u m) (Rest k r) (r ≡ None)
@@ -192,7 +195,7 @@ abbrev mutual
   IsChain e u (apply o x l) v = (w : Value) × Combines o u (IsValue e x) w × IsChain e w l v
 
   -- the keys of an indexing expression: those of its items at which the condition is true, or its listed members and tuples. Only items that
-  -- iterate can have a condition. All keys of the items have the same number of components, before the condition selects.
+  -- iterate can have a condition. All keys of the items have the same number of components, before the condition selects. No braces are both.
   pub AreKeys : Env → Braces → List Key → Type 0
   AreKeys e (empty p) keys = (keys ≡ []) × IsAbsent p
   AreKeys e (filled i is p) keys =
@@ -220,7 +223,8 @@ abbrev mutual
   Extends k (chain x (apply o y none)) t r = Whether (is_in o) (Agrees k x (IsValue k.env x) t r) (r ≡ Some (extended k t))
   Extends k _ t r = r ≡ Some (extended k t)
 
-  -- the tuple agrees with the expression to the left of `in`, component by component, and both have the same number of components
+  -- the tuple agrees with the expression to the left of `in`, component by component, and both have the same number of components (`Own v`: a
+  -- single expression has the value v)
   pub Agrees : Key → Expression → (Value → Type 0) → Tuple → Option Key → Type 0
   Agrees k (tuple x l) Own [] r = ⊥
   Agrees k (tuple x l) Own (m ∷ ms) r = (length ms ≡ size l) × Matches k (new_dummy k.env x) (IsValue k.env x) m (λ q. AllAgree q l ms) r

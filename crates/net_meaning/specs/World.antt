@@ -41,7 +41,7 @@ expression_of (valued x) = Some x
 expression_of plain = None
 expression_of (priced n x) = None
 
--- the expression of the first phrase whose keyword passes the test
+-- the expression of the first phrase whose keyword passes the test (the grammar allows no second one where this is used)
 abbrev pub phrase_value : (Role → Bool) → List Phrase → Option Expression
 phrase_value test [] = None
 phrase_value test (p ∷ ps) = if test p.word then expression_of p.body else phrase_value test ps
@@ -53,7 +53,7 @@ AreIndexed w (Some b) keys = AreKeys (env_of w []) b keys
 
 -- ---- data statements
 
--- the value of a token of the data: a number, or a string; the dot, which marks a missing value, has none
+-- the value of a token of the data: a number, or a string; the dot, which marks a missing value, has none (`rows` leaves out rows with a dot)
 abbrev pub IsDataValueOf : Kind → List ℕ → Member → Type 0
 IsDataValueOf Dot text m = ⊥
 IsDataValueOf Num text m = (n : ℤ) × IsNumeral limits.value text n × (m ≡ member.Number n)
@@ -94,6 +94,7 @@ abbrev pub AreWhole : ℕ → List Token → Type 0
 AreWhole size cells = AllByRecursion (λ group. length group ≡ size) (groups size cells)
 
 -- a statement that names n has whole rows of this number of keys and a value for each column; each name of a heading groups the cells by its own
+-- number of subscripts. `lengths` of `IsSet` says it for a set. Rows of a table have two keys; `inside` of `IsParameter` excludes another size.
 abbrev pub HasWholeRows : ℕ → Name → Statement → Type 0
 HasWholeRows size n (statements.Set s) = ⊤
 HasWholeRows size n (statements.List l) = Whether (bytes_eq l.name.text n) (ForSome l.given (λ g. AreWhole (size + 1) g.cells)) ⊤
@@ -130,7 +131,7 @@ mentions n (s ∷ ss) = mentions_in n s + mentions n ss
 
 -- ---- sets
 
--- what a phrase requires of a set with dimension d and members ts; the set after `within` has the same dimension
+-- what a phrase requires of a set with dimension d and members ts; the set after `within` has the same dimension. A set has no other phrases.
 abbrev pub SatisfiesRole : World → ℕ → List Tuple → Role → Expression → Type 0
 SatisfiesRole w d ts (roles.Phrase begins.Dimen) x = IsValue (env_of w []) x (number (pos d)) × (1 ≤ d)
 SatisfiesRole w d ts (roles.Relation relations.Within) x = (us : List Tuple) × IsValue (env_of w []) x (Many us) × AllByRecursion (λ t. length t ≡ d) us × IsTrue (is_within ts us)
@@ -141,8 +142,8 @@ SatisfiesRole w d ts _ x = ⊤
 abbrev pub Satisfies : World → ℕ → List Tuple → Phrase → Type 0
 Satisfies w d ts p = ForSome (expression_of p.body) (SatisfiesRole w d ts p.word)
 
--- the members of a set: those of the expression after `:=`, and then no statement names the set; otherwise the rows of the one statement that
--- names it
+-- the members of a set: those of the expression after `:=` (by `SatisfiesRole`), and then no statement names the set; otherwise the rows of the
+-- one statement that names it
 abbrev pub AreGivenMembers : List Statement → Name → ℕ → List Tuple → Option Expression → Type 0
 AreGivenMembers ss n d ts (Some x) = mentions n ss ≡ 0
 AreGivenMembers ss n d ts None = (mentions n ss ≡ 1) × AllByRecursion (HasWholeRows d n) ss × AllZip AreDataValues (flat_map (set_rows_of d n) ss) ts
@@ -217,8 +218,8 @@ key_count (Some b) size = Some size
 abbrev pub keys_of : List Key → List Tuple
 keys_of keys = map (λ k. k.key) keys
 
--- the entry x of a parameter n with indexing expression b and phrases ps, in the world w of the declarations before it. Without keys the size is
--- open, and so is the order of the table: no value depends on them.
+-- the entry x of a parameter n with indexing expression b and phrases ps, in the world w of the declarations before it. `union []` removes
+-- repeated keys. If there are no keys, the size is open; the order of the table always is: no value depends on them.
 pub record IsParameter (w : World) (ss : List Statement) (n : Name) (b : Option Braces) (ps : List Phrase) (x : Entry) : Type 0 where
   pub keys : List Key
   pub size : ℕ

@@ -5,31 +5,31 @@ use Rattle.net_driver.proofs.NoMemory.{model_may, no_memory}
 use Rattle.net_driver.proofs.answer.solve_model_with.Goals as goal
 
 pub solve_network-requires : goal.solve_network-requires
-solve_network-requires c = c.in_ok-unwritten.ensures.value.sizes
+solve_network-requires c = c.in_ok-network.ensures.value.sizes
 
 pub with_text-requires : goal.with_text-requires
-with_text-requires c = c.in_ok-unwritten.ensures.value.sizes
+with_text-requires c = c.in_ok-network.ensures.value.sizes
 
 pub returns-clause-value : goal.returns-clause-value
 returns-clause-value c =
     subst (λ compiled. IsSolved c.args.options.now.lean (option_copied c.args.options.now.objective) c.args.model.now c.args.data.now (record { compiled = compiled; outcome = c.in_ok-outcome.outcome }))
-    (sym c.in_ok-compiled.ensures) (c.in_ok-outcome.ensures _ _ _ _ c.in_ok-unwritten.ensures.value)
+    (sym c.in_ok-compiled.ensures) (c.in_ok-outcome.ensures _ _ _ _ c.in_ok-network.ensures.value)
 
 pub returns-clause-means : goal.returns-clause-means
 returns-clause-means c =
     let wanted = option_copied c.args.options.now.objective in
     let answers =
     subst (λ compiled. IsSolved c.args.options.now.lean wanted c.args.model.now c.args.data.now (record { compiled = compiled; outcome = c.in_ok-outcome.outcome }))
-    (sym c.in_ok-compiled.ensures) (c.in_ok-outcome.ensures _ _ _ _ c.in_ok-unwritten.ensures.value) in
+    (sym c.in_ok-compiled.ensures) (c.in_ok-outcome.ensures _ _ _ _ c.in_ok-network.ensures.value) in
     c.solutions_are_sound.ensures.value c.args.options.now.lean wanted c.args.model.now c.args.data.now
     (record { compiled = c.in_ok-compiled.compiled; outcome = c.in_ok-outcome.outcome }) answers
 
 pub returns-in_err-outcome-clause-rejected : goal.returns-in_err-outcome-clause-rejected
 returns-in_err-outcome-clause-rejected c =
     no_memory _ c.args.model.now c.args.data.now c.from_residual-in_err-outcome.result _ (λ e h. h)
-    (model_may c.args.model.now _ c.in_ok-unwritten.ensures.value.accepts.model) c.from_residual-in_err-outcome.ensures.1
+    (model_may c.args.model.now _ c.in_ok-network.ensures.value.accepts.model) c.from_residual-in_err-outcome.ensures.1
 
 pub returns-in_err-compiled-clause-rejected : goal.returns-in_err-compiled-clause-rejected
 returns-in_err-compiled-clause-rejected c =
     no_memory _ c.args.model.now c.args.data.now c.from_residual-in_err-compiled.result _ (λ e h. h)
-    (model_may c.args.model.now _ c.in_ok-unwritten.ensures.value.accepts.model) c.from_residual-in_err-compiled.ensures.1
+    (model_may c.args.model.now _ c.in_ok-network.ensures.value.accepts.model) c.from_residual-in_err-compiled.ensures.1

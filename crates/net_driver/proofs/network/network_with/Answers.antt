@@ -1,33 +1,31 @@
-use Rattle.std.proofs.Common.{List, Err, subst, arith}
+use Rattle.std.proofs.Common.{List, Err, subst}
 use Rattle.net_tree.specs.View as view
 use Rattle.net_lex.specs.declared.token.Token.{Token}
-use Rattle.net_data.specs.Meaning.{Mean}
 use Rattle.net_data.specs.Reading as data_reading
-use Rattle.net_driver.specs.Reading.{IsData}
-use Rattle.net_driver.proofs.Stops.{data_token, data_parse, network_stop}
+use Rattle.net_driver.proofs.Stops.{is_data, data_token, data_parse, network_stop, network_stops, bind_stop, passed_on}
 use Rattle.net_driver.proofs.network.network_with.Goals as goal
 
-pub returns-in-Err-clause-rejected : goal.returns-in-Err-clause-rejected
-returns-in-Err-clause-rejected c text is =
-    data_token _ text c.args.data.now (view.model c.args.declared.now) c.in-Err.fault is c.in-Err.ensures.value.rejected
+pub returns-in_err-tokens-clause-rejected : goal.returns-in_err-tokens-clause-rejected
+returns-in_err-tokens-clause-rejected c text is =
+    passed_on _ _ c.from_residual.result _ (λ e h. h) (data_token _ text c.args.data.now (view.model c.args.declared.now) _ is c.in_err-tokens.ensures.value.rejected) c.from_residual.ensures.1
 
-pub returns-in-Err-parse_data-clause-rejected : goal.returns-in-Err-parse_data-clause-rejected
-returns-in-Err-parse_data-clause-rejected c text is =
-    let fault = c.in-Err-parse_data.fault in
-    let place = subst (λ (t : List Token). data_reading.Answers (data_reading.end_of t) (data_reading.tables t) (Err fault)) c.deref.ensures.value c.in-Err-parse_data.ensures.place in
-    data_parse _ text c.args.data.now (view.model c.args.declared.now) c.in-Ok.tokens.items fault is c.in-Ok.ensures.value.ok place
+pub returns-in_err-tables-clause-rejected : goal.returns-in_err-tables-clause-rejected
+returns-in_err-tables-clause-rejected c text is =
+    let fault = c.in_err-tables.field-0.0 in
+    let place = subst (λ (t : List Token). data_reading.Answers (data_reading.end_of t) (data_reading.tables t) (Err fault)) c.deref.ensures.value c.in_err-tables.ensures.place in
+    passed_on _ fault c.from_residual-in_err-tables.result _ (λ e h. h)
+    (data_parse _ text c.args.data.now (view.model c.args.declared.now) c.in_ok-tokens.tokens.items fault is c.in_ok-tokens.ensures.value.ok place) c.from_residual-in_err-tables.ensures.1
+
+pub returns-in_err-world-clause-rejected : goal.returns-in_err-world-clause-rejected
+returns-in_err-world-clause-rejected c text is =
+    let tables = c.in_ok-tables.tables in
+    let fault = c.in_err-world.field-0.0 in
+    let found = is_data c.args.data.now c.in_ok-tokens.tokens.items _ tables c.deref.ensures.value c.in_ok-tokens.ensures.value.ok c.in_ok-tables.ensures.ok c.in_ok-tables.ensures.full in
+    passed_on _ fault c.from_residual-in_err-world.result _ (λ e h. h)
+    (network_stop _ text c.args.data.now (view.model c.args.declared.now) tables fault is found (bind_stop _ (view.model c.args.declared.now) tables fault c.in_err-world.ensures)) c.from_residual-in_err-world.ensures.1
 
 pub returns-clause-rejected : goal.returns-clause-rejected
 returns-clause-rejected c text is =
-    let tables = c.in-Ok-parse_data.tables in
-    let reported = c.in-Ok-parse_data.ensures in
-    let statements : IsData c.args.data.now tables = record {
-      tokens = c.in-Ok.tokens.items;
-      read = c.in-Ok.ensures.value.ok;
-      written = subst (λ (t : List Token). Mean t tables) c.deref.ensures.value reported.ok;
-      full = reported.full;
-    } in
-    network_stop _ text c.args.data.now (view.model c.args.declared.now) tables c.in-Err-network_of.fault is statements c.in-Err-network_of.ensures.rejected
-
-pub returns-in-Ok-network_of-clause-ok : goal.returns-in-Ok-network_of-clause-ok
-returns-in-Ok-network_of-clause-ok c = grind (arith)
+    let tables = c.in_ok-tables.tables in
+    let found = is_data c.args.data.now c.in_ok-tokens.tokens.items _ tables c.deref.ensures.value c.in_ok-tokens.ensures.value.ok c.in_ok-tables.ensures.ok c.in_ok-tables.ensures.full in
+    network_stops _ text c.args.data.now (view.model c.args.declared.now) tables c.in_ok-world.world c.instantiate_for.result is found c.in_ok-world.ensures c.instantiate_for.ensures
