@@ -50,8 +50,11 @@ pub fn read_network<'s>(
     ensures ok { IfOk result (λ n. IsNetworkOf (option_copied objective.entry) model.entry.now «data».entry.now (seen_as n)) }
     ensures rejected { IfErr result (IsStop (option_copied objective.entry) model.entry.now «data».entry.now) }
 {
-    let tokens = lex_model(alloc, model)?;
-    let declared = parse_model(alloc, &tokens)?;
+    // The tokens of the model are freed before the data are read.
+    let declared = {
+        let tokens = lex_model(alloc, model)?;
+        parse_model(alloc, &tokens)?
+    };
     well_named();
     well_named_are_new();
     let read = network_with(alloc, &declared, data, objective);
