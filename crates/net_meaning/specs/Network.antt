@@ -1,7 +1,7 @@
 -- The network of a model: its nodes and arcs by name and key, the feasible assignments of flows to arcs, and their values (AMPL book, chapter 15).
 -- The grammar of declarations (`GrammarOfDeclarations.antt` of net_model) guarantees what is not repeated here. In a condition exactly one term
 -- is `net_in` or `net_out`, without a factor, and they occur nowhere else. Its relations are `=`, `<=` and `>=`; if it has two, they are the same.
--- An arc has each phrase at most once, except `obj`.
+-- An arc has each of `>=`, `<=`, `from` and `to` at most once.
 use Rattle.std.specs.Prelude.{◌≡◌, ◌+◌, ◌||◌, ◌&&◌, ℕ, Bool, true, false, List, [], ◌∷◌, ◌++◌, map, take, filter, Option, None, Some, is_some, if◌then◌else◌, IsTrue, ⊤, ℤ, pos, ◌+ℤ◌, ◌-ℤ◌, ◌*ℤ◌, ◌≤ℤ◌}
 use Rattle.std.specs.List.{AllByRecursion, AllZip, IsDistinct, list_any}
 use Rattle.std.specs.Str.{bytes_eq}
