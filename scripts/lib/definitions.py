@@ -127,7 +127,7 @@ STAGES = [
     ("text to declarations", ["net_lex", "net_tree", "net_model", "net_resolve", "net_data"]),
     ("sets and parameters", ["net_eval"]),
     ("values", ["net_expr", "net_sets"]),
-    ("errors", ["net_fault", "net_views"]),
+    ("errors", ["net_base"]),
 ]
 # The file that an auditor opens first, if it is not the first one that the theorem reaches.
 FIRST_FILES = {"net_inst": "net_inst/specs/AsWritten.antt"}

@@ -7,6 +7,7 @@ use net_dimacs::{read_problem, write_problem};
 use net_lex::{lex_data, lex_model};
 use net_model::{free_model, parse_declarations};
 use net_resolve::check_names;
+use net_sets::HashKey;
 use net_solve::{Plain, Scaling, ScalingRun, Settled, settle, solve, solve_problem};
 use std::alloc::{AllocError, Global};
 use std::process::ExitCode;
@@ -91,7 +92,7 @@ fn model<R: AllocGlobal + CpuClock>(rt: &R, text: &[u8]) -> Option<Reported> {
     let Ok(model) = parse_declarations(rt.alloc(), &tokens) else {
         return None;
     };
-    let is_named = check_names(rt.alloc(), &model).is_ok();
+    let is_named = check_names(rt.alloc(), HashKey::of_texts(text, &[]), &model).is_ok();
     let parsed = now(rt);
     let count = model.declarations.as_slice().len();
     let counts = (tokens.len(), count, tokens.capacity());

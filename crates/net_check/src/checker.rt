@@ -1,17 +1,19 @@
 //! Checking a certificate.
 
-ghost use Rattle.std.specs.Prelude.{◌≡◌, ℕ, ◌↔◌};
+ghost use Rattle.std.specs.Prelude.{◌≡◌, ℕ, ◌↔◌, ◌≤◌, IsTrue, IfSome, IfNone, length};
 ghost use Rattle.net_check.specs.Certificates.{IsCertificate, IsOptimal, IsViolatedCut};
-ghost use Rattle.net_check.specs.FirstFaults.{IsFirstFault, IsFirstFaultOfFlow, IsFirstFaultOfCut};
+ghost use Rattle.net_check.specs.FirstFaults.{IsFirstFault, IsFirstFaultOfFlow, IsFirstFaultOfCut, IsFirstFailing, ArcKeeps};
+ghost use Rattle.std.specs.List.{AllZip};
+ghost use Rattle.net_normal.specs.Flows.{IsWithinCapacity};
+ghost use Rattle.net_normal.specs.Limits.{flow_arc_limit};
 
 use crate::balance::first_unbalanced;
-use crate::bounds::first_out_of_bounds;
 use crate::certificate::{Certificate, Side};
 use crate::cost::cost;
 use crate::cut::is_violated;
 use crate::slackness::check_slackness;
 use crate::verdict::{Reason, Verdict};
-use net_normal::Problem;
+use net_normal::{FlowArc, Problem};
 
 /// Checks a flow with potentials; returns the first condition that fails.
 fn check_flow(problem: &Problem, value: &i128, flows: &[i64], potentials: &[i64]) -> Verdict
@@ -69,4 +71,26 @@ pub fn check(problem: &Problem, certificate: &Certificate) -> Verdict
         } => check_flow(problem, value, flows, potentials),
         Certificate::Cut { flags, side } => check_cut(problem, flags, *side),
     }
+}
+
+/// Returns whether a flow is between the arc's LOW and CAP.
+fn is_within(arc: &FlowArc, flow: &i64) -> bool
+    ensures { IsTrue result ↔ IsWithinCapacity arc.now flow.now }
+{
+    arc.low <= *flow && *flow <= arc.cap
+}
+
+/// Returns the number, counted from 1, of the first arc whose flow is outside its bounds.
+pub fn first_out_of_bounds(arcs: &[FlowArc], flows: &[i64]) -> Option<u32>
+    requires few { length arcs.now ≤ flow_arc_limit }
+    requires one_each { length flows.now ≡ length arcs.now }
+    ensures none { IfNone result (AllZip IsWithinCapacity arcs.now flows.now) }
+    ensures some { IfSome result (IsFirstFailing (ArcKeeps IsWithinCapacity arcs.now flows.now)) }
+{
+    for (index, arc) in arcs.iter().enumerate() {
+        if !is_within(arc, &flows[index]) {
+            return Some(index as u32 + 1);
+        }
+    }
+    None
 }

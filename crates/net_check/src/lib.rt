@@ -2,7 +2,6 @@
 #![tactic(auto)]
 
 mod balance;
-mod bounds;
 mod certificate;
 mod checker;
 pub mod cost;

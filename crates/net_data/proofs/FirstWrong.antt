@@ -1,13 +1,13 @@
 -- What a refusal of parse_data promises: where it stands at a token, that is the first with which no statements go on.
 use Rattle.std.proofs.Common.{◌≡◌, ℕ, zero, suc, ◌<◌, List, [], ◌∷◌, ◌++◌, length, Option, Some, None, IfErr, Result, Ok, Err, refl, ap, sym, ◌∙◌, subst, arith, length-append, append_assoc, append-nil, inl, inr}
-use Rattle.net_fault.specs.declared.span.Span.{Span}
+use Rattle.net_base.specs.declared.diagnostic.Span.{Span}
 use Rattle.net_lex.specs.declared.token.Token.{Token}
-use Rattle.net_fault.specs.declared.error_code.ErrorCode.{ErrorCode}
-use Rattle.net_fault.specs.declared.error_code.ErrorCode.TheVariants.{DataSyntax}
-use Rattle.net_fault.specs.declared.fault.Fault.{Fault}
-use Rattle.net_fault.specs.declared.fault.Fault.TheVariants.{OutOfMemory, At}
+use Rattle.net_base.specs.declared.error_code.ErrorCode.{ErrorCode}
+use Rattle.net_base.specs.declared.error_code.ErrorCode.TheVariants.{DataSyntax}
+use Rattle.net_base.specs.declared.fault.Fault.{Fault}
+use Rattle.net_base.specs.declared.fault.Fault.TheVariants.{OutOfMemory, At}
 use Rattle.net_data.specs.declared.parse_error.ParseError.{ParseError}
-use Rattle.net_data.specs.declared.tables.Tables.{Tables}
+use Rattle.net_data.specs.declared.statement.Tables.{Tables}
 use Rattle.net_data.specs.GoingOn.{Begins, EndsAt, NoneGoOn, EndsOpen, AllBegin, IsWrong, at_token, at_end}
 use Rattle.net_data.specs.Meaning.{Mean}
 use Rattle.net_data.specs.Reading.{tables, stop, end_of, span_or_end, fault_of, Fails, Answers}

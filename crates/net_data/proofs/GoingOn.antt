@@ -1,12 +1,12 @@
 -- Where reading stops at a token, it stops there whatever comes behind.
 use Rattle.std.proofs.Common.{◌≡◌, ℕ, zero, suc, ◌≤◌, ◌<◌, Bool, List, [], ◌∷◌, ◌++◌, length, Option, Some, None, Result, Ok, Err, refl, ap, sym, ◌∙◌, arith, length-append, codes}
-use Rattle.net_fault.specs.declared.span.Span.{Span}
+use Rattle.net_base.specs.declared.diagnostic.Span.{Span}
 use Rattle.net_lex.specs.declared.token.Token.{Token}
-use Rattle.net_fault.specs.declared.error_code.ErrorCode.TheVariants.{DataSyntax}
+use Rattle.net_base.specs.declared.error_code.ErrorCode.TheVariants.{DataSyntax}
 use Rattle.net_data.specs.declared.parse_error.ParseError.{ParseError}
 use Rattle.net_data.specs.declared.statement.Statement.{Statement}
-use Rattle.net_data.specs.declared.tables.Single.{Single}
-use Rattle.net_data.specs.declared.tables.Tables.{Tables}
+use Rattle.net_data.specs.declared.statement.Single.{Single}
+use Rattle.net_data.specs.declared.statement.Tables.{Tables}
 use Rattle.net_data.specs.Reading.{Read, stop, front, met, wanted, semicolon, set, param, some_statement, statement, statement_by, with_statement, statements, statements_by, single, single_by, finished, finished_by, tables, ◌>>=◌}
 use Rattle.net_data.specs.Tests.{is_word}
 use Rattle.net_data.proofs.Lookahead.{never, err_is, place_is, StopsAt, Stops, Local, bind_stops, bind_local, same_local, pure_local}

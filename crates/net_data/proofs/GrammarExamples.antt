@@ -5,7 +5,7 @@ use Rattle.net_lex.specs.declared.token.Token.{Token}
 use Rattle.net_lex.specs.Productions.{token, literal}
 use Rattle.net_data.specs.declared.parse_error.ParseError.{ParseError}
 use Rattle.net_data.specs.declared.statement.Statement.TheVariants as kinds
-use Rattle.net_data.specs.declared.tables.Tables.{Tables}
+use Rattle.net_data.specs.declared.statement.Tables.{Tables}
 use Rattle.net_data.specs.Grammar as grammar
 use Rattle.net_data.specs.Grammar.{many}
 use Rattle.net_data.specs.Reading.{tables, met, wanted, run, items, items_from, set, heading, cells, check_rows, table, body, default, named, param, statement, statements, single, ◌>>=◌}

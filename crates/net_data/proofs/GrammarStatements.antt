@@ -4,7 +4,7 @@ use Rattle.std.proofs.lemmas.Bool.{eqb-true}
 use Rattle.std.specs.List.{AllByRecursion, list_all}
 use Rattle.std.specs.Str.{bytes_eq}
 use Rattle.net_lex.specs.declared.token.Token.{Token}
-use Rattle.net_fault.specs.declared.error_code.ErrorCode.TheVariants.{RowWidth}
+use Rattle.net_base.specs.declared.error_code.ErrorCode.TheVariants.{RowWidth}
 use Rattle.net_data.specs.declared.parse_error.ParseError.{ParseError}
 use Rattle.net_data.specs.declared.statement.DefaultValue.{DefaultValue}
 use Rattle.net_data.specs.declared.statement.Given.{Given}
@@ -12,7 +12,7 @@ use Rattle.net_data.specs.declared.statement.Transposed.{Transposed}
 use Rattle.net_data.specs.declared.statement.NamedSet.{NamedSet}
 use Rattle.net_data.specs.declared.statement.Statement.{Statement}
 use Rattle.net_data.specs.declared.statement.Statement.TheVariants.{Set, List as Listed, Table, Columns}
-use Rattle.net_data.specs.declared.tables.Single.{Single}
+use Rattle.net_data.specs.declared.statement.Single.{Single}
 use Rattle.net_data.specs.Commas.{Place, before, elsewhere}
 use Rattle.net_data.specs.Tests.{is_name, is_member, is_cell, is_word, is_mark}
 use Rattle.net_data.specs.Printing.{put, put_default, put_given, put_transposed, put_set, put_all, put_single}

@@ -7,7 +7,7 @@ use Rattle.net_data.specs.Commas.{in_set, bare}
 use Rattle.net_data.specs.Spots.{outside}
 use Rattle.net_lex.specs.declared.token.Token.{Token}
 use Rattle.net_data.specs.declared.spot.Spot.{Spot}
-use Rattle.net_fault.specs.declared.error_code.ErrorCode.TheVariants.{DataSyntax}
+use Rattle.net_base.specs.declared.error_code.ErrorCode.TheVariants.{DataSyntax}
 use Rattle.net_data.specs.Spots.{spot_after, rests}
 use Rattle.net_data.specs.Reading.{Read, stop, with_token, items_from, items}
 use Rattle.net_data.specs.declared.parse_error.ParseError.{ParseError}

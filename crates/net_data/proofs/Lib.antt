@@ -26,7 +26,6 @@ pub mod RunsAhead
 pub mod StatementsAhead
 pub mod GoingOn
 pub mod Examples
-pub mod CellLemmas
 pub mod ItemLemmas
 pub mod GroupLemmas
 pub mod Mending

@@ -3,11 +3,11 @@ use Rattle.std.proofs.Common.{◌≡◌, ℕ, Bool, true, false, ◌&&◌, List,
 use Rattle.std.specs.Prelude.{if◌then◌else◌}
 use Rattle.std.specs.List.{list_all}
 use Rattle.std.proofs.lemmas.Bool.{and_from}
-use Rattle.net_fault.specs.declared.span.Span.{Span}
+use Rattle.net_base.specs.declared.diagnostic.Span.{Span}
 use Rattle.net_lex.specs.declared.token.Token.{Token}
 use Rattle.net_lex.specs.declared.token.Kind.{Kind}
 use Rattle.net_lex.specs.declared.token.Kind.TheVariants as tokens_of
-use Rattle.net_fault.specs.declared.error_code.ErrorCode.TheVariants.{DataSyntax}
+use Rattle.net_base.specs.declared.error_code.ErrorCode.TheVariants.{DataSyntax}
 use Rattle.net_data.specs.declared.spot.Spot.{Spot}
 use Rattle.net_data.specs.declared.spot.Spot.TheVariants.{Outside, Opened, First, Parted, Later}
 use Rattle.net_data.specs.declared.parse_error.ParseError.{ParseError}

@@ -2,7 +2,7 @@
 use Rattle.std.proofs.Common.{◌≡◌, Bool, true, List, [], ◌∷◌, ◌++◌, Option, Some, IfSome, Result, Ok, Err, refl, ap, sym, ◌∙◌, codes}
 use Rattle.std.specs.List.{list_all}
 use Rattle.net_lex.specs.declared.token.Token.{Token}
-use Rattle.net_fault.specs.declared.error_code.ErrorCode.TheVariants.{DataSyntax, TableWidth}
+use Rattle.net_base.specs.declared.error_code.ErrorCode.TheVariants.{DataSyntax, TableWidth}
 use Rattle.net_data.specs.declared.statement.DefaultValue.{DefaultValue}
 use Rattle.net_data.specs.declared.statement.Transposed.{Transposed}
 use Rattle.net_data.specs.declared.statement.Statement.{Statement}

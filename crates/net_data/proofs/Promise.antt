@@ -1,18 +1,18 @@
 -- What parse_data promises, from what is read.
 use Rattle.std.proofs.Common.{◌≡◌, ℕ, List, [], ◌∷◌, Some, IfOk, Result, Ok, Err, refl, ap, sym, ◌∙◌, subst}
-use Rattle.net_fault.specs.declared.span.Span.{Span}
+use Rattle.net_base.specs.declared.diagnostic.Span.{Span}
 use Rattle.net_lex.specs.declared.token.Token.{Token}
-use Rattle.net_fault.specs.declared.error_code.ErrorCode.{ErrorCode}
-use Rattle.net_fault.specs.declared.error_code.ErrorCode.TheVariants.{DataSyntax, TableWidth}
-use Rattle.net_fault.specs.declared.fault.Fault.{Fault}
-use Rattle.net_fault.specs.declared.fault.Fault.TheVariants.{At}
-use Rattle.net_fault.specs.declared.diagnostic.Diagnostic.{Diagnostic}
-use Rattle.net_fault.specs.declared.language.Language.TheVariants.{Data}
-use Rattle.net_fault.specs.Outcomes as outcomes
+use Rattle.net_base.specs.declared.error_code.ErrorCode.{ErrorCode}
+use Rattle.net_base.specs.declared.error_code.ErrorCode.TheVariants.{DataSyntax, TableWidth}
+use Rattle.net_base.specs.declared.fault.Fault.{Fault}
+use Rattle.net_base.specs.declared.fault.Fault.TheVariants.{At}
+use Rattle.net_base.specs.declared.diagnostic.Diagnostic.{Diagnostic}
+use Rattle.net_base.specs.declared.diagnostic.Language.TheVariants.{Data}
+use Rattle.net_base.specs.Outcomes as outcomes
 use Rattle.net_data.specs.declared.parse_error.ParseError.{ParseError}
 use Rattle.net_data.specs.declared.statement.Statement.{Statement}
 use Rattle.net_data.specs.declared.statement.Statement.TheVariants as kinds
-use Rattle.net_data.specs.declared.tables.Tables.{Tables}
+use Rattle.net_data.specs.declared.statement.Tables.{Tables}
 use Rattle.net_data.specs.Meaning.{Mean, judged, all_judged, heading_judged, and_then, unless_faulty, checked}
 use Rattle.net_data.specs.Reading.{tables, check_rows, stop, span_or_end, fault_of, Answers, ◌>>=◌}
 use Rattle.net_data.proofs.TablesMean.{tables-sound, tables-complete}

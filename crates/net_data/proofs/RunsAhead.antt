@@ -1,9 +1,9 @@
 -- Runs of tokens and the items of a set depend on the next token behind them, and on no other.
 use Rattle.std.proofs.Common.{◌≡◌, Bool, true, false, List, [], ◌∷◌, ◌++◌, Option, Some, None, Ok, Err, refl, ap, sym, ◌∙◌, subst, codes}
 use Rattle.std.specs.Prelude.{◌||◌, if◌then◌else◌}
-use Rattle.net_fault.specs.declared.span.Span.{Span}
+use Rattle.net_base.specs.declared.diagnostic.Span.{Span}
 use Rattle.net_lex.specs.declared.token.Token.{Token}
-use Rattle.net_fault.specs.declared.error_code.ErrorCode.TheVariants.{DataSyntax}
+use Rattle.net_base.specs.declared.error_code.ErrorCode.TheVariants.{DataSyntax}
 use Rattle.net_data.specs.declared.spot.Spot.{Spot}
 use Rattle.net_data.specs.declared.spot.Spot.TheVariants.{Outside, Opened, First as FirstMember, Parted, Later}
 use Rattle.net_data.specs.declared.parse_error.ParseError.{ParseError}

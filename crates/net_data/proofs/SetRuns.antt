@@ -8,7 +8,7 @@ use Rattle.net_data.specs.Tests.{is_member, is_mark, is_comma}
 use Rattle.net_data.specs.Commas.{Place, in_set, in_tuple, place_after, skips, bare}
 use Rattle.net_data.specs.Spots.{spot_after, rests}
 use Rattle.net_data.specs.declared.parse_error.ParseError.{ParseError}
-use Rattle.net_fault.specs.declared.error_code.ErrorCode.TheVariants.{DataSyntax}
+use Rattle.net_base.specs.declared.error_code.ErrorCode.TheVariants.{DataSyntax}
 use Rattle.std.specs.Prelude.{if◌then◌else◌}
 use Rattle.net_data.specs.Reading.{stop, Read, items_from, items, items_of, with_token, items_after, semicolon, ◌>>=◌}
 use Rattle.net_data.specs.Meaning.{AreItems, IsTupleRest}

@@ -3,10 +3,10 @@
 use Rattle.std.specs.Prelude.{◌≡◌, ℕ, ◌-◌, Bool, true, false, ◌&&◌, List, [], ◌∷◌, ◌++◌, length, slice_get, if◌then◌else◌, Option, None, Some, Err, ⊤}
 use Rattle.std.specs.List.{AllByRecursion}
 use Rattle.std.proofs.Common.{refl, subst, arith}
-use Rattle.net_fault.specs.declared.span.Span.{Span}
-use Rattle.net_fault.specs.declared.error_code.ErrorCode.{ErrorCode}
-use Rattle.net_fault.specs.declared.error_code.ErrorCode.TheVariants.{DataSyntax}
-use Rattle.net_fault.specs.declared.fault.Fault.TheVariants.{At}
+use Rattle.net_base.specs.declared.diagnostic.Span.{Span}
+use Rattle.net_base.specs.declared.error_code.ErrorCode.{ErrorCode}
+use Rattle.net_base.specs.declared.error_code.ErrorCode.TheVariants.{DataSyntax}
+use Rattle.net_base.specs.declared.fault.Fault.TheVariants.{At}
 use Rattle.net_lex.specs.declared.token.Token.{Token}
 use Rattle.net_data.specs.declared.statement.DefaultValue.{DefaultValue}
 use Rattle.net_data.specs.declared.statement.Given.{Given}
@@ -15,8 +15,8 @@ use Rattle.net_data.specs.declared.statement.Transposed.{Transposed}
 use Rattle.net_data.specs.declared.statement.Statement.{Statement}
 use Rattle.net_data.specs.declared.statement.Statement.TheVariants.{Set, List as Listed, Table, Columns}
 use Rattle.net_data.specs.declared.parse_error.ParseError.{ParseError}
-use Rattle.net_data.specs.declared.tables.Single.{Single}
-use Rattle.net_data.specs.declared.tables.Tables.{Tables}
+use Rattle.net_data.specs.declared.statement.Single.{Single}
+use Rattle.net_data.specs.declared.statement.Tables.{Tables}
 use Rattle.net_data.specs.Commas.{Place, before, place_after, skips, bare}
 use Rattle.net_data.specs.Tests.{is_comma}
 use Rattle.net_data.specs.Meaning.{Mean}
@@ -25,8 +25,8 @@ use Rattle.net_data.specs.Reading.{tables, end_at, end_of, span_or_end, fault_of
 use Rattle.net_data.specs.GoingOn.{BeginsBefore, EndsAt, IsWrong, at_token, at_end}
 use Rattle.net_data.specs.Rejections.{IsErrorCodeAt}
 use Rattle.net_data.proofs.FirstWrong.{answer_rejected}
-use Rattle.net_fault.specs.Places.{IsSpanIn}
-use Rattle.net_fault.proofs.Elements.{OfSome, all_left, all_right, all_get}
+use Rattle.net_base.specs.Places.{IsSpanIn}
+use Rattle.net_base.proofs.Elements.{OfSome, all_left, all_right, all_get}
 use Rattle.net_lex.proofs.Rising.{Rise, rise_ends}
 use Rattle.net_data.specs.Standing.{DefaultToken, GivenTokens, NamedSetToken, AllTokens, SpanOf, TokensHaveSpans, StatementsHaveSpans}
 

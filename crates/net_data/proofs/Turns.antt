@@ -4,9 +4,9 @@ use Rattle.std.proofs.lemmas.List.{append-nil}
 use Rattle.net_lex.specs.declared.token.Token.{Token}
 use Rattle.net_data.specs.declared.statement.Statement.{Statement}
 use Rattle.net_data.specs.declared.parse_error.ParseError.{ParseError}
-use Rattle.net_fault.specs.declared.fault.Fault.{Fault}
-use Rattle.net_data.specs.declared.statement_stop.StatementStop.{StatementStop}
-use Rattle.net_data.specs.declared.statement_stop.StatementStop.TheVariants as statement_stops
+use Rattle.net_base.specs.declared.fault.Fault.{Fault}
+use Rattle.net_data.specs.declared.parse_error.StatementStop.{StatementStop}
+use Rattle.net_data.specs.declared.parse_error.StatementStop.TheVariants as statement_stops
 use Rattle.net_data.specs.Reading.{Read, statement, statements, with_statement, fault_of, statement_fault, Stops, Fails}
 
 -- these statements, and then what is read

@@ -1,10 +1,10 @@
 -- A table that does not fill its rows, or a heading without a column, is told whatever comes behind.
 use Rattle.std.proofs.Common.{◌≡◌, ℕ, zero, suc, ◌≤◌, ◌<◌, Bool, true, false, cond, ◌&&◌, List, [], ◌∷◌, ◌++◌, length, Option, Some, None, IfSome, Result, Ok, Err, refl, ap, sym, ◌∙◌, codes, arith, append_assoc, inl, inr}
 use Rattle.std.specs.List.{AllByRecursion}
-use Rattle.net_fault.specs.declared.span.Span.{Span}
+use Rattle.net_base.specs.declared.diagnostic.Span.{Span}
 use Rattle.net_lex.specs.declared.token.Token.{Token}
-use Rattle.net_fault.specs.declared.error_code.ErrorCode.{ErrorCode}
-use Rattle.net_fault.specs.declared.error_code.ErrorCode.TheVariants.{DataSyntax, RowWidth, TableWidth}
+use Rattle.net_base.specs.declared.error_code.ErrorCode.{ErrorCode}
+use Rattle.net_base.specs.declared.error_code.ErrorCode.TheVariants.{DataSyntax, RowWidth, TableWidth}
 use Rattle.net_data.specs.declared.statement.DefaultValue.{DefaultValue}
 use Rattle.net_data.specs.declared.statement.Given.{Given}
 use Rattle.net_data.specs.declared.statement.NamedSet.{NamedSet}
@@ -14,7 +14,7 @@ use Rattle.net_data.specs.declared.statement.ColumnsStatement.{ColumnsStatement}
 use Rattle.net_data.specs.declared.statement.Statement.{Statement}
 use Rattle.net_data.specs.declared.statement.Statement.TheVariants as kinds
 use Rattle.net_data.specs.declared.parse_error.ParseError.{ParseError}
-use Rattle.net_data.specs.declared.tables.Single.{Single}
+use Rattle.net_data.specs.declared.statement.Single.{Single}
 use Rattle.net_data.specs.Commas.{Place, before, elsewhere, place_after, skips, bare}
 use Rattle.net_data.specs.Meaning.{IsTransposed, IsTableHeading, IsColumnsHeading, IsStatement, judged, all_judged, and_then}
 use Rattle.net_data.specs.Printing.{put, put_default, put_given, put_transposed, put_set, put_table_heading, put_columns_heading, put_all, put_single}

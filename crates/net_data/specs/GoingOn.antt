@@ -1,10 +1,10 @@
 -- If parsing stops at a token, the tokens before it begin valid statements, and no valid statements
 -- continue with that token.
 use Rattle.std.specs.Prelude.{◌≡◌, List, ◌∷◌, ◌++◌, Some, None, Err}
-use Rattle.net_fault.specs.declared.span.Span.{Span}
+use Rattle.net_base.specs.declared.diagnostic.Span.{Span}
 use Rattle.net_lex.specs.declared.token.Token.{Token}
-use Rattle.net_fault.specs.declared.error_code.ErrorCode.TheVariants.{DataSyntax}
-use Rattle.net_data.specs.declared.tables.Tables.{Tables}
+use Rattle.net_base.specs.declared.error_code.ErrorCode.TheVariants.{DataSyntax}
+use Rattle.net_data.specs.declared.statement.Tables.{Tables}
 use Rattle.net_data.specs.Meaning.{Mean}
 use Rattle.net_data.specs.Reading.{stop, end_of, span_or_end, tables}
 

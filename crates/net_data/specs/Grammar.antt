@@ -11,8 +11,8 @@ use Rattle.net_data.specs.declared.statement.Transposed.{Transposed}
 use Rattle.net_data.specs.declared.statement.NamedSet.{NamedSet}
 use Rattle.net_data.specs.declared.statement.Statement.{Statement}
 use Rattle.net_data.specs.declared.statement.Statement.TheVariants.{Set, List as Listed, Table, Columns}
-use Rattle.net_data.specs.declared.tables.Single.{Single}
-use Rattle.net_data.specs.declared.tables.Tables.{Tables}
+use Rattle.net_data.specs.declared.statement.Single.{Single}
+use Rattle.net_data.specs.declared.statement.Tables.{Tables}
 
 abbrev pub Production : Type 1
 Production = List Token → List Token → Type 0

@@ -1,7 +1,7 @@
 -- The grammar of data files derives what `Mean` accepts, and nothing else.
 use Rattle.std.specs.Prelude.{◌≡◌, List, Ok}
 use Rattle.net_lex.specs.declared.token.Token.{Token}
-use Rattle.net_data.specs.declared.tables.Tables.{Tables}
+use Rattle.net_data.specs.declared.statement.Tables.{Tables}
 use Rattle.net_data.specs.Meaning.{Mean, all_judged}
 use Rattle.net_data.specs.Grammar.{IsDataFile}
 

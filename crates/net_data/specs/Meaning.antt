@@ -3,7 +3,7 @@
 use Rattle.std.specs.Prelude.{◌≡◌, ℕ, true, List, [], ◌∷◌, Some, IfSome, Result, Ok, Err, codes}
 use Rattle.std.specs.List.{list_all, AllByRecursion}
 use Rattle.net_lex.specs.declared.token.Token.{Token}
-use Rattle.net_fault.specs.declared.error_code.ErrorCode.TheVariants.{TableWidth}
+use Rattle.net_base.specs.declared.error_code.ErrorCode.TheVariants.{TableWidth}
 use Rattle.net_data.specs.declared.parse_error.ParseError.{ParseError}
 use Rattle.net_data.specs.declared.statement.SetStatement.{SetStatement}
 use Rattle.net_data.specs.declared.statement.DefaultValue.{DefaultValue}
@@ -15,8 +15,8 @@ use Rattle.net_data.specs.declared.statement.NamedSet.{NamedSet}
 use Rattle.net_data.specs.declared.statement.ColumnsStatement.{ColumnsStatement}
 use Rattle.net_data.specs.declared.statement.Statement.{Statement}
 use Rattle.net_data.specs.declared.statement.Statement.TheVariants.{Set, List as Listed, Table, Columns}
-use Rattle.net_data.specs.declared.tables.Single.{Single}
-use Rattle.net_data.specs.declared.tables.Tables.{Tables}
+use Rattle.net_data.specs.declared.statement.Single.{Single}
+use Rattle.net_data.specs.declared.statement.Tables.{Tables}
 use Rattle.net_data.specs.Tests.{is_name, is_member, is_cell, is_word, is_mark, is_comma}
 use Rattle.net_data.specs.Commas.{before, bare}
 use Rattle.net_data.specs.Printing.{print}

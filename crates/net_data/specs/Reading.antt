@@ -3,25 +3,25 @@ use Rattle.std.specs.Prelude.{◌≡◌, slice_get, ◌-◌, ℕ, suc, zero, ◌
 use Rattle.std.specs.List.{prefix_len}
 use Rattle.std.specs.Borrow.{Bor}
 use Rattle.std.specs.Option.{option_map}
-use Rattle.net_fault.specs.declared.span.Span.{Span}
+use Rattle.net_base.specs.declared.diagnostic.Span.{Span}
 use Rattle.net_lex.specs.declared.token.Token.{Token}
-use Rattle.net_fault.specs.declared.error_code.ErrorCode.{ErrorCode}
-use Rattle.net_fault.specs.declared.error_code.ErrorCode.TheVariants.{DataSyntax, RowWidth, TableWidth}
-use Rattle.net_fault.specs.declared.fault.Fault.{Fault}
-use Rattle.net_fault.specs.declared.language.Language.TheVariants.{Data}
-use Rattle.net_fault.specs.Outcomes as outcomes
-use Rattle.net_fault.specs.declared.fault.Fault.TheVariants.{OutOfMemory, At}
+use Rattle.net_base.specs.declared.error_code.ErrorCode.{ErrorCode}
+use Rattle.net_base.specs.declared.error_code.ErrorCode.TheVariants.{DataSyntax, RowWidth, TableWidth}
+use Rattle.net_base.specs.declared.fault.Fault.{Fault}
+use Rattle.net_base.specs.declared.diagnostic.Language.TheVariants.{Data}
+use Rattle.net_base.specs.Outcomes as outcomes
+use Rattle.net_base.specs.declared.fault.Fault.TheVariants.{OutOfMemory, At}
 use Rattle.net_data.specs.declared.parse_error.ParseError.{ParseError}
-use Rattle.net_data.specs.declared.statement_stop.StatementStop.{StatementStop}
-use Rattle.net_data.specs.declared.statement_stop.StatementStop.TheVariants as statement_stops
+use Rattle.net_data.specs.declared.parse_error.StatementStop.{StatementStop}
+use Rattle.net_data.specs.declared.parse_error.StatementStop.TheVariants as statement_stops
 use Rattle.net_data.specs.declared.statement.DefaultValue.{DefaultValue}
 use Rattle.net_data.specs.declared.statement.Given.{Given}
 use Rattle.net_data.specs.declared.statement.Transposed.{Transposed}
 use Rattle.net_data.specs.declared.statement.NamedSet.{NamedSet}
 use Rattle.net_data.specs.declared.statement.Statement.{Statement}
 use Rattle.net_data.specs.declared.statement.Statement.TheVariants as kinds
-use Rattle.net_data.specs.declared.tables.Single.{Single}
-use Rattle.net_data.specs.declared.tables.Tables.{Tables}
+use Rattle.net_data.specs.declared.statement.Single.{Single}
+use Rattle.net_data.specs.declared.statement.Tables.{Tables}
 use Rattle.net_data.specs.Tests.{is_name, is_member, is_cell, is_word, is_mark, is_comma}
 use Rattle.net_data.specs.Commas.{in_set, bare, uncommaed}
 use Rattle.net_data.specs.declared.spot.Spot.{Spot}
@@ -248,11 +248,15 @@ given_by tokens (Some assign) = (Some (record { assign = assign.0; cells = (run 
 unfoldable pub given : List Token → Option Given × List Token
 given tokens = given_by tokens (met assign tokens)
 
+-- a list from its parts
+abbrev pub listed : Token → Token → Option DefaultValue → Option Given → Token → List Token → Read Statement
+listed keyword name default given end tokens = Ok (kinds.List (record { keyword = keyword; name = name; default = default; given = given; end = end }), tokens)
+
 -- a list of cells, if present
 unfoldable pub list : Token → Token → Option DefaultValue → List Token → Read Statement
 list keyword name default tokens = do
   end ← wanted semicolon (given tokens).1
-  Ok (kinds.List (record { keyword = keyword; name = name; default = default; given = (given tokens).0; end = end.0 }), end.1)
+  listed keyword name default (given tokens).0 end.0 end.1
 
 abbrev pub body_by : Token → Token → Option DefaultValue → List Token → Option (Token × List Token) → Option (Token × List Token) → Read Statement
 body_by keyword name default tokens (Some opening) colon = turned keyword name default opening.0 opening.1

@@ -1,19 +1,19 @@
 -- Which errors some tokens have.
 use Rattle.std.specs.Prelude.{◌≡◌, false, List, [], Option, Some, IfSome, Ok, codes}
 use Rattle.std.specs.List.{AllByRecursion}
-use Rattle.net_fault.specs.declared.span.Span.{Span}
+use Rattle.net_base.specs.declared.diagnostic.Span.{Span}
 use Rattle.net_lex.specs.declared.token.Token.{Token}
-use Rattle.net_fault.specs.declared.error_code.ErrorCode.{ErrorCode}
-use Rattle.net_fault.specs.declared.error_code.ErrorCode.TheVariants.{DataSyntax, RowWidth, TableWidth}
-use Rattle.net_fault.specs.declared.fault.Fault.{Fault}
-use Rattle.net_fault.specs.declared.language.Language.TheVariants.{Data}
-use Rattle.net_fault.specs.Outcomes as outcomes
-use Rattle.net_fault.specs.declared.fault.Fault.TheVariants.{OutOfMemory, At}
+use Rattle.net_base.specs.declared.error_code.ErrorCode.{ErrorCode}
+use Rattle.net_base.specs.declared.error_code.ErrorCode.TheVariants.{DataSyntax, RowWidth, TableWidth}
+use Rattle.net_base.specs.declared.fault.Fault.{Fault}
+use Rattle.net_base.specs.declared.diagnostic.Language.TheVariants.{Data}
+use Rattle.net_base.specs.Outcomes as outcomes
+use Rattle.net_base.specs.declared.fault.Fault.TheVariants.{OutOfMemory, At}
 use Rattle.net_data.specs.declared.statement.TableStatement.{TableStatement}
 use Rattle.net_data.specs.declared.statement.ColumnsStatement.{ColumnsStatement}
 use Rattle.net_data.specs.declared.statement.Statement.{Statement}
 use Rattle.net_data.specs.declared.statement.Statement.TheVariants.{Table}
-use Rattle.net_data.specs.declared.tables.Single.{Single}
+use Rattle.net_data.specs.declared.statement.Single.{Single}
 use Rattle.net_data.specs.Commas.{before, bare}
 use Rattle.net_data.specs.GoingOn.{BeginsBefore, IsWrong}
 use Rattle.net_data.specs.Printing.{put, put_table_heading, put_columns_heading, put_all, put_single}

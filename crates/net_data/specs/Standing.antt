@@ -1,7 +1,7 @@
 -- Statements all of whose tokens, or all of whose spans, satisfy a predicate P.
 use Rattle.std.specs.Prelude.{List, Option, None, Some, ⊤}
 use Rattle.std.specs.List.{AllByRecursion}
-use Rattle.net_fault.specs.declared.span.Span.{Span}
+use Rattle.net_base.specs.declared.diagnostic.Span.{Span}
 use Rattle.net_lex.specs.declared.token.Token.{Token}
 use Rattle.net_data.specs.declared.statement.DefaultValue.{DefaultValue}
 use Rattle.net_data.specs.declared.statement.Given.{Given}

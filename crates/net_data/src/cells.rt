@@ -1,14 +1,13 @@
 //! The tokens of a row or table of data, without the commas among them.
 
-ghost use Rattle.std.specs.Prelude.{◌≡◌, ◌+◌, ◌<◌, ◌≤◌, ◌^◌, length, take, drop, slice_get};
-ghost use Rattle.std.specs.Option.{option_copied};
+ghost use Rattle.std.specs.Prelude.{◌≡◌, ◌+◌, ◌<◌, ◌^◌, ◌++◌, length, IfOk, OnOk};
 ghost use Rattle.net_data.specs.Reading.{last_span};
 ghost use Rattle.net_data.specs.Commas.{uncommaed};
 
-use crate::cursor::front;
-use crate::test::is_comma;
-use net_fault::Span;
+use crate::expected::is_comma;
+use net_base::{Items, Span};
 use net_lex::Token;
+use std::alloc::{AllocError, Global};
 use std::marker::Model;
 
 /// Consecutive tokens with commas anywhere among them; contracts see the tokens without the commas.
@@ -42,43 +41,42 @@ impl<'t, 's> Cells<'t, 's> {
         cell_count(self.tokens)
     }
 
-    /// Returns the first cell.
-    pub fn first(&self) -> Option<&'t Token<'s>>
-        ensures { option_copied result ≡ slice_get self.now 0 }
-    {
-        first_cell(self.tokens)
-    }
-
-    /// Splits after the first `count` cells; copies no tokens.
-    pub fn split_at(&self, count: usize) -> (Cells<'t, 's>, Cells<'t, 's>)
-        ensures front { result.0 ≡ take count self.now }
-        ensures back { result.1 ≡ drop count self.now }
-    {
-        split_cells(self.tokens, count)
-    }
-
-    /// Returns the cells after the first `count`; copies no tokens.
-    pub fn behind(&self, count: usize) -> Cells<'t, 's>
-        ensures { result ≡ drop count self.now }
-    {
-        cells_after(self.tokens, count)
-    }
-
-    /// Returns a copy of the slice reference; copies no tokens.
-    pub fn copied(&self) -> Cells<'t, 's>
-        ensures { result ≡ self.now }
-    {
-        Cells {
-            tokens: self.tokens,
-        }
-    }
-
     /// Returns the span of the last cell.
-    pub fn last_span(&self) -> Option<Span>
+    pub(crate) fn last_span(&self) -> Option<Span>
         ensures { result ≡ last_span self.now }
     {
         last_span(self.tokens)
     }
+
+    /// Appends the cells to a list. Fails only if memory runs out.
+    pub fn push_to(&self, words: &mut Vec<Word<'t, 's>>) -> Result<(), AllocError>
+        ensures { OnOk result (words.new.items ≡ words.old.items ++ self.now) }
+    {
+        push_cells(self.tokens, words)
+    }
+
+    /// Returns the list of the cells. Fails only if memory runs out.
+    pub(crate) fn words(&self, alloc: Global) -> Result<Items<Word<'t, 's>>, AllocError>
+        ensures { IfOk result (λ all. all ≡ self.now) }
+    {
+        let mut words = Vec::with_capacity(alloc, self.len())?;
+        self.push_to(&mut words)?;
+        Ok(Items::new(words))
+    }
+}
+
+fn push_cells<'t, 's>(
+    tokens: &'t [Token<'s>],
+    words: &mut Vec<Word<'t, 's>>,
+) -> Result<(), AllocError>
+    ensures { OnOk result (words.new.items ≡ words.old.items ++ uncommaed tokens.entry.now) }
+{
+    'tokens: for token in tokens {
+        if !is_comma(token) {
+            words.push(Word::new(token))?;
+        }
+    }
+    Ok(())
 }
 
 fn cell_count(tokens: &[Token<'_>]) -> usize
@@ -100,45 +98,38 @@ fn last_span(tokens: &[Token<'_>]) -> Option<Span>
     found
 }
 
-fn first_cell<'t, 's>(tokens: &'t [Token<'s>]) -> Option<&'t Token<'s>>
-    ensures { option_copied result ≡ slice_get (uncommaed tokens.entry.now) 0 }
-{
-    match front(tokens) {
-        None => None,
-        Some((token, _)) => Some(token),
+/// A token of a data file, which contracts see as that token.
+#[derive(Drop)]
+pub struct Word<'t, 's> {
+    token: &'t Token<'s>,
+}
+
+impl<'t, 's> Model for Word<'t, 's> {
+    ghost use Rattle.net_lex.specs.declared.token.Token.{Token};
+
+    ghost Value = { Token };
+
+    ghost view = { λ word. word.token.now };
+}
+
+impl<'t, 's> Word<'t, 's> {
+    pub(crate) fn new(token: &'t Token<'s>) -> Word<'t, 's>
+        ensures { result ≡ token.now }
+    {
+        Word { token }
     }
-}
 
-/// Returns the number of tokens in the first `count` cells, including the commas among and after
-/// them.
-fn cells_len(tokens: &[Token<'_>], count: usize) -> usize
-    ensures front { uncommaed (take result tokens.now) ≡ take count (uncommaed tokens.now) }
-    ensures back { uncommaed (drop result tokens.now) ≡ drop count (uncommaed tokens.now) }
-    ensures within { result ≤ length tokens.now }
-{
-    let mut left = count;
-    'tokens: for (at, token) in tokens.iter().enumerate() {
-        if !is_comma(token) {
-            if left == 0 {
-                return at;
-            }
-            left -= 1;
-        }
+    /// Returns the token, with its span in the text.
+    pub fn token(&self) -> &'t Token<'s>
+        ensures { result.now ≡ self.now }
+    {
+        self.token
     }
-    tokens.len()
-}
 
-fn split_cells<'t, 's>(tokens: &'t [Token<'s>], count: usize) -> (Cells<'t, 's>, Cells<'t, 's>)
-    ensures front { result.0 ≡ take count (uncommaed tokens.entry.now) }
-    ensures back { result.1 ≡ drop count (uncommaed tokens.entry.now) }
-{
-    let (front, back) = tokens.split_at(cells_len(tokens, count));
-    (Cells::new(front), Cells::new(back))
-}
-
-fn cells_after<'t, 's>(tokens: &'t [Token<'s>], count: usize) -> Cells<'t, 's>
-    ensures { result ≡ drop count (uncommaed tokens.entry.now) }
-{
-    let (_, back) = tokens.split_at(cells_len(tokens, count));
-    Cells::new(back)
+    /// Returns a copy of the reference.
+    pub fn copied(&self) -> Word<'t, 's>
+        ensures { result ≡ self.now }
+    {
+        Word { token: self.token }
+    }
 }

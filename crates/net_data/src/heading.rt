@@ -3,13 +3,12 @@ ghost use Rattle.std.specs.Prelude.{◌≡◌, ◌<◌, ◌≤◌, ◌+◌, ◌^
 ghost use Rattle.net_data.specs.Tests.{is_of};
 ghost use Rattle.net_data.specs.Reading.{cells, heading, headed, check_rows, Reads, ReadsPair};
 
-use crate::cells::Cells;
-use crate::cursor::wanted;
+use crate::cells::{Cells, Word};
 use crate::expected::Expected;
+use crate::next_token::wanted;
 use crate::parse_error::ParseError;
 use crate::runs::run;
-use crate::word::Word;
-use net_fault::ErrorCode;
+use net_base::ErrorCode;
 use net_lex::Token;
 
 /// Cells, the punctuation after them, and the remaining tokens.

@@ -3,7 +3,7 @@
 ghost use Rattle.std.specs.Prelude.{◌≡◌, ◌<◌, ℕ, List, [], ◌∷◌, Ok, length, take, drop};
 ghost use Rattle.net_data.specs.Rows.{groups, set_rows, first_row, more_rows};
 ghost use Rattle.net_lex.specs.declared.token.Token.{Token};
-ghost use Rattle.net_data.specs.declared.tables.Tables.{Tables};
+ghost use Rattle.net_data.specs.declared.statement.Tables.{Tables};
 ghost use Rattle.net_data.specs.Meaning.{Mean, all_judged};
 ghost use Rattle.net_data.specs.GoingOn.{NoneGoOn, AllBegin};
 ghost use Rattle.net_data.specs.GrammarLaws.{IsComplete, IsSound, IsUnambiguous};
@@ -28,8 +28,7 @@ pub fn grammar_is_unambiguous()
     ensures value { IsUnambiguous }
 {}
 
-/// Theorem: the groups of cells are the first group and the groups of the cells after it, so
-/// `Cells::split_at` iterates over them.
+/// Theorem: the groups of cells are the first group and the groups of the cells after it.
 pub fn group_by_group()
     ensures none { (size : ℕ) → groups size [] ≡ [] }
     ensures next { (size : ℕ) (cells : List Token) → 0 < size → 0 < length cells → groups size cells ≡ take size cells ∷ groups size (drop size cells) }

@@ -2,11 +2,11 @@
 #![tactic(auto)]
 
 mod cells;
-mod cursor;
 mod expected;
 mod heading;
 mod laws;
 mod members;
+mod next_token;
 mod param;
 mod parse;
 mod parse_error;
@@ -15,22 +15,16 @@ mod set;
 mod spot;
 mod stated;
 mod statement;
-mod statement_stop;
-mod tables;
-mod test;
-mod word;
 
-pub use cells::Cells;
+pub use cells::{Cells, Word};
 pub use laws::{
     grammar_is_complete, grammar_is_sound, grammar_is_unambiguous, group_by_group,
     no_statements_go_on, one_meaning, set_row_by_row,
 };
 pub use members::Members;
-pub use net_fault::Fault as DataFault;
+pub use net_base::Fault as DataFault;
 pub use parse::parse_data;
 pub use statement::{
-    ColumnsStatement, DefaultValue, Given, ListStatement, NamedSet, SetStatement, Statement,
-    TableStatement, Transposed,
+    ColumnsStatement, DefaultValue, Given, ListStatement, NamedSet, SetStatement, Single,
+    Statement, TableStatement, Tables, Transposed,
 };
-pub use tables::{Single, Tables};
-pub use word::Word;

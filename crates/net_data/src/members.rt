@@ -6,8 +6,8 @@ ghost use Rattle.net_data.specs.Rows.{first_item, begins_tuple, more_items, insi
 ghost use Rattle.net_data.specs.Commas.{in_set, bare};
 
 use crate::cells::Cells;
-use crate::cursor::front;
-use crate::test::is_mark;
+use crate::expected::is_mark;
+use crate::next_token::front;
 use net_lex::Token;
 use std::marker::Model;
 

@@ -1,19 +1,17 @@
 //! `param` statements: lists, tables and columns.
 ghost use Rattle.std.specs.Prelude.{◌≡◌, ◌<◌, ◌≤◌, length, IfOk, IfSome};
-ghost use Rattle.net_data.specs.Reading.{table, turned, given, list, body, default, named, named_set, columns, param, Reads, ReadsStated};
+ghost use Rattle.net_data.specs.Reading.{table, turned, listed, list, body, default, named, named_set, columns, param, Reads, ReadsStated};
 
-use crate::cursor::{met, wanted};
+use crate::cells::Word;
 use crate::expected::Expected;
 use crate::heading::{cells, check_rows, heading};
-use crate::parse_error::ParseError;
-use crate::runs::run;
+use crate::next_token::{met, wanted};
+use crate::parse_error::{ParseError, StatementStop};
 use crate::stated::{Stated, stated};
 use crate::statement::{
     ColumnsStatement, DefaultValue, Given, ListStatement, NamedSet, Statement, TableStatement,
     Transposed,
 };
-use crate::statement_stop::StatementStop;
-use crate::word::Word;
 use net_lex::Token;
 use std::alloc::Global;
 
@@ -41,6 +39,8 @@ fn table<'t, 's>(
     let (columns, assign, rest) = heading(Expected::Member, tokens)?;
     let (cells, end, rest) = cells(rest)?;
     check_rows(&columns, &cells)?;
+    let columns = columns.words(alloc)?;
+    let cells = cells.words(alloc)?;
     let Parameter {
         keyword,
         name,
@@ -82,34 +82,17 @@ fn turned<'t, 's>(
     table(alloc, parameter, Some(transposed), colon, rest)
 }
 
-/// Parses the cells of a list, if present; also returns the remaining tokens.
-#[tactic(auto, unfolding(crate::specs::Reading::given))]
-fn given<'t, 's>(tokens: &'t [Token<'s>]) -> (Option<Given<'t, 's>>, &'t [Token<'s>])
-    ensures value { (result.0, result.1.now) ≡ given tokens.entry.now }
-    ensures within { length result.1.now ≤ length tokens.entry.now }
-{
-    match met(Expected::Assign, tokens) {
-        None => (None, tokens),
-        Some((assign, rest)) => {
-            let (cells, rest) = run(Expected::Cell, rest);
-            let assign = Word::new(assign);
-            (Some(Given { assign, cells }), rest)
-        }
-    }
-}
-
-/// Parses a list after the name and the default.
-#[tactic(auto, unfolding(crate::specs::Reading::list))]
-fn list<'t, 's>(
+/// Builds a list from its parts.
+fn listed<'t, 's>(
     alloc: Global,
     parameter: Parameter<'t, 's>,
+    given: Option<Given<'t, 's>>,
+    end: Word<'t, 's>,
     tokens: &'t [Token<'s>],
 ) -> Result<Stated<'t, 's>, StatementStop>
-    ensures value { ReadsStated (list parameter.entry.keyword parameter.entry.name parameter.entry.default tokens.entry.now) result }
-    ensures shorter { IfOk result (λ x. length x.1.now < length tokens.entry.now) }
+    ensures value { ReadsStated (listed parameter.entry.keyword parameter.entry.name parameter.entry.default given.entry end.entry tokens.entry.now) result }
+    ensures rest { IfOk result (λ x. x.1.now ≡ tokens.entry.now) }
 {
-    let (given, rest) = given(tokens);
-    let (end, rest) = wanted(Expected::Semicolon, rest)?;
     let Parameter {
         keyword,
         name,
@@ -122,7 +105,31 @@ fn list<'t, 's>(
         given,
         end,
     };
-    stated(alloc, Statement::List(statement), rest)
+    stated(alloc, Statement::List(statement), tokens)
+}
+
+/// Parses a list after the name and the default: cells, if present, up to the semicolon.
+#[tactic(auto, unfolding(crate::specs::Reading::list, crate::specs::Reading::given, crate::specs::Reading::cells))]
+fn list<'t, 's>(
+    alloc: Global,
+    parameter: Parameter<'t, 's>,
+    tokens: &'t [Token<'s>],
+) -> Result<Stated<'t, 's>, StatementStop>
+    ensures value { ReadsStated (list parameter.entry.keyword parameter.entry.name parameter.entry.default tokens.entry.now) result }
+    ensures shorter { IfOk result (λ x. length x.1.now < length tokens.entry.now) }
+{
+    match met(Expected::Assign, tokens) {
+        None => {
+            let (end, rest) = wanted(Expected::Semicolon, tokens)?;
+            listed(alloc, parameter, None, end, rest)
+        }
+        Some((assign, rest)) => {
+            let (cells, end, rest) = cells(rest)?;
+            let assign = Word::new(assign);
+            let cells = cells.words(alloc)?;
+            listed(alloc, parameter, Some(Given { assign, cells }), end, rest)
+        }
+    }
 }
 
 /// Parses a statement after the name and the default of its parameter.
@@ -215,6 +222,8 @@ fn columns<'t, 's>(
     let (set, rest) = named_set(tokens);
     let (names, assign, rest) = heading(Expected::Name, rest)?;
     let (cells, end, rest) = cells(rest)?;
+    let names = names.words(alloc)?;
+    let cells = cells.words(alloc)?;
     let statement = ColumnsStatement {
         keyword,
         colon,

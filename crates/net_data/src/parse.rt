@@ -5,21 +5,18 @@ ghost use Rattle.net_data.specs.Reading.{ReadsOn, Answers, AnswersRest};
 ghost use Rattle.net_data.specs.Tests.{is_of};
 ghost use Rattle.net_data.specs.Meaning.{Mean, all_judged, checked};
 ghost use Rattle.net_data.specs.Rejections.{IsRejection};
-ghost use Rattle.net_data.specs.declared.tables.Tables.{Tables};
+ghost use Rattle.net_data.specs.declared.statement.Tables.{Tables};
 
-use crate::cursor::{front, met, same, wanted};
+use crate::cells::Word;
 use crate::expected::Expected;
+use crate::next_token::{front, met, same, wanted};
 use crate::param::param;
-use crate::parse_error::ParseError;
+use crate::parse_error::{ParseError, StatementStop};
 use crate::set::set;
 use crate::stated::{Stated, push};
-use crate::statement::Statement;
-use crate::statement_stop::StatementStop;
-use crate::tables::{Single, Tables};
-use crate::word::Word;
-use net_fault::{ErrorCode, Fault, Span};
+use crate::statement::{Single, Statement, Tables};
+use net_base::{Boxed, ErrorCode, Fault, Items, Span};
 use net_lex::Token;
-use net_views::{Boxed, Items};
 use std::alloc::Global;
 
 /// Returns the position after the last token.

@@ -4,8 +4,7 @@ ghost use Rattle.net_data.specs.Tests.{is_of};
 ghost use Rattle.net_data.specs.Reading.{run, run_len};
 
 use crate::cells::Cells;
-use crate::expected::Expected;
-use crate::test::{is_comma, is_of};
+use crate::expected::{Expected, is_comma, is_of};
 use net_lex::Token;
 
 fn run_len(sort: Expected, tokens: &[Token<'_>]) -> usize

@@ -3,16 +3,15 @@ ghost use Rattle.std.specs.Prelude.{◌≡◌, ◌+◌, ◌<◌, ◌≤◌, leng
 ghost use Rattle.net_data.specs.Spots.{outside};
 ghost use Rattle.net_data.specs.Reading.{items, items_from, set, Reads, ReadsStated, CountsItems};
 
-use crate::cursor::wanted;
+use crate::cells::Word;
 use crate::expected::Expected;
 use crate::members::Members;
-use crate::parse_error::ParseError;
+use crate::next_token::wanted;
+use crate::parse_error::{ParseError, StatementStop};
 use crate::spot::Spot;
 use crate::stated::{Stated, stated};
 use crate::statement::{SetStatement, Statement};
-use crate::statement_stop::StatementStop;
-use crate::word::Word;
-use net_fault::ErrorCode;
+use net_base::ErrorCode;
 use net_lex::Token;
 use std::alloc::Global;
 

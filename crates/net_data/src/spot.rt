@@ -2,7 +2,7 @@
 ghost use Rattle.std.specs.Prelude.{◌≡◌};
 ghost use Rattle.net_data.specs.Spots.{spot_after, rests};
 
-use crate::test::{is_comma, is_mark, is_member};
+use crate::expected::{is_comma, is_mark, is_member};
 use net_lex::Token;
 
 /// The position of a token in the items of a set, as far as it determines which tokens can follow.

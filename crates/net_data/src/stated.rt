@@ -1,13 +1,12 @@
 //! A value in a box, and the remaining tokens.
 ghost use Rattle.std.specs.Prelude.{◌≡◌, [], ◌∷◌, ◌++◌, OnOk, IfOk, IfErr};
-ghost use Rattle.net_fault.specs.declared.fault.Fault.TheVariants.{OutOfMemory};
-ghost use Rattle.net_data.specs.declared.statement_stop.StatementStop.TheVariants as statement_stops;
+ghost use Rattle.net_base.specs.declared.fault.Fault.TheVariants.{OutOfMemory};
+ghost use Rattle.net_data.specs.declared.parse_error.StatementStop.TheVariants as statement_stops;
 
+use crate::parse_error::StatementStop;
 use crate::statement::Statement;
-use crate::statement_stop::StatementStop;
-use net_fault::Fault;
+use net_base::{Boxed, Fault};
 use net_lex::Token;
-use net_views::Boxed;
 use std::alloc::Global;
 
 /// A statement, and the remaining tokens.

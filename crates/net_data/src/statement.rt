@@ -1,7 +1,8 @@
 //! The statements, each with all its tokens except the commas outside tuples.
-use crate::cells::Cells;
+
+use crate::cells::Word;
 use crate::members::Members;
-use crate::word::Word;
+use net_base::Items;
 
 /// `set NAME := items ;`
 #[derive(Drop)]
@@ -24,7 +25,7 @@ pub struct DefaultValue<'t, 's> {
 #[derive(Drop)]
 pub struct Given<'t, 's> {
     pub assign: Word<'t, 's>,
-    pub cells: Cells<'t, 's>,
+    pub cells: Items<Word<'t, 's>>,
 }
 
 /// `param supply default 0 := PITT 450;`
@@ -53,9 +54,9 @@ pub struct TableStatement<'t, 's> {
     pub default: Option<DefaultValue<'t, 's>>,
     pub transposed: Option<Transposed<'t, 's>>,
     pub colon: Word<'t, 's>,
-    pub columns: Cells<'t, 's>,
+    pub columns: Items<Word<'t, 's>>,
     pub assign: Word<'t, 's>,
-    pub cells: Cells<'t, 's>,
+    pub cells: Items<Word<'t, 's>>,
     pub end: Word<'t, 's>,
 }
 
@@ -72,9 +73,9 @@ pub struct ColumnsStatement<'t, 's> {
     pub keyword: Word<'t, 's>,
     pub colon: Word<'t, 's>,
     pub set: Option<NamedSet<'t, 's>>,
-    pub names: Cells<'t, 's>,
+    pub names: Items<Word<'t, 's>>,
     pub assign: Word<'t, 's>,
-    pub cells: Cells<'t, 's>,
+    pub cells: Items<Word<'t, 's>>,
     pub end: Word<'t, 's>,
 }
 
@@ -89,4 +90,21 @@ pub enum Statement<'t, 's> {
     Table(TableStatement<'t, 's>),
     /// `param : cost capacity := PITT NE 25 250;`
     Columns(ColumnsStatement<'t, 's>),
+}
+
+/// `data;` or `end;`
+#[derive(Drop)]
+pub struct Single<'t, 's> {
+    pub word: Word<'t, 's>,
+    pub end: Word<'t, 's>,
+}
+
+/// The content of a data file: its statements in order.
+#[derive(Drop)]
+pub struct Tables<'t, 's> {
+    /// `data;`
+    pub opening: Option<Single<'t, 's>>,
+    pub statements: Items<Statement<'t, 's>>,
+    /// `end;`
+    pub ending: Option<Single<'t, 's>>,
 }

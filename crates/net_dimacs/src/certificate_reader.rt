@@ -10,8 +10,8 @@ ghost use Rattle.net_dimacs.specs.CertificateReading.{read_text, Gives, IfReject
 use crate::certificate_draft::{completed, with_claim};
 use crate::claim::claim_of;
 use crate::fields::split_line;
-use crate::limits::TEXT_LIMIT;
 use crate::problem_fault::{LineFault, ProblemFault};
+use crate::reading::TEXT_LIMIT;
 use net_check::Certificate;
 use net_normal::Problem;
 use std::alloc::Global;

@@ -7,7 +7,6 @@ ghost use Rattle.net_dimacs.specs.Lines.{is_feed, HasNone};
 
 use crate::OutOfMemory;
 use crate::fields::after_last_feed;
-use crate::limits::TEXT_LIMIT;
 use crate::open_line::shorten;
 use crate::problem_fault::{LineFault, ProblemFault};
 use crate::scan::Scan;
@@ -103,3 +102,6 @@ impl Reading {
         self.scan.ended(self.alloc, &self.pending)
     }
 }
+
+/// The maximum size of a problem file or a certificate file: 64 MiB.
+pub const TEXT_LIMIT: usize = 64 * 1024 * 1024;

@@ -33,6 +33,13 @@ use Rattle.net_driver.specs.Meaning.{listed_label, node_declared, arc_declared, 
 use Rattle.net_driver.specs.MeaningLaws.{CompilationsAreSound, SolutionsAreSound}
 use Rattle.net_driver.proofs.ModelMeaning.{sets_of, names_of, answers_solve, holds_moved}
 use Rattle.net_driver.proofs.ModelWorld.{is_world}
+use Rattle.net_inst.proofs.SoundProblems.{problems_represent}
+use Rattle.net_inst.proofs.SoundAssignments.{assignments_are_sound}
+use Rattle.net_inst.proofs.Feasible.{have_feasible}
+use Rattle.net_inst.proofs.Aiming.{have_objective}
+use Rattle.net_eval.proofs.SoundWorlds.{worlds_are_sound}
+use Rattle.net_model.proofs.GrammarModelsComplete.{model-complete}
+use Rattle.net_data.proofs.GrammarAgrees.{complete}
 
 -- ---- labels
 
@@ -161,3 +168,9 @@ module _ (represent : ProblemsRepresent) (worlds : WorldsAreSound) (models : mod
         holds = holds_moved wanted h.compiled.world (declarations h.compiled.declarations) _ own.0.nodes _ own.0.arcs _ own.0.objective a.outcome solved.network.is_network own.1 solved.holds;
         printed = printed a.compiled (nodes h.compiled.world h.compiled.declarations) (arcs h.compiled.world h.compiled.declarations) h.compiled.objective a.outcome h.outcome;
       }
+
+pub compilations_are_sound : CompilationsAreSound
+compilations_are_sound = compilations_sound problems_represent worlds_are_sound model-complete complete
+
+pub solutions_are_sound : SolutionsAreSound
+solutions_are_sound = solutions_sound problems_represent worlds_are_sound model-complete complete assignments_are_sound have_feasible have_objective

@@ -1,9 +1,9 @@
 -- Two texts have a network or a first error.
 use Rattle.std.specs.Prelude.{◌≡◌, ℕ, List, Option, Result, Ok, Err, ◌⊎◌}
 use Rattle.std.proofs.Common.{refl, inl, inr}
-use Rattle.net_fault.specs.declared.diagnostic.Diagnostic.{Diagnostic}
-use Rattle.net_fault.specs.declared.language.Language.TheVariants as languages
-use Rattle.net_fault.specs.Outcomes.{Outcome, bare}
+use Rattle.net_base.specs.declared.diagnostic.Diagnostic.{Diagnostic}
+use Rattle.net_base.specs.declared.diagnostic.Language.TheVariants as languages
+use Rattle.net_base.specs.Outcomes.{Outcome, bare}
 use Rattle.net_lex.specs.declared.token.Token.{Token}
 use Rattle.net_lex.specs.Lexing.{AreTokensOf}
 use Rattle.net_tree.specs.Tree.{Declaration}
@@ -11,7 +11,7 @@ use Rattle.net_model.specs.Models.{Decided, model, rejected}
 use Rattle.net_model.proofs.Deciding as parser
 use Rattle.net_model.proofs.NamedModels.{meant_well_named}
 use Rattle.net_data.specs.declared.parse_error.ParseError.{ParseError as DataStop}
-use Rattle.net_data.specs.declared.tables.Tables.{Tables}
+use Rattle.net_data.specs.declared.statement.Tables.{Tables}
 use Rattle.net_data.specs.Reading as data_reading
 use Rattle.net_data.proofs.TablesMean.{tables-sound}
 use Rattle.net_eval.specs.Binding as binding

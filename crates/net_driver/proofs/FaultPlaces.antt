@@ -1,21 +1,21 @@
 -- The first fault of two texts lies in its text.
 use Rattle.std.specs.Prelude.{◌≡◌, ℕ, List, length, Option, Result, Ok, Err}
 use Rattle.std.proofs.Common.{refl, sym, subst}
-use Rattle.net_fault.specs.declared.detail.Detail.TheVariants.{Nothing}
-use Rattle.net_fault.specs.declared.diagnostic.Diagnostic.{Diagnostic}
-use Rattle.net_fault.specs.declared.fault.Fault.{Fault}
-use Rattle.net_fault.specs.declared.fault.Fault.TheVariants.{OutOfMemory, At}
-use Rattle.net_fault.specs.declared.language.Language.{Language}
-use Rattle.net_fault.specs.declared.language.Language.TheVariants.{Model, Data}
-use Rattle.net_fault.specs.declared.span.Span.{Span}
-use Rattle.net_fault.specs.Outcomes.{Outcome}
-use Rattle.net_fault.specs.Places.{IsSpanIn, IsInFiles, Places, Finds}
+use Rattle.net_base.specs.declared.diagnostic.Detail.TheVariants.{Nothing}
+use Rattle.net_base.specs.declared.diagnostic.Diagnostic.{Diagnostic}
+use Rattle.net_base.specs.declared.fault.Fault.{Fault}
+use Rattle.net_base.specs.declared.fault.Fault.TheVariants.{OutOfMemory, At}
+use Rattle.net_base.specs.declared.diagnostic.Language.{Language}
+use Rattle.net_base.specs.declared.diagnostic.Language.TheVariants.{Model, Data}
+use Rattle.net_base.specs.declared.diagnostic.Span.{Span}
+use Rattle.net_base.specs.Outcomes.{Outcome}
+use Rattle.net_base.specs.Places.{IsSpanIn, IsInFiles, Places, Finds}
 use Rattle.net_lex.proofs.Rising.{tokens_rise, first_fault_lies}
 use Rattle.net_tree.specs.Tree.{Declaration}
 use Rattle.net_tree.specs.Standing.{ModelHasSpans}
 use Rattle.net_tree.proofs.ModelsStand.{model_stands}
 use Rattle.net_driver.proofs.ModelPlaces.{meant_lies}
-use Rattle.net_data.specs.declared.tables.Tables.{Tables}
+use Rattle.net_data.specs.declared.statement.Tables.{Tables}
 use Rattle.net_data.specs.Standing.{StatementsHaveSpans}
 use Rattle.net_data.proofs.Standing.{rising_stand, mean_stand, stop_lies}
 use Rattle.net_eval.proofs.WorldFaults.{finds_world}

@@ -2,7 +2,7 @@
 use Rattle.std.specs.Prelude.{◌≡◌, ℕ, List, [], ◌∷◌, map}
 use Rattle.std.specs.List.{AllByRecursion, AllZip, flat_map}
 use Rattle.std.proofs.Common.{sym, subst}
-use Rattle.net_fault.specs.declared.language.Language.TheVariants as languages
+use Rattle.net_base.specs.declared.diagnostic.Language.TheVariants as languages
 use Rattle.net_lex.specs.declared.token.Token.{Token}
 use Rattle.net_lex.specs.LineEnds.{HasNoLineEnd}
 use Rattle.net_lex.proofs.LineEnds.{tokens_stay}
@@ -12,7 +12,7 @@ use Rattle.net_tree.specs.Syntax as forms
 use Rattle.net_tree.specs.Tree.{Declaration, set, param, check, node, arc, objective}
 use Rattle.net_tree.specs.Declarations.{AreDeclarations}
 use Rattle.net_model.specs.GrammarLaws as model_laws
-use Rattle.net_data.specs.declared.tables.Tables.{Tables}
+use Rattle.net_data.specs.declared.statement.Tables.{Tables}
 use Rattle.net_data.specs.GrammarLaws as data_laws
 use Rattle.net_sets.specs.declared.member.Member.TheVariants as member
 use Rattle.net_sets.specs.Sets.{Tuple}

@@ -4,7 +4,7 @@ use Rattle.std.proofs.Common.{ap, ◌∙◌}
 use Rattle.net_tree.specs.Tree.{Declaration}
 use Rattle.net_model.specs.Models.{meant}
 use Rattle.net_model.proofs.NamedModels.{named_meant}
-use Rattle.net_data.specs.declared.tables.Tables.{Tables}
+use Rattle.net_data.specs.declared.statement.Tables.{Tables}
 use Rattle.net_data.specs.Reading.{tables, ◌>>=◌}
 use Rattle.net_data.proofs.TablesMean.{tables-complete}
 use Rattle.net_driver.specs.Reading.{IsModel, IsData}

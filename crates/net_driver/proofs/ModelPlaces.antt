@@ -2,11 +2,11 @@
 use Rattle.std.specs.Prelude.{◌≡◌, ℕ, zero, suc, ◌-◌, List, [], ◌∷◌, ◌++◌, length, drop, Option, None, Some, Result, Ok, Err, ⊤}
 use Rattle.std.specs.List.{AllByRecursion}
 use Rattle.std.proofs.Common.{refl, ap, sym, subst, arith}
-use Rattle.net_fault.specs.declared.span.Span.{Span}
-use Rattle.net_fault.specs.declared.diagnostic.Diagnostic.{Diagnostic}
-use Rattle.net_fault.specs.declared.fault.Fault.{Fault}
-use Rattle.net_fault.specs.declared.fault.Fault.TheVariants.{OutOfMemory, At}
-use Rattle.net_fault.specs.declared.language.Language.TheVariants.{Model}
+use Rattle.net_base.specs.declared.diagnostic.Span.{Span}
+use Rattle.net_base.specs.declared.diagnostic.Diagnostic.{Diagnostic}
+use Rattle.net_base.specs.declared.fault.Fault.{Fault}
+use Rattle.net_base.specs.declared.fault.Fault.TheVariants.{OutOfMemory, At}
+use Rattle.net_base.specs.declared.diagnostic.Language.TheVariants.{Model}
 use Rattle.net_lex.specs.declared.token.Token.{Token}
 use Rattle.net_tree.specs.Print.{put_declaration}
 use Rattle.net_tree.specs.Tree.{Declaration}
@@ -21,9 +21,9 @@ use Rattle.net_model.specs.Models.{unless_fault, meant_by, meant}
 use Rattle.net_model.specs.Reading.{Tokens, Read}
 use Rattle.net_model.proofs.ModelLaws.{model-begins}
 use Rattle.net_model.proofs.RowLaws.{put_all}
-use Rattle.net_fault.specs.Places.{IsSpanIn}
+use Rattle.net_base.specs.Places.{IsSpanIn}
 use Rattle.net_tree.specs.Standing.{DeclarationsHaveSpans}
-use Rattle.net_fault.proofs.Elements.{all_drop}
+use Rattle.net_base.proofs.Elements.{all_drop}
 use Rattle.net_tree.proofs.ModelsStand.{declaration_passed}
 use Rattle.net_resolve.proofs.NamesStand.{FaultStands, names_stand}
 use Rattle.net_lex.proofs.Rising.{Rise, rise_ends, rise_later}

@@ -14,7 +14,7 @@ use Rattle.net_data.specs.declared.statement.DefaultValue.{DefaultValue}
 use Rattle.net_data.specs.declared.statement.Given.{Given}
 use Rattle.net_data.specs.declared.statement.Statement.{Statement}
 use Rattle.net_data.specs.declared.statement.Statement.TheVariants as statements
-use Rattle.net_data.specs.declared.tables.Tables.{Tables}
+use Rattle.net_data.specs.declared.statement.Tables.{Tables}
 use Rattle.net_data.specs.Standing.{AllTokens, DefaultToken, GivenTokens}
 use Rattle.net_data.proofs.Standing.{mean_tokens}
 use Rattle.net_expr.specs.Worlds.{World}

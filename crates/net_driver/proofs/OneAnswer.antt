@@ -15,7 +15,7 @@ use Rattle.net_normal.specs.declared.problem.FlowArc.{FlowArc}
 use Rattle.net_normal.specs.declared.profile.Profile.{Profile}
 use Rattle.net_normal.specs.NormalForm.{shift_of, low_side, high_side, least_inflow, most_inflow, is_open, supply_of, supplies_from, slack_arcs_from, supplies_of, flow_arcs_of, written_arcs, numbers_from, offsets_of, constant_of}
 use Rattle.net_normal.specs.Sums.{sum_of, price_of}
-use Rattle.net_fault.specs.declared.diagnostic.Diagnostic.{Diagnostic}
+use Rattle.net_base.specs.declared.diagnostic.Diagnostic.{Diagnostic}
 use Rattle.net_driver.specs.FirstFaults.{IsFirstFault}
 use Rattle.net_driver.specs.Reading.{IsNetworkOf}
 use Rattle.net_driver.proofs.OneFault.{one_network, read_or_rejected}

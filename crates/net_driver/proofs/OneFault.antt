@@ -1,10 +1,10 @@
 -- Two texts have one network or one first fault, and not both.
 use Rattle.std.specs.Prelude.{◌≡◌, ℕ, List, Option, Result, Ok, Err}
 use Rattle.std.proofs.Common.{refl, sym, ap, subst, ◌∙◌}
-use Rattle.net_fault.specs.declared.error_code.ErrorCode.{ErrorCode}
-use Rattle.net_fault.specs.declared.language.Language.{Language}
-use Rattle.net_fault.specs.declared.language.Language.TheVariants as languages
-use Rattle.net_fault.specs.declared.span.Span.{Span}
+use Rattle.net_base.specs.declared.error_code.ErrorCode.{ErrorCode}
+use Rattle.net_base.specs.declared.diagnostic.Language.{Language}
+use Rattle.net_base.specs.declared.diagnostic.Language.TheVariants as languages
+use Rattle.net_base.specs.declared.diagnostic.Span.{Span}
 use Rattle.net_lex.specs.declared.token.Token.{Token}
 use Rattle.net_lex.specs.Lexing.{AreTokensOf}
 use Rattle.net_lex.proofs.FirstFaults as lexer
@@ -12,15 +12,15 @@ use Rattle.net_lex.proofs.UniqueReading.{reads_same}
 use Rattle.net_tree.specs.Tree.{Declaration}
 use Rattle.net_model.specs.Models.{meant}
 use Rattle.net_data.specs.declared.parse_error.ParseError.{ParseError as DataStop}
-use Rattle.net_data.specs.declared.tables.Tables.{Tables}
+use Rattle.net_data.specs.declared.statement.Tables.{Tables}
 use Rattle.net_data.specs.Reading as data_reading
 use Rattle.net_eval.specs.Binding as binding
 use Rattle.net_expr.specs.Worlds.{Name, World}
 use Rattle.net_inst.specs.Instances.{Network, network}
-use Rattle.net_fault.specs.declared.diagnostic.Diagnostic.{Diagnostic}
-use Rattle.net_fault.specs.declared.fault.Fault.{Fault}
-use Rattle.net_fault.specs.declared.fault.Fault.TheVariants.{At}
-use Rattle.net_fault.specs.Outcomes.{bare}
+use Rattle.net_base.specs.declared.diagnostic.Diagnostic.{Diagnostic}
+use Rattle.net_base.specs.declared.fault.Fault.{Fault}
+use Rattle.net_base.specs.declared.fault.Fault.TheVariants.{At}
+use Rattle.net_base.specs.Outcomes.{bare}
 use Rattle.net_driver.specs.Reading.{IsModel, IsData, ComeTo, IsNetworkOf}
 use Rattle.net_driver.proofs.Meant.{model_meant, data_meant}
 use Rattle.net_driver.specs.FirstFaults as faults

@@ -2,19 +2,19 @@
 use Rattle.std.specs.Prelude.{◌≡◌, ℕ, List, Option, Result, Ok, Err, IfErr}
 use Rattle.std.specs.Result.{IsErrAnd}
 use Rattle.std.proofs.Common.{sym, ap, subst, ◌∙◌}
-use Rattle.net_fault.specs.declared.diagnostic.Diagnostic.{Diagnostic}
-use Rattle.net_fault.specs.declared.fault.Fault.{Fault}
-use Rattle.net_fault.specs.declared.fault.Fault.TheVariants.{OutOfMemory, At}
-use Rattle.net_fault.specs.declared.language.Language.TheVariants as languages
-use Rattle.net_fault.specs.declared.span.Span.{Span}
-use Rattle.net_fault.specs.declared.error_code.ErrorCode.{ErrorCode}
-use Rattle.net_fault.specs.Outcomes.{Refines, bare}
+use Rattle.net_base.specs.declared.diagnostic.Diagnostic.{Diagnostic}
+use Rattle.net_base.specs.declared.fault.Fault.{Fault}
+use Rattle.net_base.specs.declared.fault.Fault.TheVariants.{OutOfMemory, At}
+use Rattle.net_base.specs.declared.diagnostic.Language.TheVariants as languages
+use Rattle.net_base.specs.declared.diagnostic.Span.{Span}
+use Rattle.net_base.specs.declared.error_code.ErrorCode.{ErrorCode}
+use Rattle.net_base.specs.Outcomes.{Refines, bare}
 use Rattle.net_lex.specs.declared.token.Token.{Token}
 use Rattle.net_lex.specs.Lexing as lex
 use Rattle.net_lex.specs.Lexing.{AreTokensOf}
 use Rattle.net_tree.specs.Tree.{Declaration}
 use Rattle.net_model.specs.Models.{meant, Parses}
-use Rattle.net_data.specs.declared.tables.Tables.{Tables}
+use Rattle.net_data.specs.declared.statement.Tables.{Tables}
 use Rattle.net_data.specs.Meaning.{Mean, all_judged}
 use Rattle.net_data.specs.Reading as data_reading
 use Rattle.net_eval.specs.Binding as binding

@@ -13,8 +13,8 @@ use Rattle.net_dimacs.specs.declared.problem_fault.LineFault.{LineFault}
 use Rattle.net_dimacs.specs.declared.problem_fault.ProblemFault.{ProblemFault}
 use Rattle.net_dimacs.specs.declared.problem_fault.ProblemFault.TheVariants as reading
 use Rattle.net_driver.specs.LineTexts.{IsProblemOf, IsCertificateOf, IsProblemFault, IsCertificateFault}
-use Rattle.net_driver.specs.declared.exit_kind.ExitKind.{ExitKind}
-use Rattle.net_driver.specs.declared.exit_kind.ExitKind.TheVariants.{Done, Refuted}
+use Rattle.net_driver.specs.declared.solve_run.ExitKind.{ExitKind}
+use Rattle.net_driver.specs.declared.solve_run.ExitKind.TheVariants.{Done, Refuted}
 use Rattle.net_driver.specs.declared.fault.Fault.{Fault}
 use Rattle.net_driver.specs.declared.fault.Fault.TheVariants.{OutOfMemory, Rejected, RejectedLine, Unread, Unwritten}
 use Rattle.net_driver.specs.declared.fault.TextName.{TextName}

@@ -1,7 +1,7 @@
 -- The printed line of an error.
 use Rattle.std.specs.Prelude.{ℕ, List, [], ◌∷◌, ◌++◌, codes, decimal, string_bytes}
 use Rattle.net_dimacs.specs.Faults.{line_fault_text}
-use Rattle.net_fault.specs.ErrorLines.{error_code_shown}
+use Rattle.net_base.specs.ErrorLines.{error_code_shown}
 use Rattle.net_driver.specs.declared.fault.Fault.{Fault}
 use Rattle.net_driver.specs.declared.fault.Fault.TheVariants.{OutOfMemory, Rejected, RejectedLine, Unread, Unwritten}
 use Rattle.net_driver.specs.declared.fault.Rejection.{Rejection}

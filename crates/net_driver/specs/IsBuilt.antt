@@ -4,7 +4,7 @@
 use Rattle.std.specs.Prelude.{◌≡◌, ℕ, Bool, List, ◌++◌, map, Option, Some, Ok}
 use Rattle.std.specs.List.{flat_map}
 use Rattle.net_tree.specs.Tree.{Declaration}
-use Rattle.net_data.specs.declared.tables.Tables.{Tables}
+use Rattle.net_data.specs.declared.statement.Tables.{Tables}
 use Rattle.net_eval.specs.Binding as binding
 use Rattle.net_expr.specs.Worlds.{Name, World}
 use Rattle.net_dimacs.specs.Problems.{IsProblemText, IsOnlyProblem}

@@ -1,6 +1,6 @@
 -- The result for a model with its data: an optimal plan, or why there is none (AMPL book, chapter
 -- 15).
-use Rattle.std.specs.Prelude.{◌≡◌, ℕ, ◌+◌, ◌≤◌, List, Bool, Option, map, length, vec_len, All, ℤ, ◌≤ℤ◌}
+use Rattle.std.specs.Prelude.{◌≡◌, ℕ, ◌+◌, ◌≤◌, List, Bool, Option, map, length, ℤ, ◌≤ℤ◌}
 use Rattle.net_check.specs.Certificates.{IsViolatedCut}
 use Rattle.net_check.specs.declared.certificate.Side.{Side}
 use Rattle.net_expr.specs.Worlds.{Name}
@@ -14,8 +14,8 @@ use Rattle.net_driver.specs.declared.answer.Answer.{Answer}
 use Rattle.net_driver.specs.declared.answer.Outcome.{Outcome}
 use Rattle.net_driver.specs.declared.answer.Outcome.TheVariants.{Displayed, Infeasible}
 use Rattle.net_driver.specs.declared.compiled.Compiled.{Compiled}
-use Rattle.net_driver.specs.declared.exit_kind.ExitKind.{ExitKind}
-use Rattle.net_driver.specs.declared.exit_kind.ExitKind.TheVariants.{Done, Refuted}
+use Rattle.net_driver.specs.declared.solve_run.ExitKind.{ExitKind}
+use Rattle.net_driver.specs.declared.solve_run.ExitKind.TheVariants.{Done, Refuted}
 use Rattle.net_driver.specs.IsBuilt.{IsBuilt}
 
 -- a value is at least as good as another: not above it when minimizing, not below it when

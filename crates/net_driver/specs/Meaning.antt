@@ -7,9 +7,9 @@ use Rattle.std.specs.Str.{bytes_eq}
 use Rattle.net_lex.specs.Lexing.{AreTokensOf}
 use Rattle.net_lex.specs.declared.token.Token.{Token}
 use Rattle.net_tree.specs.Syntax.{Declaration, node, arc}
-use Rattle.net_fault.specs.declared.language.Language.TheVariants as languages
+use Rattle.net_base.specs.declared.diagnostic.Language.TheVariants as languages
 use Rattle.net_model.specs.GrammarOfDeclarations.{IsModel}
-use Rattle.net_data.specs.declared.tables.Tables.{Tables}
+use Rattle.net_data.specs.declared.statement.Tables.{Tables}
 use Rattle.net_data.specs.Grammar.{IsDataFile}
 use Rattle.net_check.specs.Certificates.{IsViolatedCut}
 use Rattle.net_dimacs.specs.Problems.{IsProblemText, IsOnlyProblem}

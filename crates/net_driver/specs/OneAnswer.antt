@@ -2,7 +2,7 @@
 -- the names and every printed byte.
 use Rattle.std.specs.Prelude.{◌≡◌, ℕ, Bool, List, Option}
 use Rattle.net_expr.specs.Worlds.{Name}
-use Rattle.net_fault.specs.declared.diagnostic.Diagnostic.{Diagnostic}
+use Rattle.net_base.specs.declared.diagnostic.Diagnostic.{Diagnostic}
 use Rattle.net_driver.specs.FirstFaults.{IsFirstFault}
 use Rattle.net_driver.specs.declared.answer.Answer.{Answer}
 use Rattle.net_driver.specs.declared.compiled.Compiled.{Compiled}

@@ -1,12 +1,12 @@
 -- Which files are a model with its data, and the network that they describe.
 use Rattle.std.specs.Prelude.{◌≡◌, ℕ, List, Option, Ok}
-use Rattle.net_fault.specs.declared.language.Language.TheVariants as languages
+use Rattle.net_base.specs.declared.diagnostic.Language.TheVariants as languages
 use Rattle.net_lex.specs.declared.token.Token.{Token}
 use Rattle.net_lex.specs.Lexing.{AreTokensOf}
 use Rattle.net_tree.specs.Tree.{Declaration}
 use Rattle.net_resolve.specs.Names.{IsWellNamed}
 use Rattle.net_model.specs.Meaning.{Means}
-use Rattle.net_data.specs.declared.tables.Tables.{Tables}
+use Rattle.net_data.specs.declared.statement.Tables.{Tables}
 use Rattle.net_data.specs.Meaning.{Mean, all_judged}
 use Rattle.net_eval.specs.Binding as binding
 use Rattle.net_expr.specs.Worlds.{Name, World}

@@ -1,14 +1,14 @@
 -- How the first error of a model with its data is reported.
 use Rattle.std.specs.Prelude.{◌≡◌, ℕ, List, Option, length, take, string_bytes, ⊤}
-use Rattle.net_fault.specs.declared.language.Language.{Language}
-use Rattle.net_fault.specs.declared.language.Language.TheVariants as languages
+use Rattle.net_base.specs.declared.diagnostic.Language.{Language}
+use Rattle.net_base.specs.declared.diagnostic.Language.TheVariants as languages
 use Rattle.net_lex.specs.Places.{line_of, column_of}
-use Rattle.net_fault.specs.declared.fault.Fault.{Fault as TextFault}
-use Rattle.net_fault.specs.declared.fault.Fault.TheVariants as text_faults
-use Rattle.net_fault.specs.Places.{IsSpanIn}
+use Rattle.net_base.specs.declared.fault.Fault.{Fault as TextFault}
+use Rattle.net_base.specs.declared.fault.Fault.TheVariants as text_faults
+use Rattle.net_base.specs.Places.{IsSpanIn}
 use Rattle.net_expr.specs.Worlds.{Name}
 use Rattle.net_expr.specs.References.{detail_text}
-use Rattle.net_fault.specs.declared.diagnostic.Diagnostic.{Diagnostic}
+use Rattle.net_base.specs.declared.diagnostic.Diagnostic.{Diagnostic}
 use Rattle.net_driver.specs.FirstFaults.{IsFirstFault, MayBeModel}
 use Rattle.net_report.specs.Links.{in_line}
 use Rattle.net_driver.specs.declared.fault.Fault.{Fault}

@@ -1,7 +1,7 @@
 -- What a run reads and writes (terms of Rust's std::io, Read and Write).
 use Rattle.std.specs.Prelude.{◌≡◌, ◌≤◌, ◌↔◌, ◌⊎◌, ℕ, ◌+◌, Bool, true, List, [], ◌∷◌, Option, Result, ⊤, IfOk, IfErr, IsErrOf}
 use Rattle.std.specs.Io.KnownBytes.{Appends, Consumes, IsAtEnd}
-use Rattle.net_fault.specs.declared.language.Language.TheVariants as languages
+use Rattle.net_base.specs.declared.diagnostic.Language.TheVariants as languages
 use Rattle.net_lex.specs.Limits.{text_limit}
 use Rattle.net_expr.specs.Worlds.{Name}
 use Rattle.net_dimacs.specs.Limits as dimacs
@@ -15,7 +15,7 @@ use Rattle.net_driver.specs.declared.fault.Fault.TheVariants.{OutOfMemory, Rejec
 use Rattle.net_driver.specs.Reporting.{IsRejection}
 use Rattle.net_check.specs.declared.verdict.Verdict.{Verdict}
 use Rattle.net_check.specs.declared.certificate.Certificate as certificates
-use Rattle.net_driver.specs.declared.exit_kind.ExitKind.{ExitKind}
+use Rattle.net_driver.specs.declared.solve_run.ExitKind.{ExitKind}
 use Rattle.net_driver.specs.Checked.{Judges, IsLineRejection, IsProblemRejection, exit_kind_of, verdict_line}
 use Rattle.net_driver.specs.Settled.{Settles, settled_exit_kind}
 use Rattle.net_driver.specs.IsSolved.{IsSolved, text_of}

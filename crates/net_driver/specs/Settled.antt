@@ -8,8 +8,8 @@ use Rattle.net_dimacs.specs.Certificates.{account_of, IsCertificateText}
 use Rattle.net_dimacs.specs.CertificateWritten.{certificate_text}
 use Rattle.net_solve.specs.Settling.{BoundsEachFlow, LeavesNoFlow}
 use Rattle.net_driver.specs.LineTexts.{IsProblemOf}
-use Rattle.net_driver.specs.declared.exit_kind.ExitKind.{ExitKind}
-use Rattle.net_driver.specs.declared.exit_kind.ExitKind.TheVariants.{Done, Refuted}
+use Rattle.net_driver.specs.declared.solve_run.ExitKind.{ExitKind}
+use Rattle.net_driver.specs.declared.solve_run.ExitKind.TheVariants.{Done, Refuted}
 
 -- the text of a valid certificate of this problem
 abbrev pub IsAnswerText : Problem → Certificate → List ℕ → Type 0

@@ -17,9 +17,7 @@ ghost use Rattle.net_driver.specs.Reporting.{IsRejection};
 use crate::compiled::{Compiled, Options, with_text};
 use crate::compiled_network::{CompiledNetwork, compile_network};
 use crate::fault::Fault;
-use crate::meaning::solutions_are_sound;
 use net_check::Side;
-use net_inst::objective_is_written;
 use net_report::{map_back, write_cut, write_display};
 use net_solve::{Settled, solve_problem};
 use std::alloc::{AllocError, Global};
@@ -89,7 +87,6 @@ pub fn solve_model_with<'s>(
     let network = compile_network(alloc, options, model, data)?;
     let outcome = solve_network(alloc, &network)?;
     let compiled = with_text(alloc, network)?;
-    solutions_are_sound();
     Ok(Answer { compiled, outcome })
 }
 
@@ -103,9 +100,7 @@ pub(crate) fn solve_network(
         → IfOk result (λ outcome. IsSolved lean wanted m d (record { compiled = written network.now; outcome = outcome })) }
 {
     let settled = solve_problem(alloc, &network.problem)?;
-    let outcome = outcome_of(alloc, network, settled)?;
-    objective_is_written();
-    Ok(outcome)
+    outcome_of(alloc, network, settled)
 }
 
 /// Returns the outcome for a certificate of the problem. Fails only if memory runs out.

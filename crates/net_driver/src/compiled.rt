@@ -10,14 +10,13 @@ ghost use Rattle.net_driver.specs.Meaning.{IsCompilation};
 
 use crate::compiled_network::{CompiledNetwork, compile_network};
 use crate::fault::Fault;
-use crate::meaning::compilations_are_sound;
-use crate::text::Text;
 use net_dimacs::write_problem_to;
 use net_inst::Names;
 use net_io::GrowingSink;
 use net_normal::{Link, Problem};
 use net_report::write_links;
 use std::alloc::{AllocError, Global};
+use std::marker::Model;
 
 /// Options of the caller.
 #[derive(Clone, Copy)]
@@ -77,7 +76,6 @@ pub fn compile_with<'s>(
 {
     let network = compile_network(alloc, options, model, data)?;
     let compiled = with_text(alloc, network)?;
-    compilations_are_sound();
     Ok(compiled)
 }
 
@@ -100,5 +98,45 @@ pub(crate) fn with_text(
             names: network.names,
         }),
         Err(_) => Err(AllocError),
+    }
+}
+
+/// A text, which contracts see as its bytes, independent of their address.
+#[derive(Drop)]
+pub struct Text {
+    bytes: Vec<u8>,
+}
+
+impl Model for Text {
+    ghost use Rattle.net_driver.specs.Texts.{Bytes, coded_bytes};
+
+    ghost Value = { Bytes };
+
+    ghost coded = { coded_bytes };
+
+    ghost view = { λ t. record { items = t.bytes.items } };
+}
+
+impl Text {
+    /// Wraps bytes as a text.
+    pub fn new(bytes: Vec<u8>) -> Text
+        ensures { result.items ≡ bytes.items }
+    {
+        Text { bytes }
+    }
+
+    /// Returns the bytes of the text.
+    pub fn as_bytes(&self) -> &[u8]
+        ensures { result.now ≡ self.now.items }
+    {
+        self.bytes.as_slice()
+    }
+
+    /// Returns the vector of the text's bytes; nothing is copied.
+    pub fn into_vec(self) -> Vec<u8>
+        ensures { result.items ≡ self.items }
+    {
+        let Text { bytes } = self;
+        bytes
     }
 }

@@ -17,10 +17,7 @@ use crate::fault::Fault;
 use crate::network::read_network;
 use crate::reporting::reported;
 use net_dimacs::write_problem_to;
-use net_inst::{
-    Names, arcs_are_written, flows_stand_for_assignments, names_are_declared, objective_is_written,
-    ranges_are_conditions,
-};
+use net_inst::Names;
 use net_io::{Failed, Sink, write_whole};
 use net_normal::{Instance, Link, Problem, normalise, normalise_lean};
 use std::alloc::{AllocError, Global};
@@ -48,11 +45,6 @@ pub(crate) fn compile_network<'s>(
         Err(stop) => return Err(reported(alloc, model, data, &stop)),
     };
     let (problem, link) = form_of(alloc, options.lean, &named.instance)?;
-    names_are_declared();
-    arcs_are_written();
-    ranges_are_conditions();
-    objective_is_written();
-    flows_stand_for_assignments();
     Ok(CompiledNetwork {
         problem,
         link,

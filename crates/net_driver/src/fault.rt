@@ -3,8 +3,8 @@
 ghost use Rattle.std.specs.Prelude.{◌≡◌};
 ghost use Rattle.net_driver.specs.FaultLines.{detail_gap, text_word};
 
+use net_base::{ErrorCode, Span};
 use net_dimacs::LineFault;
-use net_fault::{ErrorCode, Span};
 use std::alloc::{AllocError, AllocFailed};
 use std::fmt;
 use thiserror::Error;

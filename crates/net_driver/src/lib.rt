@@ -3,9 +3,9 @@
 
 mod answer;
 mod checking;
+mod compile_run;
 mod compiled;
 mod compiled_network;
-mod exit_kind;
 mod fault;
 mod laws;
 mod line_runs;
@@ -13,36 +13,30 @@ mod meaning;
 mod network;
 mod problem_source;
 mod reporting;
-mod run;
-mod settling;
 mod solve_run;
-mod text;
 
 pub use answer::{Answer, Outcome, solve_model, solve_model_with};
 pub use checking::check_bytes;
-pub use compiled::{Compiled, Options, compile, compile_with};
-pub use exit_kind::ExitKind;
+pub use compile_run::{run_compile, run_compile_with};
+pub use compiled::{Compiled, Options, Text, compile, compile_with};
 pub use fault::{Fault, LineRejection, Rejection, TextName};
 pub use laws::{
     answers_are_accepted, first_error_is_in_its_file, line_names_are_exact,
     names_are_declared_once, nodes_and_arcs_are_apart, one_first_fault, one_of_network_and_error,
     read_or_rejected, texts_have_one_answer, well_named,
 };
-pub use line_runs::{run_check, run_min};
+pub use line_runs::{run_check, run_min, solve_min};
 pub use meaning::{
     answers_solve_models, compilations_are_sound, compiled_problems_represent_models,
     models_have_one_network, solutions_are_sound,
 };
+pub use net_base::{ErrorCode, Span};
 pub use net_check::{Reason, Side, Verdict};
 pub use net_dimacs::LineFault;
-pub use net_fault::{ErrorCode, Span};
 pub use net_inst::{Named, Names};
 pub use net_io::{Failed, Sink, Source};
 pub use net_normal::{Link, Problem};
 pub use net_solve::Settled;
 pub use network::read_network;
-pub use run::{run_compile, run_compile_with};
-pub use settling::solve_min;
-pub use solve_run::{run_solve, run_solve_with};
+pub use solve_run::{ExitKind, run_solve, run_solve_with};
 pub use std::alloc::AllocError as OutOfMemory;
-pub use text::Text;

@@ -1,25 +1,26 @@
 //! Runs on problems and certificates: reads the problem in pieces and the certificate as a whole,
 //! computes the complete result, then writes it.
 
-ghost use Rattle.std.specs.Prelude.{◌≡◌, ◌⊎◌, List, ℕ, true, false, IfOk, IfErr};
+ghost use Rattle.std.specs.Prelude.{◌≡◌, ◌⊎◌, List, ℕ, true, false, IfOk, IfErr, IsErrOf};
 ghost use Rattle.net_dimacs.specs.Limits.{text_limit};
 ghost use Rattle.net_dimacs.specs.Scans.{Stands};
 ghost use Rattle.net_io.specs.Ends.{ReadsToLimit};
 ghost use Rattle.net_driver.specs.Checked.{Judges, IsLineRejection, IsProblemRejection, exit_kind_of};
 ghost use Rattle.net_driver.specs.Settled.{Settles, settled_exit_kind};
 ghost use Rattle.net_driver.specs.Runs.{IsCheckRun, IsMinRun, IsAskedFew, lines_limit};
+ghost use Rattle.net_driver.specs.LineTexts.{IsProblemOf, MayBeProblem};
 
-use crate::checking::{judge, verdict_line};
-use crate::exit_kind::ExitKind;
+use crate::checking::{judge, problem_of, verdict_line};
+use crate::compile_run::read_text;
 use crate::fault::{Fault, TextName};
 use crate::problem_source::{finished, read_problem_from};
-use crate::run::read_text;
-use crate::settling::settle;
+use crate::solve_run::ExitKind;
 use net_check::Verdict;
-use net_dimacs::{Reading, TEXT_LIMIT};
+use net_dimacs::{Reading, TEXT_LIMIT, write_certificate};
 use net_io::{Sink, Source, write_whole};
-use net_solve::Settled;
-use std::alloc::Global;
+use net_normal::Problem;
+use net_solve::{Settled, solve_problem};
+use std::alloc::{AllocError, Global};
 
 fn exit_kind_of(verdict: &Verdict) -> ExitKind
     ensures { result ≡ exit_kind_of verdict.now }
@@ -124,4 +125,29 @@ pub fn run_min<P: Source, W: Sink>(
         Ok(()) => Ok(exit_kind),
         Err(_) => Err(Fault::Unwritten),
     }
+}
+
+/// Solves the problem of a file in memory; also returns the text of its certificate.
+pub fn solve_min(alloc: Global, problem: &[u8]) -> Result<(Settled, Vec<u8>), Fault>
+    ensures value { IfOk result (λ answer. Settles problem.now answer.0 answer.1.items) }
+    ensures rejected { IfErr result (IsProblemRejection problem.now) }
+
+    // Memory is allocated only if the file begins a problem.
+    ensures memory { IsErrOf result Fault.OutOfMemory → MayBeProblem problem.now }
+{
+    let network = match problem_of(alloc, problem) {
+        Ok(network) => network,
+        Err(fault) => return Err(fault),
+    };
+    let answer = settle(alloc, &network)?;
+    Ok(answer)
+}
+
+/// Solves a problem; also returns the text of its certificate. Fails only if memory runs out.
+pub(crate) fn settle(alloc: Global, network: &Problem) -> Result<(Settled, Vec<u8>), AllocError>
+    ensures { (problem : List ℕ) → IsProblemOf problem network.now → IfOk result (λ answer. Settles problem answer.0 answer.1.items) }
+{
+    let settled = solve_problem(alloc, network)?;
+    let text = write_certificate(alloc, network, &settled)?;
+    Ok((settled, text))
 }

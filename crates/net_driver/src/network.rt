@@ -8,20 +8,23 @@ ghost use Rattle.net_eval.specs.Binding.{AreNew};
 ghost use Rattle.net_driver.specs.Reading.{IsModel, IsNetworkOf};
 ghost use Rattle.net_driver.specs.FirstFaults.{IsStop};
 
-use crate::laws::well_named;
+use net_base::Fault;
 use net_data::parse_data;
-use net_eval::{bind, well_named_are_new};
-use net_fault::Fault;
+use net_eval::bind;
 use net_inst::{Named, instantiate_for};
 use net_lex::{lex_data, lex_model};
-use net_model::{free_model, parse_model};
+use net_model::{CheckedModel, free_model, parse_model};
+use net_resolve::Hints;
+use net_sets::HashKey;
 use net_tree::Model;
 use std::alloc::Global;
 
-/// Returns the network of a parsed model with a data file.
+/// Returns the network of a model with hints and a data file. (Taken apart from `network_of`, since
+/// the prover's steps do not suffice for both at once.)
 fn network_with<'s>(
     alloc: Global,
     declared: &Model<'s>,
+    hints: &Hints<'s>,
     data: &'s [u8],
     objective: Option<&str>,
 ) -> Result<Named<'s>, Fault>
@@ -30,10 +33,28 @@ fn network_with<'s>(
         «data».entry.now (seen_as n)) }
     ensures rejected { (text : List ℕ) → IsModel text (view.model declared.now) → IfErr result (IsStop (option_copied objective.entry) text «data».entry.now) }
 {
-    let tokens = lex_data(alloc, data)?;
-    let tables = parse_data(alloc, &tokens)?;
-    let world = bind(alloc, declared, &tables)?;
+    // The tokens and statements of the data are freed before the network is built.
+    let world = {
+        let tokens = lex_data(alloc, data)?;
+        let tables = parse_data(alloc, &tokens)?;
+        bind(alloc, declared, hints, &tables)?
+    };
     instantiate_for(alloc, declared, &world, objective)
+}
+
+/// Returns the network of a checked model and a data file.
+fn network_of<'s>(
+    alloc: Global,
+    declared: &CheckedModel<'s>,
+    data: &'s [u8],
+    objective: Option<&str>,
+) -> Result<Named<'s>, Fault>
+    requires { AreNew [] (view.model declared.now) }
+    ensures ok { (text : List ℕ) → IsModel text (view.model declared.now) → IfOk result (λ n. IsNetworkOf (option_copied objective.entry) text
+        «data».entry.now (seen_as n)) }
+    ensures rejected { (text : List ℕ) → IsModel text (view.model declared.now) → IfErr result (IsStop (option_copied objective.entry) text «data».entry.now) }
+{
+    network_with(alloc, declared.model(), declared.hints(), data, objective)
 }
 
 /// Returns the network of a model with its data, and its names, for the objective of the given name
@@ -53,11 +74,9 @@ pub fn read_network<'s>(
     // The tokens of the model are freed before the data are read.
     let declared = {
         let tokens = lex_model(alloc, model)?;
-        parse_model(alloc, &tokens)?
+        parse_model(alloc, HashKey::of_texts(model, data), &tokens)?
     };
-    well_named();
-    well_named_are_new();
-    let read = network_with(alloc, &declared, data, objective);
-    free_model(declared);
+    let read = network_of(alloc, &declared, data, objective);
+    free_model(declared.into_model());
     read
 }

@@ -1,16 +1,16 @@
 //! Reporting errors in a model or its data.
 
 ghost use Rattle.std.specs.Prelude.{◌≡◌, Option, IfOk, IsErr, length, string_bytes};
-ghost use Rattle.net_fault.specs.declared.detail.Detail.TheVariants.{Nothing};
+ghost use Rattle.net_base.specs.declared.diagnostic.Detail.TheVariants.{Nothing};
 ghost use Rattle.net_expr.specs.References.{detail_text};
 ghost use Rattle.net_expr.specs.Worlds.{Name};
 ghost use Rattle.net_driver.specs.FirstFaults.{IsStop};
-ghost use Rattle.net_fault.specs.Places.{IsSpanIn};
+ghost use Rattle.net_base.specs.Places.{IsSpanIn};
 ghost use Rattle.net_report.specs.Links.{in_line};
 ghost use Rattle.net_driver.specs.Reporting.{IsReported, IsRejection, IsSpanThere, name_of, text_of};
 
 use crate::fault::{Fault, Rejection, TextName};
-use net_fault::{Detail, Diagnostic, Fault as TextFault, Language};
+use net_base::{Detail, Diagnostic, Fault as TextFault, Language};
 use net_lex::line_column;
 use net_report::push_in_line;
 use std::alloc::{AllocError, Global};

@@ -7,12 +7,10 @@ ghost use Rattle.net_driver.specs.IsSolved.{exit_kind_of};
 ghost use Rattle.net_driver.specs.Runs.{IsSolveRun};
 
 use crate::answer::{Outcome, solve_network};
+use crate::compile_run::read_text;
 use crate::compiled::Options;
 use crate::compiled_network::compile_network;
-use crate::exit_kind::ExitKind;
 use crate::fault::{Fault, TextName};
-use crate::meaning::solutions_are_sound;
-use crate::run::read_text;
 use net_io::{Sink, Source, write_whole};
 use net_lex::{DATA_LIMIT, MODEL_LIMIT};
 use std::alloc::Global;
@@ -72,10 +70,18 @@ pub fn run_solve_with<M: Source, D: Source, W: Sink>(
     let data_text = read_text(alloc, data, DATA_LIMIT, TextName::Data)?;
     let network = compile_network(alloc, options, &model_text, &data_text)?;
     let outcome = solve_network(alloc, &network)?;
-    solutions_are_sound();
     let exit_kind = exit_kind_of(&outcome);
     match write_whole(output, outcome.text()) {
         Ok(()) => Ok(exit_kind),
         Err(_) => Err(Fault::Unwritten),
     }
+}
+
+/// The result of a run without an error.
+#[derive(Clone, Copy, Debug, PartialEq, Eq)]
+pub enum ExitKind {
+    /// Done: a compiled problem, a plan, an optimal flow, or `yes`.
+    Done,
+    /// A negative result: no plan, no feasible flow, or a wrong certificate.
+    Refuted,
 }

@@ -10,7 +10,7 @@ use Rattle.net_data.specs.declared.statement.Transposed.{Transposed}
 use Rattle.net_data.specs.Rows.{Row, points, row_of, groups, given_rows, table_keys, row_across}
 use Rattle.net_eval.specs.DataRows.{taken_rows, TakesLists, TakesTables, TakesColumns, TakesKeys}
 use Rattle.net_eval.specs.DataByName.{grouped, given_cells}
-use Rattle.net_fault.specs.Outcomes.{Outcome, and_then, each}
+use Rattle.net_base.specs.Outcomes.{Outcome, and_then, each}
 use Rattle.net_eval.specs.Rows.{Taken, with_row, with_rows, with_cell, with_group, pair_of, across, with_line}
 use Rattle.net_eval.specs.SetData.{cut}
 

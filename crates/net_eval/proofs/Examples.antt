@@ -3,7 +3,7 @@ use Rattle.std.specs.Prelude.{◌≡◌, ℕ, true, List, [], ◌∷◌, None, S
 use Rattle.std.proofs.Common.{refl}
 use Rattle.net_lex.specs.NumeralFront.{mantissa_at, power_at, numeral_at}
 use Rattle.net_lex.specs.Significands.{whole_value}
-use Rattle.net_fault.specs.declared.language.Language.TheVariants as texts
+use Rattle.net_base.specs.declared.diagnostic.Language.TheVariants as texts
 use Rattle.net_lex.specs.declared.token.Token.{Token}
 use Rattle.net_lex.specs.declared.token.Kind.TheVariants as kinds
 use Rattle.net_data.specs.declared.statement.Statement.{Statement}
@@ -13,13 +13,13 @@ use Rattle.net_tree.specs.declared.operator.Words.TheVariants as operator
 use Rattle.net_tree.specs.Role.{role_of, marks, keys}
 use Rattle.net_tree.specs.Spans.{span_of, span_between, braces_span}
 use Rattle.net_tree.specs.Tree.{leaf, none, link, absent, filled, valued, Braces, Phrase, Declaration, set, param}
-use Rattle.net_fault.specs.declared.detail.Detail.TheVariants.{Reported}
-use Rattle.net_fault.specs.declared.error_code.ErrorCode.TheVariants.{OutsideSet, DoubleValue, NoSuchName}
+use Rattle.net_base.specs.declared.diagnostic.Detail.TheVariants.{Reported}
+use Rattle.net_base.specs.declared.error_code.ErrorCode.TheVariants.{OutsideSet, DoubleValue, NoSuchName}
 use Rattle.net_expr.specs.declared.world.Entry.TheVariants.{Set, Parameter}
 use Rattle.net_expr.specs.Limits.{is_small}
 use Rattle.net_expr.specs.References.{reference_text}
 use Rattle.net_tree.specs.Operations.{operations, operation, reduction, is_minus}
-use Rattle.net_expr.specs.Numbers.{number_in}
+use Rattle.net_tree.specs.Numerals.{number_in}
 use Rattle.net_eval.specs.Binding.{world}
 use Rattle.net_eval.specs.Cells.{member_in}
 

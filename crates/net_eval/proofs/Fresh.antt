@@ -10,11 +10,11 @@ use Rattle.net_tree.specs.Tree.{Declaration, set, param, check, node, arc, objec
 use Rattle.net_expr.specs.declared.world.Entry.{Entry}
 use Rattle.net_expr.specs.Worlds.{Name, World, entry_of}
 use Rattle.net_eval.specs.Binding.{world, with_given, widths, is_among, AreNew, IsFresh, declare}
-use Rattle.net_fault.specs.declared.fault.Fault.{Fault}
+use Rattle.net_base.specs.declared.fault.Fault.{Fault}
 use Rattle.net_data.specs.declared.statement.Statement.{Statement}
 use Rattle.net_eval.specs.Names.{Declared, declared}
 use Rattle.net_eval.specs.DataByName.{Sorted, data_by_name}
-use Rattle.net_fault.specs.Outcomes.{Outcome, Refines, and_then, each}
+use Rattle.net_base.specs.Outcomes.{Outcome, Refines, and_then, each}
 
 abbrev world_of : Outcome World → World
 world_of (Ok w) = w

@@ -13,12 +13,13 @@ use Rattle.net_expr.specs.SetValues.{IsSetOf, HasSets}
 use Rattle.net_expr.specs.Worlds.{Name, World, entry_of}
 use Rattle.net_expr.proofs.SetsGiven.{keeps_sets}
 use Rattle.net_eval.specs.declared.given.NamedData.{NamedData}
-use Rattle.net_eval.specs.declared.param.Gives.TheVariants as gives
+use Rattle.net_tree.specs.Phrases.{is_becomes}
+use Rattle.net_tree.specs.PhraseValues.{phrase_value}
 use Rattle.net_eval.specs.declared.set_phrase.Claims.{Claims}
-use Rattle.net_fault.specs.Outcomes.{Outcome, and_then, each}
+use Rattle.net_base.specs.Outcomes.{Outcome, and_then, each}
 use Rattle.net_eval.specs.Binding as binding
 use Rattle.net_eval.specs.Binding.{widths, next_data, with_entry, declare, check_one, after_checks, with_given}
-use Rattle.net_eval.specs.BoundParameters.{keys_in, key_size, span_or, index_list, source, data_of, phrase_value, fill_table, with_data, bound_parameter}
+use Rattle.net_eval.specs.BoundParameters.{KeyedParameter, keyed, source_in, span_or, index_list, data_of, fill_table, with_data, bound_parameter}
 use Rattle.net_eval.specs.BoundSets.{one_of, allowed, set_of, bound_set}
 use Rattle.net_eval.specs.DataByName.{Sorted, data_by_name}
 use Rattle.net_eval.specs.Names.{declared}
@@ -28,6 +29,7 @@ use Rattle.net_eval.specs.SetPhrases.{set_phrases, assigned}
 use Rattle.net_eval.proofs.HeldParameters.{IsIndex, index_is, parameter_is}
 use Rattle.net_eval.proofs.Claiming.{AreSound, inside_all, phrases_sound, set_or_one, long_or_one}
 use Rattle.net_eval.proofs.RowsTaken.{then_ok, is_ok, AreTaken, IsTaken, given_taken}
+use Rattle.net_expr.specs.Indexings.{indexing_in}
 
 -- a declared set is one, and so is a declared parameter
 abbrev pub IsEntry : Entry → Type 0
@@ -68,18 +70,18 @@ bound_set_is w g ws name ps ms e h = then_ok (set_phrases w ps) (set_of ws name 
 
 -- ---- a parameter
 
-with_data_is : (w : World) (ws : List ℕ) (name : Token) (ps : List Phrase) (ms : List NamedData) (n : Option ℕ) (rows : List Row) (index : List Tuple) (e : Entry) → IsIndex rows index → with_data w ws name ps ms n rows index ≡ Ok e → IsEntry e
-with_data_is w ws name ps ms n rows index e f h =
-    then_ok (fill_table w ws name ps ms n rows index) (λ t. Ok (Parameter n index t)) e h (λ t k l.
-    then_ok (data_of ws n index (is_some (phrase_value gives.Becomes ps)) ms) _ t k (λ all i j.
-    subst IsEntry (is_ok (Parameter n index t) e l)
-    (parameter_is w ws name n ps (source (phrase_value gives.Becomes ps) all.1 (phrase_value gives.Default ps)) (is_some (phrase_value gives.Becomes ps)) ms index rows all t f i j)))
+with_data_is : (w : World) (ws : List ℕ) (p : KeyedParameter) (ms : List NamedData) (rows : List Row) (e : Entry) → IsIndex rows p.index → with_data w ws p ms rows ≡ Ok e → IsEntry e
+with_data_is w ws p ms rows e f h =
+    then_ok (fill_table w ws p ms rows) (λ t. Ok (Parameter p.keys p.index t)) e h (λ t k l.
+    then_ok (data_of ws p.keys p.index (is_some (phrase_value is_becomes p.phrases)) ms) _ t k (λ all i j.
+    subst IsEntry (is_ok (Parameter p.keys p.index t) e l)
+    (parameter_is w ws p (source_in p all.1) (is_some (phrase_value is_becomes p.phrases)) ms rows all t f i j)))
 
 bound_parameter_is : (w : World) (ws : List ℕ) (name : Token) (b : Option Braces) (ps : List Phrase) (ms : List NamedData) (e : Entry) → bound_parameter w ws name b ps ms ≡ Ok e → IsEntry e
 bound_parameter_is w ws name b ps ms e h =
-    then_ok (keys_in w b) _ e h (λ k i o.
-    then_ok (index_list (span_or name.span b) k.rows) (with_data w ws name ps ms (key_size b k) k.rows) e o (λ index j l.
-    with_data_is w ws name ps ms (key_size b k) k.rows index e (index_is (span_or name.span b) k.rows index j) l))
+    then_ok (indexing_in w b) _ e h (λ k i o.
+    then_ok (index_list (span_or name.span b) k.rows) (λ index. with_data w ws (keyed name ps k index) ms k.rows) e o (λ index j l.
+    with_data_is w ws (keyed name ps k index) ms k.rows e (index_is (span_or name.span b) k.rows index j) l))
 
 -- ---- worlds
 

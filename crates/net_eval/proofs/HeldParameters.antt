@@ -2,9 +2,9 @@
 use Rattle.std.specs.Prelude.{◌≡◌, ◌||◌, ◌&&◌, ◌+◌, ℕ, Bool, true, false, cond, List, [], ◌∷◌, ◌++◌, length, take, slice_get, nat_lt, nat_le, is_some, Option, None, Some, if◌then◌else◌, Ok, Err}
 use Rattle.std.specs.List.{AllByRecursion, IsDistinct}
 use Rattle.std.proofs.Common.{refl, ap, sym, ◌∙◌, subst}
-use Rattle.net_fault.specs.declared.language.Language.{Language}
-use Rattle.net_fault.specs.declared.language.Language.TheVariants.{Data}
-use Rattle.net_fault.specs.declared.span.Span.{Span}
+use Rattle.net_base.specs.declared.diagnostic.Language.{Language}
+use Rattle.net_base.specs.declared.diagnostic.Language.TheVariants.{Data}
+use Rattle.net_base.specs.declared.diagnostic.Span.{Span}
 use Rattle.net_lex.specs.declared.token.Token.{Token}
 use Rattle.net_sets.specs.declared.member.Member.{Member}
 use Rattle.net_sets.specs.Limits.{tuples_limit}
@@ -12,19 +12,18 @@ use Rattle.net_sets.specs.Operations.{union}
 use Rattle.net_sets.specs.Sets.{Tuple, same_tuple, has, at_key}
 use Rattle.net_sets.proofs.Sames.{tuple_decides}
 use Rattle.net_data.specs.Rows.{points}
-use Rattle.net_tree.specs.Tree.{Phrase}
 use Rattle.net_expr.specs.declared.row.Row.{Row}
 use Rattle.net_expr.specs.Rows.{keys_of}
 use Rattle.net_expr.specs.Worlds.{World, key_count}
 use Rattle.net_expr.proofs.KeysOnce.{union_distinct}
 use Rattle.net_expr.proofs.Walked.{none_there, all_join}
-use Rattle.net_fault.specs.declared.diagnostic.Diagnostic.{Diagnostic}
+use Rattle.net_base.specs.declared.diagnostic.Diagnostic.{Diagnostic}
 use Rattle.net_eval.specs.declared.given.Given.{Given}
 use Rattle.net_eval.specs.declared.given.Given.TheVariants as given
 use Rattle.net_eval.specs.declared.given.NamedData.{NamedData}
-use Rattle.net_eval.specs.BoundParameters.{keys_with, index_list, Source, source_text, source_at, from_source, insert_value, with_key, fit_values, untaken, data_of, valued_by, values}
+use Rattle.net_eval.specs.BoundParameters.{KeyedParameter, placed, keys_with, index_list, Source, source_text, source_at, from_source, insert_value, with_key, fit_values, untaken, data_of, valued_by, values}
 use Rattle.net_eval.specs.Cells.{member_in, tuple_in}
-use Rattle.net_fault.specs.Outcomes.{Outcome, and_then, each}
+use Rattle.net_base.specs.Outcomes.{Outcome, and_then, each}
 use Rattle.net_eval.specs.ParameterValues.{IsParameterOf}
 use Rattle.net_eval.specs.Rows.{Table, Taken, All, with_value, with_row, with_cell, with_group, across, pair_of, with_line, shaped, with_rows, taken, either, with_statement}
 use Rattle.net_eval.specs.SetData.{cut, begins_at, doubled}
@@ -155,12 +154,11 @@ keys_keep w at x index [] t u among h e = subst (IsParameterOf index) (is_ok t u
 keys_keep w at x index (r ∷ rows) t u among h e =
     then_ok (with_key w at x r t) (each (with_key w at x) rows) u e (λ v i k. keys_keep w at x index rows v u among.1 (key_keeps w at x index r t v among.0 h i) k)
 
-values_keep : (w : World) (name : Token) (n : Option ℕ) (ps : List Phrase) (x : Source) (index : List Tuple) (rows : List Row) (said : Taken) (t : Table) → AreAmong index rows → IsSaid index said
-    → values w name n ps x rows said ≡ Ok t → IsParameterOf index t
-values_keep w name n ps x index rows said t among h e =
-    then_ok (each (with_key w name.span x) rows said.0) (valued_by w name n ps x rows said) t e (λ u i k.
-    then_ok (fit_values w name n ps (source_text x.1) (source_at name.span x) said.1 u rows) (λ v. Ok u) t k (λ v j l.
-    subst (IsParameterOf index) (is_ok u t l) (keys_keep w name.span x index rows said.0 u among h i)))
+values_keep : (w : World) (p : KeyedParameter) (x : Source) (rows : List Row) (said : Taken) (t : Table) → AreAmong p.index rows → IsSaid p.index said → values w p x rows said ≡ Ok t → IsParameterOf p.index t
+values_keep w p x rows said t among h e =
+    then_ok (each (with_key w p.name.span x) rows said.0) (valued_by w p x rows said) t e (λ u i k.
+    then_ok (fit_values w p (placed p x said u) rows) (λ v. Ok u) t k (λ v j l.
+    subst (IsParameterOf p.index) (is_ok u t l) (keys_keep w p.name.span x p.index rows said.0 u among h i)))
 
 -- ---- the index list
 
@@ -197,6 +195,6 @@ index_is at rows index e = go _ (nat_le (length (union [] (keys_of rows))) tuple
     go x true i = subst (IsIndex rows) (is_ok (union [] (keys_of rows)) index i) whole
     go x false i = cc
 
-pub parameter_is : (w : World) (widths : List ℕ) (name : Token) (n : Option ℕ) (ps : List Phrase) (x : Source) (a : Bool) (ms : List NamedData) (index : List Tuple) (rows : List Row) (all : All) (t : Table) → IsIndex rows index
-    → data_of widths n index a ms ≡ Ok all → values w name n ps x rows all.0 ≡ Ok t → IsParameterOf index t
-parameter_is w widths name n ps x a ms index rows all t h e k = values_keep w name n ps x index rows all.0 t h.among (said_keeps widths n index a ms all h.once e) k
+pub parameter_is : (w : World) (widths : List ℕ) (p : KeyedParameter) (x : Source) (a : Bool) (ms : List NamedData) (rows : List Row) (all : All) (t : Table) → IsIndex rows p.index
+    → data_of widths p.keys p.index a ms ≡ Ok all → values w p x rows all.0 ≡ Ok t → IsParameterOf p.index t
+parameter_is w widths p x a ms rows all t h e k = values_keep w p x rows all.0 t h.among (said_keeps widths p.keys p.index a ms all h.once e) k

@@ -32,4 +32,6 @@ mod SetRowsSound
 mod SetItems
 mod SoundSets
 mod SoundGivenSets
-mod SoundWorlds
+pub mod SoundWorlds
+pub mod DeclaredKeys
+pub mod FromData

@@ -4,7 +4,7 @@ use Rattle.std.specs.List.{IsDistinct}
 use Rattle.std.proofs.Common.{refl, ap, sym, ◌∙◌, arith}
 use Rattle.std.proofs.lemmas.Bool.Decides.{nat_tests}
 use Rattle.std.proofs.lemmas.List.{length-map, get_or_default, take_all, take_more_same}
-use Rattle.net_fault.specs.declared.span.Span.{Span}
+use Rattle.net_base.specs.declared.diagnostic.Span.{Span}
 use Rattle.net_sets.specs.Limits.{tuples_limit}
 use Rattle.net_sets.specs.Operations.{union}
 use Rattle.net_sets.specs.Sets.{Tuple, same_tuple}
@@ -13,8 +13,8 @@ use Rattle.net_sets.proofs.Unions.{all_last}
 use Rattle.net_expr.specs.declared.row.Row.{Row}
 use Rattle.net_expr.specs.Rows.{keys_of}
 use Rattle.net_eval.specs.BoundParameters.{index_list}
-use Rattle.net_fault.specs.Outcomes.{rejected}
-use Rattle.net_fault.specs.declared.error_code.ErrorCode.TheVariants.{TooMany}
+use Rattle.net_base.specs.Outcomes.{rejected}
+use Rattle.net_base.specs.declared.error_code.ErrorCode.TheVariants.{TooMany}
 
 key_at : (rows : List Row) (i : ℕ) (r : Row) → i < length rows → r ≡ get_or rows i r → get_or (keys_of rows) i [] ≡ r.key
 key_at [] i r h e = absurd (omega arith)

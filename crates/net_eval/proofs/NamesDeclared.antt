@@ -10,7 +10,7 @@ use Rattle.net_data.specs.declared.statement.Statement.{Statement}
 use Rattle.net_data.specs.declared.statement.Statement.TheVariants.{Set, List as Listed, Table, Columns}
 use Rattle.net_tree.specs.Tree.{Declaration, set, param, check, node, arc, objective}
 use Rattle.net_expr.specs.Worlds.{Name}
-use Rattle.net_fault.specs.Outcomes.{and_then, each}
+use Rattle.net_base.specs.Outcomes.{and_then, each}
 use Rattle.net_meaning.specs.OfTrees.{sets_in, params_in, AreDeclared}
 use Rattle.net_meaning.specs.World.{is_set_named, AreNamesIn}
 use Rattle.net_eval.specs.declared.given.NamedData.{NamedData}

@@ -1,11 +1,11 @@
 -- What declared parameters are refused for stands at their phrases and at the data's cells.
-use Rattle.std.specs.Prelude.{ℕ, ◌+◌, Bool, true, false, ◌&&◌, ◌||◌, not, List, [], ◌∷◌, ◌++◌, length, map, take, nat_eq, nat_le, nat_lt, slice_get, is_some, if◌then◌else◌, Option, None, Some, Ok, Err, ℤ, ⊤}
+use Rattle.std.specs.Prelude.{ℕ, ◌+◌, Bool, true, false, ◌&&◌, ◌||◌, List, [], ◌∷◌, length, take, nat_eq, nat_le, nat_lt, slice_get, is_some, if◌then◌else◌, Option, None, Some, ℤ, ⊤}
 use Rattle.std.specs.List.{AllByRecursion}
-use Rattle.net_fault.specs.declared.span.Span.{Span}
-use Rattle.net_fault.specs.declared.detail.Detail.{Detail}
-use Rattle.net_fault.specs.declared.language.Language.{Language}
-use Rattle.net_fault.specs.declared.language.Language.TheVariants.{Model, Data}
-use Rattle.net_fault.specs.Outcomes.{Outcome, and_then, each}
+use Rattle.net_base.specs.declared.diagnostic.Span.{Span}
+use Rattle.net_base.specs.declared.diagnostic.Detail.{Detail}
+use Rattle.net_base.specs.declared.diagnostic.Language.{Language}
+use Rattle.net_base.specs.declared.diagnostic.Language.TheVariants.{Model, Data}
+use Rattle.net_base.specs.Outcomes.{and_then, each}
 use Rattle.net_lex.specs.declared.token.Token.{Token}
 use Rattle.net_sets.specs.Limits.{tuples_limit}
 use Rattle.net_sets.specs.Operations.{union}
@@ -13,9 +13,8 @@ use Rattle.net_sets.specs.Sets.{Tuple, has, at_key}
 use Rattle.net_sets.specs.declared.member.Member.{Member}
 use Rattle.net_data.specs.Rows.{points}
 use Rattle.net_tree.specs.Role.{role_of}
-use Rattle.net_tree.specs.Spans.{span_of, braces_span}
+use Rattle.net_tree.specs.Spans.{span_of}
 use Rattle.net_tree.specs.Tree.{Tree, Braces, Body, plain, valued, priced, Phrase}
-use Rattle.net_expr.specs.declared.row.Keys.{Keys}
 use Rattle.net_expr.specs.declared.row.Row.{Row}
 use Rattle.net_expr.specs.declared.value.Value.{Value}
 use Rattle.net_expr.specs.declared.value.Value.TheVariants.{One}
@@ -29,23 +28,25 @@ use Rattle.net_eval.specs.declared.given.Given.TheVariants as given
 use Rattle.net_eval.specs.declared.given.NamedData.{NamedData}
 use Rattle.net_tree.specs.declared.role.Relation.{Relation}
 use Rattle.net_tree.specs.declared.role.Relation.TheVariants as relations
-use Rattle.net_eval.specs.declared.param.Gives.{Gives as ValueWord}
-use Rattle.net_eval.specs.declared.param.Gives.TheVariants as gives
+use Rattle.net_tree.specs.declared.role.Role.{Role}
+use Rattle.net_tree.specs.Phrases.{is_becomes, is_default}
+use Rattle.net_tree.specs.PhraseValues.{expression_of, phrase_value}
 use Rattle.net_eval.specs.Cells.{tuple_in, member_in}
-use Rattle.net_eval.specs.SetData.{begins_at, whole_groups, cut, leading_size, agrees, doubled}
+use Rattle.net_eval.specs.SetData.{begins_at, cut, leading_size, agrees}
 use Rattle.net_eval.specs.Restrictions.{relation, ordered, compared, related, holding, restricted_by, restricted_in, restricted}
 use Rattle.net_eval.specs.Rows.{Table, Taken, All, with_value, with_row, with_cell, with_group, pair_of, across, with_line, has_two, shaped, with_rows, taken, either, with_statement}
-use Rattle.net_eval.specs.BoundParameters.{is_wanted, body_value, phrase_value, takes_texts, single_key, keys_in, key_size, span_or, index_list, Source, source, source_text, place_in, source_at, member_by, from_source, insert_value, with_key, is_number, cell_of, no_text, fit_kind, keys_with, fit_value, fit_row, fit_values, untaken, data_of, valued_by, values, fill_table, with_data, bound_parameter}
+use Rattle.net_eval.specs.BoundParameters.{KeyedParameter, PlacedValues, placed, keyed, source_in, takes_texts, span_or, index_list, Source, source, source_text, place_in, source_at, member_by, from_source, insert_value, with_key, is_number, cell_of, no_text, fit_kind, keys_with, fit_value, fit_row, fit_values, untaken, data_of, valued_by, values, fill_table, bound_parameter}
 use Rattle.net_sets.specs.Sets.{place_of}
-use Rattle.net_fault.specs.Places.{Places, Finds}
-use Rattle.net_tree.specs.Standing.{Stands, BracesStand, IndexingHasSpans, BodyHasSpans, PhrasesHaveSpans}
-use Rattle.net_fault.proofs.Found.{finds_then, finds_if, finds_each, Gives, gives_then, gives_if, gives_each, gives_after, finds_after}
-use Rattle.net_fault.proofs.Elements.{OfSome, all_take, all_append, all_get}
+use Rattle.net_base.specs.Places.{Places, Finds}
+use Rattle.net_tree.specs.Standing.{Stands, IndexingHasSpans, BodyHasSpans, PhrasesHaveSpans}
+use Rattle.net_base.proofs.Found.{finds_then, finds_if, finds_each, Gives, gives_then, gives_if, gives_each, gives_after, finds_after}
+use Rattle.net_base.proofs.Elements.{OfSome, all_take, all_append, all_get}
 use Rattle.net_expr.proofs.OperatorFaults.{finds_number, finds_same, finds_belongs, finds_member}
 use Rattle.net_expr.proofs.ValueFaults.{whole_stands, braces_stand, finds_value, finds_index}
 use Rattle.net_data.specs.Standing.{TokensHaveSpans}
 use Rattle.net_eval.proofs.NameFaults.{MentionStands, MentionsStand, SaidStands}
-use Rattle.net_eval.proofs.SetFaults.{LinesStand, cut_stands, begins_stands, finds_whole_groups, finds_agrees}
+use Rattle.net_eval.proofs.SetFaults.{cut_stands, begins_stands, finds_whole_groups, finds_agrees}
+use Rattle.net_expr.specs.Indexings.{indexing_in}
 
 -- a source stands where it is written: a tree of the model's, or a token of the data's
 abbrev pub SourceStands : Places → Option Tree → Option Token → Type 0
@@ -170,9 +171,9 @@ module _ (P : Places) where
 
   -- ---- values
 
-  pub finds_keys_in : (w : World) (b : Option Braces) → IndexingHasSpans (P Model) b → Finds P (keys_in w b)
-  finds_keys_in w None h = tt
-  finds_keys_in w (Some b) h = finds_index P w [] b h
+  pub finds_indexing_in : (w : World) (b : Option Braces) → IndexingHasSpans (P Model) b → Finds P (indexing_in w b)
+  finds_indexing_in w None h = tt
+  finds_indexing_in w (Some b) h = finds_then P (index w [] b) _ (finds_index P w [] b h) (λ k. tt)
 
   span_or_stands : (at : Span) → P Model at → (b : Option Braces) → IndexingHasSpans (P Model) b → P Model (span_or at b)
   span_or_stands at h None k = h
@@ -215,37 +216,35 @@ module _ (P : Places) where
   cell_stands cells h None = tt
   cell_stands cells h (Some i) = all_get (P Data) cells i h
 
-  finds_fit_value : (w : World) (name : Token) (n : Option ℕ) (ps : List Phrase) → PhrasesHaveSpans (P Model) ps → (text : Language) (at : Span) → P text at → (cells : List Span) → AllByRecursion (P Data) cells
-      → (t : Table) (r : Row) (m : Option Member) → Finds P (fit_value w name n ps text at cells t r m)
-  finds_fit_value w name n ps h text at k cells j t r None = tt
-  finds_fit_value w name n ps h text at k cells j t r (Some m) =
-      finds_then P (fit_kind (takes_texts ps) text at (cell_of cells (place_of (keys_with t) r.key)) m) _
-      (finds_fit_kind (takes_texts ps) text at k (cell_of cells (place_of (keys_with t) r.key)) (cell_stands cells j (place_of (keys_with t) r.key)) m)
-      (λ u. finds_restricted w r.scope (reference name.text n r.key) m ps h)
+  finds_fit_value : (w : World) (p : KeyedParameter) → PhrasesHaveSpans (P Model) p.phrases → (v : PlacedValues) → P v.text v.at → AllByRecursion (P Data) v.cells → (r : Row) (m : Option Member)
+      → Finds P (fit_value w p v r m)
+  finds_fit_value w p h v k j r None = tt
+  finds_fit_value w p h v k j r (Some m) =
+      finds_then P (fit_kind (takes_texts p.phrases) v.text v.at (cell_of v.cells (place_of (keys_with v.table) r.key)) m) _
+      (finds_fit_kind (takes_texts p.phrases) v.text v.at k (cell_of v.cells (place_of (keys_with v.table) r.key)) (cell_stands v.cells j (place_of (keys_with v.table) r.key)) m)
+      (λ u. finds_restricted w r.scope (reference p.name.text p.keys r.key) m p.phrases h)
 
-  finds_fit_values : (w : World) (name : Token) (n : Option ℕ) (ps : List Phrase) → PhrasesHaveSpans (P Model) ps → (text : Language) (at : Span) → P text at → (cells : List Span) → AllByRecursion (P Data) cells
-      → (t : Table) (rows : List Row) → Finds P (fit_values w name n ps text at cells t rows)
-  finds_fit_values w name n ps h text at k cells j t [] = tt
-  finds_fit_values w name n ps h text at k cells j t (r ∷ rows) =
-      finds_then P (fit_row w name n ps text at cells t r) _ (finds_fit_value w name n ps h text at k cells j t r (at_key t r.key)) (λ u. finds_fit_values w name n ps h text at k cells j t rows)
+  finds_fit_values : (w : World) (p : KeyedParameter) → PhrasesHaveSpans (P Model) p.phrases → (v : PlacedValues) → P v.text v.at → AllByRecursion (P Data) v.cells → (rows : List Row) → Finds P (fit_values w p v rows)
+  finds_fit_values w p h v k j [] = tt
+  finds_fit_values w p h v k j (r ∷ rows) =
+      finds_then P (fit_row w p v r) _ (finds_fit_value w p h v k j r (at_key v.table r.key)) (λ u. finds_fit_values w p h v k j rows)
 
-  finds_values : (w : World) (name : Token) → P Model name.span → (n : Option ℕ) (ps : List Phrase) → PhrasesHaveSpans (P Model) ps → (x : Source) → SourceStands P x.0 x.1 → (rows : List Row) (t : Taken)
-      → TakenStands t → Finds P (values w name n ps x rows t)
-  finds_values w name h n ps k x j rows t m =
-      finds_then P (each (with_key w name.span x) rows t.0) (valued_by w name n ps x rows t) (finds_each P (with_key w name.span x) (finds_with_key w name.span h x j) rows t.0) (λ table.
-      finds_then P (fit_values w name n ps (source_text x.1) (source_at name.span x) t.1 table rows) _
-      (finds_fit_values w name n ps k (source_text x.1) (source_at name.span x) (source_stands name.span h x.0 x.1 j) t.1 m table rows) (λ u. tt))
+  finds_values : (w : World) (p : KeyedParameter) → P Model p.name.span → PhrasesHaveSpans (P Model) p.phrases → (x : Source) → SourceStands P x.0 x.1 → (rows : List Row) (t : Taken) → TakenStands t
+      → Finds P (values w p x rows t)
+  finds_values w p h k x j rows t m =
+      finds_then P (each (with_key w p.name.span x) rows t.0) (valued_by w p x rows t) (finds_each P (with_key w p.name.span x) (finds_with_key w p.name.span h x j) rows t.0) (λ table.
+      finds_then P (fit_values w p (placed p x t table) rows) _ (finds_fit_values w p k (placed p x t table) (source_stands p.name.span h x.0 x.1 j) m rows) (λ u. tt))
 
-  body_stands : (b : Body) → BodyHasSpans (P Model) b → OfSome (Stands (P Model)) (body_value b)
+  body_stands : (b : Body) → BodyHasSpans (P Model) b → OfSome (Stands (P Model)) (expression_of b)
   body_stands plain h = tt
   body_stands (valued x) h = h
   body_stands (priced n x) h = tt
 
-  phrase_stands : (wanted : ValueWord) (ps : List Phrase) → PhrasesHaveSpans (P Model) ps → OfSome (Stands (P Model)) (phrase_value wanted ps)
-  phrase_stands wanted [] h = tt
-  phrase_stands wanted (p ∷ ps) h = go (is_wanted wanted (role_of p.word)) (phrase_stands wanted ps h.2)
+  phrase_stands : (test : Role → Bool) (ps : List Phrase) → PhrasesHaveSpans (P Model) ps → OfSome (Stands (P Model)) (phrase_value test ps)
+  phrase_stands test [] h = tt
+  phrase_stands test (p ∷ ps) h = go (test (role_of p.word)) (phrase_stands test ps h.2)
     where
-      go : (b : Bool) → OfSome (Stands (P Model)) (phrase_value wanted ps) → OfSome (Stands (P Model)) (if b then body_value p.body else phrase_value wanted ps)
+      go : (b : Bool) → OfSome (Stands (P Model)) (phrase_value test ps) → OfSome (Stands (P Model)) (if b then expression_of p.body else phrase_value test ps)
       go true k = body_stands p.body h.1
       go false k = k
 
@@ -256,16 +255,16 @@ module _ (P : Places) where
   chosen_stands None None (Some y) h k j = j
   chosen_stands None None None h k j = tt
 
-  finds_filled : (w : World) (widths : List ℕ) (name : Token) → P Model name.span → (ps : List Phrase) → PhrasesHaveSpans (P Model) ps → (ms : List NamedData) → MentionsStand (P Data) ms
-      → (n : Option ℕ) (rows : List Row) (index : List Tuple) → Finds P (fill_table w widths name ps ms n rows index)
-  finds_filled w widths name h ps k ms j n rows index =
-      finds_after P AllStand (data_of widths n index (is_some (phrase_value gives.Becomes ps)) ms) _ (gives_said_of widths n index (is_some (phrase_value gives.Becomes ps)) ms j) (λ all i.
-      finds_values w name h n ps k (source (phrase_value gives.Becomes ps) all.1 (phrase_value gives.Default ps))
-      (chosen_stands (phrase_value gives.Becomes ps) all.1 (phrase_value gives.Default ps) (phrase_stands gives.Becomes ps k) i.1 (phrase_stands gives.Default ps k)) rows all.0 i.0)
+  finds_filled : (w : World) (widths : List ℕ) (p : KeyedParameter) → P Model p.name.span → PhrasesHaveSpans (P Model) p.phrases → (ms : List NamedData) → MentionsStand (P Data) ms → (rows : List Row)
+      → Finds P (fill_table w widths p ms rows)
+  finds_filled w widths p h k ms j rows =
+      let assigned = phrase_value is_becomes p.phrases in
+      finds_after P AllStand (data_of widths p.keys p.index (is_some assigned) ms) _ (gives_said_of widths p.keys p.index (is_some assigned) ms j) (λ all i.
+      finds_values w p h k (source_in p all.1) (chosen_stands assigned all.1 (phrase_value is_default p.phrases) (phrase_stands is_becomes p.phrases k) i.1 (phrase_stands is_default p.phrases k)) rows all.0 i.0)
 
   pub finds_bound_parameter : (w : World) (widths : List ℕ) (name : Token) → P Model name.span → (b : Option Braces) → IndexingHasSpans (P Model) b → (ps : List Phrase) → PhrasesHaveSpans (P Model) ps
       → (ms : List NamedData) → MentionsStand (P Data) ms → Finds P (bound_parameter w widths name b ps ms)
   finds_bound_parameter w widths name h b g ps k ms j =
-      finds_then P (keys_in w b) _ (finds_keys_in w b g) (λ keys.
-      finds_then P (index_list (span_or name.span b) keys.rows) _ (finds_index_list (span_or name.span b) (span_or_stands name.span h b g) keys.rows) (λ index.
-      finds_then P (fill_table w widths name ps ms (key_size b keys) keys.rows index) _ (finds_filled w widths name h ps k ms j (key_size b keys) keys.rows index) (λ t. tt)))
+      finds_then P (indexing_in w b) _ (finds_indexing_in w b g) (λ i.
+      finds_then P (index_list (span_or name.span b) i.rows) _ (finds_index_list (span_or name.span b) (span_or_stands name.span h b g) i.rows) (λ index.
+      finds_then P (fill_table w widths (keyed name ps i index) ms i.rows) _ (finds_filled w widths (keyed name ps i index) h k ms j i.rows) (λ t. tt)))

@@ -8,7 +8,7 @@ use Rattle.std.proofs.lemmas.List.{take_min, drop_min}
 use Rattle.std.proofs.lemmas.List.Folds.{list_any-append}
 use Rattle.std.proofs.lemmas.Slice.Eq.{bytes_eq-Decides}
 use Rattle.std.proofs.Math.Bool.{and_assoc, or_assoc, or-true, or-false, and-false, and-or_distrib_left, and-or_distrib_right}
-use Rattle.net_fault.specs.declared.span.Span.{Span}
+use Rattle.net_base.specs.declared.diagnostic.Span.{Span}
 use Rattle.net_sets.specs.Limits.{arity_limit, tuples_limit}
 use Rattle.net_sets.specs.Operations.{union, joined_to, product, widest, narrowest}
 use Rattle.net_sets.specs.Sets.{Tuple, same_member, same_tuple, has, added}

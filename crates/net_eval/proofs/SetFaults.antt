@@ -1,9 +1,9 @@
 -- What declared sets are refused for stands at their phrases and in the data's rows.
 use Rattle.std.specs.Prelude.{ℕ, zero, suc, ◌+◌, Bool, true, false, ◌||◌, List, [], ◌∷◌, ◌++◌, length, map, take, drop, filter, nat_eq, nat_le, slice_get, unwrap_or, is_some, codes, if◌then◌else◌, Option, None, Some, Ok, Err, ℤ, ⊤}
 use Rattle.std.specs.List.{AllByRecursion, fold}
-use Rattle.net_fault.specs.declared.span.Span.{Span}
-use Rattle.net_fault.specs.declared.language.Language.TheVariants.{Model, Data}
-use Rattle.net_fault.specs.Outcomes.{Outcome, and_then, each}
+use Rattle.net_base.specs.declared.diagnostic.Span.{Span}
+use Rattle.net_base.specs.declared.diagnostic.Language.TheVariants.{Model, Data}
+use Rattle.net_base.specs.Outcomes.{Outcome, and_then, each}
 use Rattle.net_lex.specs.declared.token.Token.{Token}
 use Rattle.net_sets.specs.Limits.{tuples_limit}
 use Rattle.net_sets.specs.Sets.{Tuple, has, added}
@@ -21,8 +21,7 @@ use Rattle.net_expr.specs.Worlds.{World}
 use Rattle.net_eval.specs.declared.given.Given.{Given}
 use Rattle.net_eval.specs.declared.given.Given.TheVariants as given
 use Rattle.net_eval.specs.declared.given.NamedData.{NamedData}
-use Rattle.net_eval.specs.declared.item.Item.{Item}
-use Rattle.net_eval.specs.declared.item.Rows.{Rows}
+use Rattle.net_eval.specs.SetData.{Item, Rows}
 use Rattle.net_eval.specs.declared.set_phrase.SetWord.{SetWord}
 use Rattle.net_eval.specs.declared.set_phrase.SetWord.TheVariants as words
 use Rattle.net_eval.specs.declared.set_phrase.Claim.{Claim}
@@ -32,10 +31,10 @@ use Rattle.net_eval.specs.SetPhrases.{set_word, is_dimension, dimension, as_set,
 use Rattle.net_eval.specs.SetData.{items_from, items, closed_with, closed, opened, with_item, set_rows, begins_at, all_of_size, without_points, whole_group, whole_groups, cut, leading_size, agrees, given_rows, with_member, with_statement, given_set}
 use Rattle.net_eval.specs.Cells.{tuple_in}
 use Rattle.net_eval.specs.BoundSets.{one_of, is_allowed, allowed, set_of, bound_set}
-use Rattle.net_fault.specs.Places.{Places, Finds}
+use Rattle.net_base.specs.Places.{Places, Finds}
 use Rattle.net_tree.specs.Standing.{Stands, BodyHasSpans, PhrasesHaveSpans}
-use Rattle.net_fault.proofs.Found.{finds_then, finds_if, finds_each, Gives, gives_then, gives_if, gives_after, finds_after, finds_each_of}
-use Rattle.net_fault.proofs.Elements.{OfSome, all_take, all_drop, all_append, all_filter}
+use Rattle.net_base.proofs.Found.{finds_then, finds_if, finds_each, Gives, gives_then, gives_if, gives_after, finds_after, finds_each_of}
+use Rattle.net_base.proofs.Elements.{OfSome, all_take, all_drop, all_append, all_filter}
 use Rattle.net_expr.proofs.ValueFaults.{whole_stands, finds_value}
 use Rattle.net_data.specs.Standing.{TokensHaveSpans}
 use Rattle.net_eval.proofs.NameFaults.{MentionStands, MentionsStand, SaidStands}

@@ -2,7 +2,7 @@
 use Rattle.std.specs.Prelude.{◌≡◌, ◌+◌, ℕ, zero, suc, Bool, true, false, not, cond, List, [], ◌∷◌, ◌++◌, length, take, drop, nat_le, unwrap_or, if◌then◌else◌, codes, Some, Ok}
 use Rattle.std.specs.List.{AllByRecursion, filter, fold}
 use Rattle.std.proofs.Common.{refl, ap, sym, ◌∙◌, subst, arith, append_assoc, append-nil}
-use Rattle.net_fault.specs.declared.span.Span.{Span}
+use Rattle.net_base.specs.declared.diagnostic.Span.{Span}
 use Rattle.net_lex.specs.declared.token.Kind.{Kind}
 use Rattle.net_lex.specs.declared.token.Kind.TheVariants.{Name, Key, Num, Str, Mark, Dot}
 use Rattle.net_lex.specs.declared.token.Token.{Token}
@@ -12,8 +12,7 @@ use Rattle.net_data.specs.Rows as stated
 use Rattle.net_data.specs.Rows.{points, alone_len, inside_len, more_items, first_row, more_rows, set_rows_from}
 use Rattle.net_data.specs.Tests.{stands_for_member, marks, is_member, is_mark, is_comma}
 use Rattle.net_data.proofs.Apart.{member-mark, mark-mark}
-use Rattle.net_eval.specs.declared.item.Item.{Item}
-use Rattle.net_eval.specs.declared.item.Rows.{Rows}
+use Rattle.net_eval.specs.SetData.{Item, Rows}
 use Rattle.net_eval.specs.SetData.{items_from, closed, closed_with, with_item, set_rows, all_of_size}
 use Rattle.net_eval.proofs.RowsTaken.{AreOfSize, sized}
 use Rattle.net_eval.proofs.SetRowsTaken.{takes_members}

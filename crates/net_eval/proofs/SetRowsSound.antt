@@ -16,11 +16,11 @@ use Rattle.net_data.specs.Rows.{points, groups}
 use Rattle.net_sets.specs.Limits.{arity_limit, tuples_limit}
 use Rattle.net_sets.specs.Sets.{Tuple, has}
 use Rattle.net_expr.specs.Worlds.{Name}
-use Rattle.net_expr.proofs.Numerals.{value_is}
-use Rattle.net_fault.specs.declared.error_code.ErrorCode.TheVariants.{TooMany, DoubleValue}
-use Rattle.net_fault.specs.declared.detail.Detail.TheVariants.{Reported}
-use Rattle.net_fault.specs.declared.language.Language.TheVariants.{Data}
-use Rattle.net_fault.specs.Outcomes.{Outcome, and_then, each, rejected_as, rejected_there}
+use Rattle.net_tree.proofs.Numerals.{value_is}
+use Rattle.net_base.specs.declared.error_code.ErrorCode.TheVariants.{TooMany, DoubleValue}
+use Rattle.net_base.specs.declared.diagnostic.Detail.TheVariants.{Reported}
+use Rattle.net_base.specs.declared.diagnostic.Language.TheVariants.{Data}
+use Rattle.net_base.specs.Outcomes.{Outcome, and_then, each, rejected_as, rejected_there}
 use Rattle.net_meaning.specs.World.{IsDataValueOf, IsDataValue, AreDataValues, set_rows_of, is_set_named, count_name, mentions_in, mentions}
 use Rattle.net_eval.specs.declared.given.Given.{Given}
 use Rattle.net_eval.specs.declared.given.Given.TheVariants as given

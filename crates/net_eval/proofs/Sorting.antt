@@ -14,7 +14,7 @@ use Rattle.net_data.specs.declared.statement.Statement.{Statement}
 use Rattle.net_data.specs.declared.statement.Statement.TheVariants.{Set, List as Listed, Table, Columns}
 use Rattle.net_tree.specs.Tree.{Declaration, set, param, check, node, arc, objective}
 use Rattle.net_expr.specs.Worlds.{Name}
-use Rattle.net_fault.specs.Outcomes.{and_then, each}
+use Rattle.net_base.specs.Outcomes.{and_then, each}
 use Rattle.net_eval.specs.declared.given.Given.TheVariants as given
 use Rattle.net_eval.specs.declared.given.NamedData.{NamedData}
 use Rattle.net_eval.specs.Binding.{is_among, AreNew}

@@ -2,23 +2,22 @@
 use Rattle.std.specs.Prelude.{◌≡◌, Bool, true, false, List, [], ◌∷◌, map, Option, None, Some, if◌then◌else◌, Ok, Err}
 use Rattle.std.specs.List.{AllByRecursion}
 use Rattle.std.proofs.Common.{refl, ap, sym, ◌∙◌, subst}
-use Rattle.net_fault.specs.declared.error_code.ErrorCode.TheVariants.{CheckFailed}
-use Rattle.net_fault.specs.declared.detail.Detail.TheVariants.{Nothing}
-use Rattle.net_fault.specs.declared.language.Language.TheVariants.{Model}
-use Rattle.net_fault.specs.declared.span.Span.{Span}
-use Rattle.net_fault.specs.Outcomes.{Outcome, and_then, rejected_as}
+use Rattle.net_base.specs.declared.error_code.ErrorCode.TheVariants.{CheckFailed}
+use Rattle.net_base.specs.declared.diagnostic.Detail.TheVariants.{Nothing}
+use Rattle.net_base.specs.declared.diagnostic.Language.TheVariants.{Model}
+use Rattle.net_base.specs.declared.diagnostic.Span.{Span}
+use Rattle.net_base.specs.Outcomes.{Outcome, and_then, rejected_as}
 use Rattle.net_tree.specs.Spans.{span_of}
 use Rattle.net_tree.specs.Tree.{Tree, Braces}
-use Rattle.net_expr.specs.declared.row.Keys.{Keys}
+use Rattle.net_expr.specs.declared.indexing.Indexing.{Indexing}
 use Rattle.net_expr.specs.declared.row.Row.{Row}
 use Rattle.net_expr.specs.declared.value.Value.{Value}
 use Rattle.net_expr.specs.declared.value.Value.TheVariants as found
 use Rattle.net_expr.specs.Operators.{truth}
 use Rattle.net_expr.specs.SetValues.{HasSets}
-use Rattle.net_expr.specs.Values.{value}
+use Rattle.net_expr.specs.Values.{value, index}
 use Rattle.net_expr.specs.Worlds.{World}
 use Rattle.net_eval.specs.Binding.{judged, hold}
-use Rattle.net_eval.specs.BoundParameters.{single_key, keys_in}
 use Rattle.net_eval.specs.Soundness.{ChecksAreSound}
 use Rattle.net_eval.proofs.RowsTaken.{then_ok, is_ok}
 use Rattle.net_meaning.specs.OfTrees.{IsValue, AreIndexed}
@@ -26,14 +25,17 @@ use Rattle.net_meaning.specs.Laws.{meaning_of}
 use Rattle.net_meaning.specs.Operators.{Truth}
 use Rattle.net_meaning.specs.Values.{Key, env_of}
 use Rattle.net_meaning.proofs.Meaning.{evaluation_is_sound, keys_are_sound}
+use Rattle.net_expr.specs.Indexings.{alone, by_keys, indexing_in}
 
 -- a key of the code as a key of the definitions
 abbrev pub as_key : World → Row → Key
 as_key w r = record { key = r.key; env = env_of w r.scope }
 
-pub keys_are_indexed : (w : World) (b : Option Braces) (k : Keys) → HasSets w → keys_in w b ≡ Ok k → AreIndexed w b (map (as_key w) k.rows)
-keys_are_indexed w None k sets e = sym (ap (λ (z : Keys). map (as_key w) z.rows) (is_ok single_key k e))
-keys_are_indexed w (Some b) k sets e = keys_are_sound w [] b k sets e
+pub keys_are_indexed : (w : World) (b : Option Braces) (i : Indexing) → HasSets w → indexing_in w b ≡ Ok i → AreIndexed w b (map (as_key w) i.rows)
+keys_are_indexed w None i sets e = sym (ap (λ (z : Indexing). map (as_key w) z.rows) (is_ok alone i e))
+keys_are_indexed w (Some b) i sets e =
+    then_ok (index w [] b) (λ k. Ok (by_keys k)) i e (λ k j l.
+    subst (λ (z : Indexing). AreIndexed w (Some b) (map (as_key w) z.rows)) (is_ok (by_keys k) i l) (keys_are_sound w [] b k sets j))
 
 judged_true : (x : Tree) (b : Bool) (u : Unit {0}) → judged x b ≡ Ok u → b ≡ true
 judged_true x true u e = refl
@@ -55,4 +57,4 @@ all_hold w sets x (r ∷ rows) u e =
     (subst (λ z. IsValue (env_of w r.scope) x (meaning_of z)) is (evaluation_is_sound w r.scope x y sets f), all_hold w sets x rows u k))))
 
 pub checks_are_sound : ChecksAreSound
-checks_are_sound w b x sets e = then_ok (keys_in w b) (λ k. hold w x k.rows) tt e (λ k i h. (map (as_key w) k.rows, keys_are_indexed w b k sets i, all_hold w sets x k.rows tt h))
+checks_are_sound w b x sets e = then_ok (indexing_in w b) (λ k. hold w x k.rows) tt e (λ k i h. (map (as_key w) k.rows, keys_are_indexed w b k sets i, all_hold w sets x k.rows tt h))

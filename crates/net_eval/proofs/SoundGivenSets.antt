@@ -3,15 +3,15 @@ use Rattle.std.specs.Prelude.{◌≡◌, ◌+◌, ◌<◌, ℕ, zero, suc, Bool,
 use Rattle.std.specs.List.{AllByRecursion, AllZip, flat_map}
 use Rattle.std.specs.Str.{bytes_eq}
 use Rattle.std.proofs.Common.{refl, ap, sym, ◌∙◌, subst, arith, append-nil}
-use Rattle.net_fault.specs.declared.error_code.ErrorCode.TheVariants.{Arity}
-use Rattle.net_fault.specs.declared.span.Span.{Span}
-use Rattle.net_fault.specs.Outcomes.{rejected_there}
+use Rattle.net_base.specs.declared.error_code.ErrorCode.TheVariants.{Arity}
+use Rattle.net_base.specs.declared.diagnostic.Span.{Span}
+use Rattle.net_base.specs.Outcomes.{rejected_there}
 use Rattle.net_lex.specs.declared.token.Token.{Token}
 use Rattle.net_data.specs.declared.statement.NamedSet.{NamedSet}
 use Rattle.net_data.specs.declared.statement.Statement.{Statement}
 use Rattle.net_data.specs.declared.statement.Statement.TheVariants.{Set as SetStatement, List as Listed, Table, Columns}
 use Rattle.net_data.specs.Meaning as texts
-use Rattle.net_data.specs.Meaning.{AreItems, IsStatement, heading_judged, judged, all_judged}
+use Rattle.net_data.specs.Meaning.{AreItems, IsStatement, judged, all_judged}
 use Rattle.net_data.specs.Rows as stated
 use Rattle.net_data.specs.Rows.{points, groups}
 use Rattle.net_sets.specs.Sets.{Tuple}
@@ -23,7 +23,8 @@ use Rattle.net_expr.specs.declared.world.Entry.TheVariants.{Set}
 use Rattle.net_expr.specs.SetValues.{IsSetOf, HasSets}
 use Rattle.net_expr.specs.Worlds.{Name, World}
 use Rattle.net_expr.proofs.Walked.{all_join}
-use Rattle.net_meaning.specs.OfTrees.{phrase_value, IsSet}
+use Rattle.net_meaning.specs.OfTrees.{IsSet}
+use Rattle.net_tree.specs.PhraseValues.{phrase_value}
 use Rattle.net_meaning.specs.World.{AreDataValues, set_rows_of, AreGivenMembers}
 use Rattle.net_meaning.proofs.Erased.{phrase_value_is}
 use Rattle.net_eval.specs.declared.given.Given.{Given}

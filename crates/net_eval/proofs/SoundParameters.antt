@@ -1,13 +1,12 @@
 -- A parameter that is bound with the data of the statements is the one that AMPL defines.
-use Rattle.std.specs.Prelude.{◌≡◌, ◌⊎◌, ◌+◌, ◌≤◌, ◌||◌, ℕ, Bool, true, false, List, [], ◌∷◌, ◌++◌, length, map, nat_le, is_some, Option, None, Some, if◌then◌else◌, IsTrue, Ok, Err}
-use Rattle.std.specs.List.{AllByRecursion, AllZip, IsDistinct, flat_map}
+use Rattle.std.specs.Prelude.{◌≡◌, ◌⊎◌, ◌+◌, ◌≤◌, ◌||◌, ℕ, Bool, true, false, List, [], ◌∷◌, length, map, nat_le, is_some, Option, None, Some, if◌then◌else◌, Ok, Err}
+use Rattle.std.specs.List.{AllByRecursion, AllZip, IsDistinct}
 use Rattle.std.proofs.Common.{refl, ap, sym, ◌∙◌, subst, arith, inl, inr}
-use Rattle.net_fault.specs.declared.diagnostic.Diagnostic.{Diagnostic}
-use Rattle.net_fault.specs.declared.span.Span.{Span}
-use Rattle.net_fault.specs.Outcomes.{Outcome, and_then, each}
+use Rattle.net_base.specs.declared.diagnostic.Diagnostic.{Diagnostic}
+use Rattle.net_base.specs.declared.diagnostic.Span.{Span}
+use Rattle.net_base.specs.Outcomes.{Outcome, each}
 use Rattle.net_lex.specs.declared.token.Token.{Token}
 use Rattle.net_data.specs.declared.statement.Statement.{Statement}
-use Rattle.net_data.specs.Meaning.{IsStatement}
 use Rattle.net_data.specs.Rows.{Row as DataRow}
 use Rattle.net_sets.specs.declared.member.Member.{Member}
 use Rattle.net_sets.specs.Limits.{tuples_limit}
@@ -16,8 +15,8 @@ use Rattle.net_sets.specs.Sets.{Tuple, same_tuple, has, at_key}
 use Rattle.net_sets.proofs.Sames.{tuple_decides}
 use Rattle.net_tree.specs.Erasure.{indexing, phrase}
 use Rattle.net_tree.specs.Phrases.{is_becomes, is_default}
-use Rattle.net_tree.specs.Tree.{Tree, Braces, Phrase}
-use Rattle.net_expr.specs.declared.row.Keys.{Keys}
+use Rattle.net_tree.specs.Tree.{Braces, Phrase}
+use Rattle.net_expr.specs.declared.indexing.Indexing.{Indexing}
 use Rattle.net_expr.specs.declared.row.Row.{Row}
 use Rattle.net_expr.specs.declared.world.Entry.{Entry}
 use Rattle.net_expr.specs.declared.world.Entry.TheVariants.{Parameter}
@@ -30,12 +29,10 @@ use Rattle.net_expr.proofs.Alike.{AreLong, AreKeys, keys_long}
 use Rattle.net_expr.proofs.Walked.{all_as}
 use Rattle.net_meaning.proofs.Erased.{phrase_none}
 use Rattle.net_eval.specs.declared.given.NamedData.{NamedData}
-use Rattle.net_eval.specs.declared.param.Gives.TheVariants as gives
 use Rattle.net_eval.specs.BoundParameters as bound
-use Rattle.net_eval.specs.BoundParameters.{single_key, keys_in, key_size, span_or, index_list, source, source_text, source_at, with_key, fit_values, untaken, data_of, valued_by, fill_table, with_data, bound_parameter, keys_with}
+use Rattle.net_eval.specs.BoundParameters.{KeyedParameter, placed, keyed, span_or, index_list, source, with_key, fit_values, untaken, data_of, valued_by, fill_table, with_data, bound_parameter, keys_with}
 use Rattle.net_eval.specs.Cells.{tuple_in}
 use Rattle.net_eval.specs.DataFor.{data_for}
-use Rattle.net_eval.specs.DataValues.{HaveValues, NamesNoSet}
 use Rattle.net_eval.specs.Names.{Declared}
 use Rattle.net_eval.specs.ParameterValues.{IsParameterOf, row_value, values_given, default_given, IsValue, IsValueAt}
 use Rattle.net_eval.specs.Rows.{Table, All}
@@ -45,14 +42,16 @@ use Rattle.net_eval.proofs.Products.{has_union}
 use Rattle.net_eval.proofs.RowsTaken.{then_ok, is_ok}
 use Rattle.net_eval.proofs.SoundGroups.{parameter_rows_whole}
 use Rattle.net_eval.proofs.SoundChecks.{as_key, keys_are_indexed}
-use Rattle.net_eval.proofs.SoundRows.{IsMember, all_both, rows_are, defaults_of, defaults_are, mentions_are}
+use Rattle.net_eval.proofs.SoundRows.{IsMember, rows_are, defaults_of, defaults_are, mentions_are}
 use Rattle.net_eval.proofs.SoundTaken.{IsWhole, data_members, default_members, AreAccepted, are_accepted}
-use Rattle.net_eval.proofs.SoundValues.{IsRead, row_read, wants_becomes, wants_default, phrase_is, first_of, default_is, value_is_meant, rows_fit}
+use Rattle.net_eval.proofs.SoundValues.{IsRead, row_read, first_of, default_is, value_is_meant, rows_fit}
 use Rattle.net_eval.proofs.ValuesAt.{keys_once, table_valued, statements_add}
-use Rattle.net_meaning.specs.OfTrees.{phrase_value, AreIndexed, IsParameterValue, IsParameter}
+use Rattle.net_meaning.specs.OfTrees.{IsParameterValue}
+use Rattle.net_tree.specs.PhraseValues.{phrase_value}
 use Rattle.net_meaning.specs.Values.{Key}
 use Rattle.net_meaning.specs.World as world
 use Rattle.net_meaning.specs.World.{AreDataValues, mentions, data_rows, data_defaults}
+use Rattle.net_expr.specs.Indexings.{alone, by_keys, indexing_in}
 
 -- ---- keys
 
@@ -72,17 +71,21 @@ rows_long : (n : ℕ) (rows : List Row) → AreLong n (keys_of rows) → AllByRe
 rows_long n [] h = tt
 rows_long n (r ∷ rows) h = (h.0, rows_long n rows h.1)
 
-lengths_are : (w : World) (b : Option Braces) (k : Keys) → keys_in w b ≡ Ok k → AreLong (key_count (key_size b k)) (keys_of k.rows)
-lengths_are w None k e = subst (λ (z : Keys). AreLong 0 (keys_of z.rows)) (is_ok single_key k e) (refl, tt)
-lengths_are w (Some b) k e = go k.width k.rows (keys_long w [] b k e)
+lengths_are : (w : World) (b : Option Braces) (i : Indexing) → indexing_in w b ≡ Ok i → AreLong (key_count i.count) (keys_of i.rows)
+lengths_are w None i e = subst (λ (z : Indexing). AreLong (key_count z.count) (keys_of z.rows)) (is_ok alone i e) (refl, tt)
+lengths_are w (Some b) i e =
+    then_ok (index w [] b) (λ k. Ok (by_keys k)) i e (λ k j l.
+    subst (λ (z : Indexing). AreLong (key_count z.count) (keys_of z.rows)) (is_ok (by_keys k) i l) (go k.width k.rows (keys_long w [] b k j)))
   where
     go : (d : Option ℕ) (rows : List Row) → AreKeys d rows → AreLong (counted d) (keys_of rows)
     go None rows h = subst (λ (z : List Row). AreLong 1 (keys_of z)) (sym h) tt
     go (Some n) rows h = h
 
-size_is : (b : Option Braces) (k : Keys) → key_size b k ≡ world.key_count (indexing b) (key_count (key_size b k))
-size_is None k = refl
-size_is (Some b) k = refl
+size_is : (w : World) (b : Option Braces) (i : Indexing) → indexing_in w b ≡ Ok i → i.count ≡ world.key_count (indexing b) (key_count i.count)
+size_is w None i e = subst (λ (z : Indexing). z.count ≡ world.key_count (indexing None) (key_count z.count)) (is_ok alone i e) refl
+size_is w (Some b) i e =
+    then_ok (index w [] b) (λ k. Ok (by_keys k)) i e (λ k j l.
+    subst (λ (z : Indexing). z.count ≡ world.key_count (indexing (Some b)) (key_count z.count)) (is_ok (by_keys k) i l) refl)
 
 -- what holds of each tuple holds of one that is there
 has_all : (P : Tuple → Type 0) (ts : List Tuple) (t : Tuple) → AllByRecursion P ts → has ts t ≡ true → P t
@@ -124,32 +127,31 @@ rows_read size keys (r ∷ rows) l h k = (row_read size r h.0 (has_all (λ t. le
 -- ---- the steps of binding
 
 record IsBound (w : World) (ws : List ℕ) (name : Token) (b : Option Braces) (ps : List Phrase) (ms : List NamedData) (x : Entry) : Type 0 where
-  pub keys : Keys
-  pub indexed : keys_in w b ≡ Ok keys
+  pub keys : Indexing
+  pub indexed : indexing_in w b ≡ Ok keys
   pub listed : List Tuple
   pub is_list : index_list (span_or name.span b) keys.rows ≡ Ok listed
   pub all : All
-  pub said : data_of ws (key_size b keys) listed (is_some (bound.phrase_value gives.Becomes ps)) ms ≡ Ok all
+  pub said : data_of ws keys.count listed (is_some (phrase_value is_becomes ps)) ms ≡ Ok all
   pub table : Table
-  pub fill : fill_table w ws name ps ms (key_size b keys) keys.rows listed ≡ Ok table
-  pub holds : bound.values w name (key_size b keys) ps (source (bound.phrase_value gives.Becomes ps) all.1 (bound.phrase_value gives.Default ps)) keys.rows all.0 ≡ Ok table
-  pub entry : x ≡ Parameter (key_size b keys) listed table
+  pub fill : fill_table w ws (keyed name ps keys listed) ms keys.rows ≡ Ok table
+  pub holds : bound.values w (keyed name ps keys listed) (source (phrase_value is_becomes ps) all.1 (phrase_value is_default ps)) keys.rows all.0 ≡ Ok table
+  pub entry : x ≡ Parameter keys.count listed table
 
 binds : (w : World) (ws : List ℕ) (name : Token) (b : Option Braces) (ps : List Phrase) (ms : List NamedData) (x : Entry) → bound_parameter w ws name b ps ms ≡ Ok x → IsBound w ws name b ps ms x
 binds w ws name b ps ms x h =
-    then_ok (keys_in w b) _ x h (λ k i o.
-    then_ok (index_list (span_or name.span b) k.rows) (with_data w ws name ps ms (key_size b k) k.rows) x o (λ index j l.
-    then_ok (fill_table w ws name ps ms (key_size b k) k.rows index) (λ t. Ok (Parameter (key_size b k) index t)) x l (λ t g d.
-    then_ok (data_of ws (key_size b k) index (is_some (bound.phrase_value gives.Becomes ps)) ms)
-    (λ all. bound.values w name (key_size b k) ps (source (bound.phrase_value gives.Becomes ps) all.1 (bound.phrase_value gives.Default ps)) k.rows all.0) t g (λ all p q.
-    record { keys = k; indexed = i; listed = index; is_list = j; all = all; said = p; table = t; fill = g; holds = q; entry = sym (is_ok (Parameter (key_size b k) index t) x d) }))))
+    then_ok (indexing_in w b) _ x h (λ k i o.
+    then_ok (index_list (span_or name.span b) k.rows) (λ index. with_data w ws (keyed name ps k index) ms k.rows) x o (λ index j l.
+    then_ok (fill_table w ws (keyed name ps k index) ms k.rows) (λ t. Ok (Parameter k.count index t)) x l (λ t g d.
+    then_ok (data_of ws k.count index (is_some (phrase_value is_becomes ps)) ms)
+    (λ all. bound.values w (keyed name ps k index) (source (phrase_value is_becomes ps) all.1 (phrase_value is_default ps)) k.rows all.0) t g (λ all p q.
+    record { keys = k; indexed = i; listed = index; is_list = j; all = all; said = p; table = t; fill = g; holds = q; entry = sym (is_ok (Parameter k.count index t) x d) }))))
 
-table_fits : (w : World) (name : Token) (n : Option ℕ) (ps : List Phrase) (x : bound.Source) (rows : List Row) (all : All) (t : Table) → bound.values w name n ps x rows all.0 ≡ Ok t
-    → fit_values w name n ps (source_text x.1) (source_at name.span x) all.0.1 t rows ≡ Ok tt
-table_fits w name n ps x rows all t e =
-    then_ok (each (with_key w name.span x) rows all.0.0) (valued_by w name n ps x rows all.0) t e (λ u i k.
-    then_ok (fit_values w name n ps (source_text x.1) (source_at name.span x) all.0.1 u rows) (λ v. Ok u) t k (λ v j l.
-    subst (λ z. fit_values w name n ps (source_text x.1) (source_at name.span x) all.0.1 z rows ≡ Ok tt) (is_ok u t l) j))
+table_fits : (w : World) (p : KeyedParameter) (x : bound.Source) (rows : List Row) (all : All) (t : Table) → bound.values w p x rows all.0 ≡ Ok t → fit_values w p (placed p x all.0 t) rows ≡ Ok tt
+table_fits w p x rows all t e =
+    then_ok (each (with_key w p.name.span x) rows all.0.0) (valued_by w p x rows all.0) t e (λ u i k.
+    then_ok (fit_values w p (placed p x all.0 u) rows) (λ v. Ok u) t k (λ v j l.
+    subst (λ z. fit_values w p (placed p x all.0 z) rows ≡ Ok tt) (is_ok u t l) j))
 
 -- ---- the parameter
 
@@ -164,15 +166,13 @@ all_valued w sets ss n ps size ms t h k e f [] v = tt
 all_valued w sets ss n ps size ms t h k e f (r ∷ rows) v = (
   value_is_meant w sets ss n ps size r (at_key t r.key) h k
       (subst (λ said. IsValue (at_key said r.key) (bound.from_source w r.scope (source (phrase_value is_becomes ps) (first_of (data_defaults n ss)) (phrase_value is_default ps))) (at_key t r.key)) e
-      (subst (λ c. IsValue (at_key (values_given size ms) r.key) (bound.from_source w r.scope (source (phrase_value is_becomes ps) c (phrase_value is_default ps))) (at_key t r.key)) f
-      (subst (λ d. IsValue (at_key (values_given size ms) r.key) (bound.from_source w r.scope (source (phrase_value is_becomes ps) (default_given ms) d)) (at_key t r.key)) (phrase_is gives.Default is_default wants_default ps)
-      (subst (λ a. IsValue (at_key (values_given size ms) r.key) (bound.from_source w r.scope (source a (default_given ms) (bound.phrase_value gives.Default ps))) (at_key t r.key)) (phrase_is gives.Becomes is_becomes wants_becomes ps) v.0)))),
+      (subst (λ c. IsValue (at_key (values_given size ms) r.key) (bound.from_source w r.scope (source (phrase_value is_becomes ps) c (phrase_value is_default ps))) (at_key t r.key)) f v.0)),
   all_valued w sets ss n ps size ms t h k e f rows v.1,
 )
 
-unassigned : (ps : List Phrase) (ds : Declared) (i : ℕ) (n : Name) (ss : List Statement) → (is_some (bound.phrase_value gives.Becomes ps) ≡ false) ⊎ (data_for ds i n ss ≡ [])
+unassigned : (ps : List Phrase) (ds : Declared) (i : ℕ) (n : Name) (ss : List Statement) → (is_some (phrase_value is_becomes ps) ≡ false) ⊎ (data_for ds i n ss ≡ [])
     → (world.phrase_value is_becomes (map phrase ps) ≡ None) ⊎ (mentions n ss ≡ 0)
-unassigned ps ds i n ss (inl e) = inl (phrase_none is_becomes ps (sym (phrase_is gives.Becomes is_becomes wants_becomes ps) ∙ is_none (bound.phrase_value gives.Becomes ps) e))
+unassigned ps ds i n ss (inl e) = inl (phrase_none is_becomes ps (is_none (phrase_value is_becomes ps) e))
 unassigned ps ds i n ss (inr e) = inr (sym (mentions_are ds i n ss) ∙ ap length e)
 
 one_at_most : (ts : List Token) → length ts + 0 ≤ 1 → length ts ≤ 1
@@ -187,12 +187,13 @@ parameters_are_sound w ws name b ps ds i ss x sets forms numerals no_sets h =
     let n : Name = name.text in
     let ms : List NamedData = data_for ds i n ss in
     let y : IsBound w ws name b ps ms x = binds w ws name b ps ms x h in
-    let count : Option ℕ = key_size b y.keys in
-    let size : ℕ = key_count (key_size b y.keys) in
+    let count : Option ℕ = y.keys.count in
+    let p : KeyedParameter = keyed name ps y.keys y.listed in
+    let size : ℕ = key_count y.keys.count in
     let rows : List DataRow = data_rows size n ss in
     let keys : List Tuple = keys_at w y.keys.rows in
-    let a : Bool = is_some (bound.phrase_value gives.Becomes ps) in
-    let s : bound.Source = source (bound.phrase_value gives.Becomes ps) y.all.1 (bound.phrase_value gives.Default ps) in
+    let a : Bool = is_some (phrase_value is_becomes ps) in
+    let s : bound.Source = source (phrase_value is_becomes ps) y.all.1 (phrase_value is_default ps) in
     let members = data_members ds i n ss forms numerals in
     let accepted : AreAccepted size a None ms = are_accepted ws count y.listed size a ms untaken y.all members y.said in
     let given : values_given size ms ≡ map row_value rows = ap (map row_value) (rows_are ds i size n ss no_sets) in
@@ -202,23 +203,23 @@ parameters_are_sound w ws name b ps ds i ss x sets forms numerals no_sets h =
     let all_in : IsIndex y.keys.rows y.listed = index_is (span_or name.span b) y.keys.rows y.listed y.is_list in
     let reported : IsParameterOf y.listed (map row_value rows) = subst (IsParameterOf y.listed) (adds.values ∙ given) (said_keeps ws count y.listed a ms y.all all_in.once y.said) in
     let reported_in : IsParameterOf (union [] keys) (map row_value rows) = subst (λ l. IsParameterOf l (map row_value rows)) list reported in
-    let held : IsParameterOf (union [] keys) y.table = subst (λ l. IsParameterOf l y.table) list (parameter_is w ws name count ps s a ms y.listed y.keys.rows y.all y.table all_in y.said y.holds) in
+    let held : IsParameterOf (union [] keys) y.table = subst (λ l. IsParameterOf l y.table) list (parameter_is w ws p s a ms y.keys.rows y.all y.table all_in y.said y.holds) in
     let long : AreLong size (keys_of y.keys.rows) = lengths_are w b y.keys y.indexed in
     let within : AllByRecursion (λ t. has keys t ≡ true) (subscripts_of rows) = all_inside (λ t. has keys t ≡ true) rows (in_keys keys (map row_value rows) reported_in.inside) in
     let reads : AllByRecursion IsRead rows =
     rows_read size keys rows (subst (AreLong size) (sym same) long) (subst (AllByRecursion (IsWhole size)) (rows_are ds i size n ss no_sets) accepted.rows) within in
     let tokens : AllByRecursion IsMember (data_defaults n ss) = subst (AllByRecursion IsMember) (defaults_are ds i n ss) (default_members ms members) in
-    let valued = table_valued w ws name ps ms count y.keys.rows y.listed y.table (keys_once w b y.keys sets y.indexed) y.fill in
+    let valued = table_valued w ws p ms y.keys.rows y.table (keys_once w b y.keys sets y.indexed) y.fill in
     record {
       keys = map (as_key w) y.keys.rows;
       size = size;
       table = y.table;
       indexed = keys_are_indexed w b y.keys sets y.indexed;
       lengths = all_keys w (λ (k : Key). length k.key ≡ size) y.keys.rows (rows_long size y.keys.rows long);
-      entry = y.entry ∙ ap (λ l. Parameter count l y.table) list ∙ ap (λ c. Parameter c (union [] keys) y.table) (size_is b y.keys);
+      entry = y.entry ∙ ap (λ l. Parameter count l y.table) list ∙ ap (λ c. Parameter c (union [] keys) y.table) (size_is w b y.keys y.indexed);
       values = all_valued w sets ss n ps size ms y.table reads tokens given (default_is ms ∙ ap first_of (defaults_are ds i n ss)) y.keys.rows valued;
       only = in_keys keys y.table held.inside;
-      fits = rows_fit w sets name count ps (source_text s.1) (source_at name.span s) y.all.0.1 y.table y.keys.rows tt (table_fits w name count ps s y.keys.rows y.all y.table y.holds);
+      fits = rows_fit w sets p (placed p s y.all.0 y.table) y.keys.rows tt (table_fits w p s y.keys.rows y.all y.table y.holds);
       whole = parameter_rows_whole ds i size n ss no_sets accepted.whole;
       subscripts = subscripts_of rows;
       read = all_read rows reads;

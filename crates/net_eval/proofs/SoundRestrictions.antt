@@ -2,11 +2,11 @@
 use Rattle.std.specs.Prelude.{◌≡◌, Bool, true, false, not, List, [], ◌∷◌, Option, None, Some, if◌then◌else◌, Ok, Err, ℤ, int_lt, int_le}
 use Rattle.std.specs.List.{AllByRecursion}
 use Rattle.std.proofs.Common.{refl, ap, sym, ◌∙◌, subst}
-use Rattle.net_fault.specs.declared.error_code.ErrorCode.TheVariants.{Restriction}
-use Rattle.net_fault.specs.declared.detail.Detail.{Detail}
-use Rattle.net_fault.specs.declared.language.Language.TheVariants.{Model}
-use Rattle.net_fault.specs.declared.span.Span.{Span}
-use Rattle.net_fault.specs.Outcomes.{Outcome, and_then, rejected_as}
+use Rattle.net_base.specs.declared.error_code.ErrorCode.TheVariants.{Restriction}
+use Rattle.net_base.specs.declared.diagnostic.Detail.{Detail}
+use Rattle.net_base.specs.declared.diagnostic.Language.TheVariants.{Model}
+use Rattle.net_base.specs.declared.diagnostic.Span.{Span}
+use Rattle.net_base.specs.Outcomes.{Outcome, and_then, rejected_as}
 use Rattle.net_sets.specs.declared.member.Member.{Member}
 use Rattle.net_tree.specs.declared.operator.BinOp.{BinOp}
 use Rattle.net_tree.specs.declared.operator.BinOp.TheVariants as op

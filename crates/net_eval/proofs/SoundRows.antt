@@ -1,17 +1,12 @@
 -- The rows, defaults and mentions that binding reads for a name are those of the data statements, and their tokens have values.
-use Rattle.std.specs.Prelude.{◌≡◌, ◌+◌, ◌≤◌, ◌<◌, ℕ, zero, suc, Bool, true, false, List, [], ◌∷◌, ◌++◌, length, map, take, drop, slice_get, nat_eq, is_some, Option, None, Some, IfSome, if◌then◌else◌, Ok, Err, ℤ}
-use Rattle.std.specs.List.{AllByRecursion, AllZip, flat_map, filter_map, cons_option, zip, list_all}
+use Rattle.std.specs.Prelude.{◌≡◌, ◌+◌, ◌≤◌, ◌<◌, ℕ, zero, suc, Bool, true, false, List, [], ◌∷◌, ◌++◌, length, map, take, drop, slice_get, nat_eq, is_some, Option, None, Some, if◌then◌else◌}
+use Rattle.std.specs.List.{AllByRecursion, flat_map, filter_map, cons_option}
 use Rattle.std.specs.Str.{bytes_eq}
-use Rattle.std.proofs.Common.{refl, ap, sym, ◌∙◌, subst, arith, append_assoc, append-nil, length-append}
-use Rattle.std.proofs.lemmas.Bool.{eqb-true}
+use Rattle.std.proofs.Common.{refl, ap, sym, ◌∙◌, subst, arith, append-nil, length-append}
 use Rattle.std.proofs.lemmas.Grind.{flat_map-append}
-use Rattle.std.proofs.lemmas.List.{length-take-le}
 use Rattle.net_lex.specs.declared.token.Kind.{Kind}
-use Rattle.net_lex.specs.declared.token.Kind.TheVariants.{Name as NameKind, Key, Num, Str, Mark, Dot}
+use Rattle.net_lex.specs.declared.token.Kind.TheVariants.{Num, Dot}
 use Rattle.net_lex.specs.declared.token.Token.{Token}
-use Rattle.net_fault.specs.declared.error_code.ErrorCode.TheVariants.{Arity}
-use Rattle.net_fault.specs.declared.span.Span.{Span}
-use Rattle.net_fault.specs.Outcomes.{Outcome, and_then, rejected_there}
 use Rattle.net_data.specs.declared.statement.ColumnsStatement.{ColumnsStatement}
 use Rattle.net_data.specs.declared.statement.DefaultValue.{DefaultValue}
 use Rattle.net_data.specs.declared.statement.Given.{Given as Cells}
@@ -21,13 +16,11 @@ use Rattle.net_data.specs.declared.statement.Statement.{Statement}
 use Rattle.net_data.specs.declared.statement.Statement.TheVariants.{Set, List as Listed, Table, Columns}
 use Rattle.net_data.specs.declared.statement.TableStatement.{TableStatement}
 use Rattle.net_data.specs.declared.statement.Transposed.{Transposed}
-use Rattle.net_data.specs.Meaning.{IsStatement}
 use Rattle.net_data.specs.Rows.{Row, points, row_of, rows, groups_from, groups, row_across, table_rows}
-use Rattle.net_data.specs.Tests.{is_member, stands_for_member}
 use Rattle.net_sets.specs.declared.member.Member.{Member}
 use Rattle.net_sets.specs.Sets.{Tuple}
 use Rattle.net_expr.specs.Worlds.{Name}
-use Rattle.net_expr.proofs.Numerals.{value_is}
+use Rattle.net_tree.proofs.Numerals.{value_is}
 use Rattle.net_expr.proofs.Walked.{all_join}
 use Rattle.net_meaning.specs.World.{IsDataValueOf, IsDataValue, AreDataValues, rows_at, rows_of, is_set_named, default_token, default_in, count_name, mentions_in, mentions, data_rows, data_defaults}
 use Rattle.net_eval.specs.declared.given.Given.{Given}
@@ -36,13 +29,11 @@ use Rattle.net_eval.specs.declared.given.NamedData.{NamedData}
 use Rattle.net_eval.specs.Cells.{number_or_name, member_of, member_in}
 use Rattle.net_eval.specs.DataByName.{default_word, given_cells, grouped, gridded, named}
 use Rattle.net_eval.specs.DataFor.{leader, headed_for, set_for, data_in, data_for}
-use Rattle.net_eval.specs.DataValues.{HasNumeral, HasValue, HaveValues, NamesNoSet}
+use Rattle.net_eval.specs.DataValues.{HasNumeral, HasValue, NamesNoSet}
 use Rattle.net_eval.specs.Names.{Declared}
 use Rattle.net_eval.specs.ParameterValues.{rows_across, rows_given}
-use Rattle.net_eval.specs.Rows.{pair_of, has_two, shaped}
-use Rattle.net_eval.specs.SetData.{begins_at, without_points, whole_group, whole_groups, cut, leading_size, agrees}
+use Rattle.net_eval.specs.SetData.{cut}
 use Rattle.net_eval.proofs.DataRowsTaken.{cut_is}
-use Rattle.net_eval.proofs.RowsTaken.{then_ok}
 
 -- ---- tokens
 

@@ -4,9 +4,9 @@ use Rattle.std.specs.List.{AllByRecursion, AllZip}
 use Rattle.std.proofs.Common.{refl, ap, sym, ◌∙◌, subst, arith, append_assoc, append-nil}
 use Rattle.std.proofs.lemmas.Bool.{eqb-true}
 use Rattle.std.proofs.lemmas.Int.{ints}
-use Rattle.net_fault.specs.declared.error_code.ErrorCode.TheVariants.{Arity}
-use Rattle.net_fault.specs.declared.span.Span.{Span}
-use Rattle.net_fault.specs.Outcomes.{Outcome, and_then, each, rejected}
+use Rattle.net_base.specs.declared.error_code.ErrorCode.TheVariants.{Arity}
+use Rattle.net_base.specs.declared.diagnostic.Span.{Span}
+use Rattle.net_base.specs.Outcomes.{Outcome, and_then, each, rejected}
 use Rattle.net_sets.specs.declared.member.Member.TheVariants.{Number, Name as Text}
 use Rattle.net_sets.specs.Sets.{Tuple}
 use Rattle.net_tree.specs.declared.role.Begins.TheVariants as begins
@@ -26,7 +26,8 @@ use Rattle.net_expr.specs.SetValues.{IsSetOf, HasSets}
 use Rattle.net_expr.specs.Values.{value}
 use Rattle.net_expr.specs.Worlds.{World}
 use Rattle.net_expr.proofs.SetsGiven.{keeps_sets}
-use Rattle.net_meaning.specs.OfTrees.{IsValue, expression_of, phrase_value, SatisfiesRole}
+use Rattle.net_meaning.specs.OfTrees.{IsValue, SatisfiesRole}
+use Rattle.net_tree.specs.PhraseValues.{expression_of, phrase_value}
 use Rattle.net_meaning.specs.Operators as meant
 use Rattle.net_meaning.specs.Values.{env_of}
 use Rattle.net_meaning.specs.World as world

@@ -8,9 +8,9 @@ use Rattle.std.proofs.lemmas.List.{length-take-le}
 use Rattle.net_lex.specs.declared.token.Kind.{Kind}
 use Rattle.net_lex.specs.declared.token.Kind.TheVariants.{Name as NameKind, Key, Num, Str, Mark, Dot}
 use Rattle.net_lex.specs.declared.token.Token.{Token}
-use Rattle.net_fault.specs.declared.error_code.ErrorCode.TheVariants.{Arity}
-use Rattle.net_fault.specs.declared.span.Span.{Span}
-use Rattle.net_fault.specs.Outcomes.{Outcome, and_then, each, rejected_there}
+use Rattle.net_base.specs.declared.error_code.ErrorCode.TheVariants.{Arity}
+use Rattle.net_base.specs.declared.diagnostic.Span.{Span}
+use Rattle.net_base.specs.Outcomes.{Outcome, and_then, each, rejected_there}
 use Rattle.net_data.specs.declared.statement.DefaultValue.{DefaultValue}
 use Rattle.net_data.specs.declared.statement.Given.{Given as Cells}
 use Rattle.net_data.specs.declared.statement.NamedSet.{NamedSet}

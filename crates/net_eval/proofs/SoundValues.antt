@@ -1,19 +1,20 @@
 -- The value of a bound parameter at a key comes from the source that AMPL defines, and satisfies the parameter's phrases.
-use Rattle.std.specs.Prelude.{◌≡◌, ◌+◌, ◌<◌, ◌≤◌, ◌||◌, ℕ, zero, suc, Bool, true, false, cond, List, [], ◌∷◌, ◌++◌, length, map, take, is_some, Option, None, Some, if◌then◌else◌, Ok, Err}
-use Rattle.std.specs.List.{AllByRecursion, AllZip, Contains, cons_option, list_any}
+use Rattle.std.specs.Prelude.{◌≡◌, ◌||◌, ℕ, suc, Bool, true, false, cond, List, [], ◌∷◌, length, map, take, Option, None, Some, if◌then◌else◌, Ok}
+use Rattle.std.specs.List.{AllByRecursion, Contains, cons_option, list_any}
 use Rattle.std.specs.Option.{ForSome}
 use Rattle.std.proofs.Common.{refl, ap, sym, ◌∙◌, subst, arith}
 use Rattle.std.proofs.lemmas.List.{length-map, length-take, take_all}
-use Rattle.net_fault.specs.declared.language.Language.{Language}
-use Rattle.net_fault.specs.declared.span.Span.{Span}
-use Rattle.net_fault.specs.Outcomes.{Outcome, and_then}
+use Rattle.net_tree.specs.PhraseValues.{phrase_value}
+use Rattle.net_base.specs.declared.diagnostic.Language.{Language}
+use Rattle.net_base.specs.declared.diagnostic.Span.{Span}
+use Rattle.net_base.specs.Outcomes.{and_then}
 use Rattle.net_lex.specs.declared.token.Token.{Token}
 use Rattle.net_data.specs.declared.statement.Statement.{Statement}
 use Rattle.net_data.specs.Rows.{Row as DataRow}
 use Rattle.net_sets.specs.declared.member.Member.{Member}
 use Rattle.net_sets.specs.declared.member.Member.TheVariants as member
 use Rattle.net_sets.specs.Limits.{arity_limit}
-use Rattle.net_sets.specs.Sets.{Tuple, same_tuple, has, at_key, place_of}
+use Rattle.net_sets.specs.Sets.{Tuple, same_tuple, at_key, place_of}
 use Rattle.net_sets.proofs.Sames.{tuple_decides}
 use Rattle.net_tree.specs.declared.role.Begins.TheVariants as begins
 use Rattle.net_tree.specs.declared.role.Role.{Role}
@@ -24,7 +25,7 @@ use Rattle.net_tree.specs.Phrases.{is_becomes, is_default}
 use Rattle.net_tree.specs.Role.{role_of}
 use Rattle.net_tree.specs.Spans.{span_of}
 use Rattle.net_tree.specs.Syntax as forms
-use Rattle.net_tree.specs.Tree.{Tree, Body, plain, valued, priced, Phrase}
+use Rattle.net_tree.specs.Tree.{Tree, Phrase}
 use Rattle.net_expr.specs.declared.row.Row.{Row}
 use Rattle.net_expr.specs.declared.value.Value.{Value}
 use Rattle.net_expr.specs.declared.value.Value.TheVariants as found
@@ -33,20 +34,18 @@ use Rattle.net_expr.specs.SetValues.{HasSets}
 use Rattle.net_expr.specs.Values.{value}
 use Rattle.net_expr.specs.Worlds.{Name, World, Scope, reference}
 use Rattle.net_eval.specs.declared.given.NamedData.{NamedData}
-use Rattle.net_eval.specs.declared.param.Gives.{Gives}
-use Rattle.net_eval.specs.declared.param.Gives.TheVariants as gives
 use Rattle.net_eval.specs.BoundParameters as bound
-use Rattle.net_eval.specs.BoundParameters.{is_wanted, body_value, source, from_source, some, takes_texts, is_number, cell_of, no_text, fit_kind, fit_value, fit_row, fit_values, keys_with}
+use Rattle.net_eval.specs.BoundParameters.{KeyedParameter, PlacedValues, source, from_source, some, takes_texts, cell_of, no_text, fit_kind, fit_value, fit_row, fit_values, keys_with}
 use Rattle.net_eval.specs.Cells.{member_in, tuple_in}
 use Rattle.net_eval.specs.ParameterValues.{row_value, default_given, IsValue}
 use Rattle.net_eval.specs.Restrictions.{restricted}
-use Rattle.net_eval.specs.Rows.{Table, either}
+use Rattle.net_eval.specs.Rows.{either}
 use Rattle.net_eval.proofs.RowsTaken.{then_ok, is_ok}
 use Rattle.net_eval.proofs.SoundChecks.{as_key}
 use Rattle.net_eval.proofs.SoundRestrictions.{restrictions_are_sound}
 use Rattle.net_eval.proofs.SoundRows.{IsMember, value_in, values_in, values_are_in, defaults_of}
 use Rattle.net_eval.proofs.SoundTaken.{IsWhole}
-use Rattle.net_meaning.specs.OfTrees.{IsParameterValue, IsOfKind, expression_of}
+use Rattle.net_meaning.specs.OfTrees.{IsParameterValue, IsOfKind}
 use Rattle.net_meaning.specs.Laws.{meaning_of}
 use Rattle.net_meaning.specs.Operators.{One}
 use Rattle.net_meaning.specs.Values.{Key, env_of}
@@ -57,28 +56,6 @@ use Rattle.net_meaning.proofs.Erased.{phrase_some, phrase_none}
 use Rattle.net_meaning.proofs.Meaning.{evaluation_is_sound}
 
 -- ---- phrases
-
-body_is : (b : Body) → body_value b ≡ expression_of b
-body_is plain = refl
-body_is (valued x) = refl
-body_is (priced n x) = refl
-
-pub wants_becomes : (r : Role) → is_wanted gives.Becomes r ≡ is_becomes r
-wants_becomes roles.Becomes = refl
-wants_becomes _ = refl
-
-pub wants_default : (r : Role) → is_wanted gives.Default r ≡ is_default r
-wants_default (roles.Phrase begins.Default) = refl
-wants_default (roles.Phrase _) = refl
-wants_default _ = refl
-
-pub phrase_is : (g : Gives) (test : Role → Bool) → ((r : Role) → is_wanted g r ≡ test r) → (ps : List Phrase) → bound.phrase_value g ps ≡ trees.phrase_value test ps
-phrase_is g test same [] = refl
-phrase_is g test same (p ∷ ps) = ap (λ b. if b then body_value p.body else bound.phrase_value g ps) (same (role_of p.word)) ∙ go (test (role_of p.word)) (phrase_is g test same ps)
-  where
-    go : (b : Bool) → bound.phrase_value g ps ≡ trees.phrase_value test ps → (if b then body_value p.body else bound.phrase_value g ps) ≡ (if b then expression_of p.body else trees.phrase_value test ps)
-    go true e = body_is p.body
-    go false e = e
 
 symbolic_is : (r : Role) → bound.is_symbolic r ≡ world.is_symbolic_word r
 symbolic_is (roles.Phrase begins.Symbolic) = refl
@@ -175,7 +152,7 @@ expression_given w sets s x found e =
     record { one = m; is = is_ok (Some m) found k; holds = subst (trees.IsValue (env_of w s) x) (member_is (span_of x) v m l) (evaluation_is_sound w s x v sets j) }))
 
 module _ (w : World) (sets : HasSets w) (ss : List Statement) (n : Name) (ps : List Phrase) (size : ℕ) where
-  by_source : (r : Row) (found : Option Member) (a : Option Tree) (ds : List Token) (d : Option Tree) → trees.phrase_value is_becomes ps ≡ a → data_defaults n ss ≡ ds → trees.phrase_value is_default ps ≡ d → AllByRecursion IsMember ds
+  by_source : (r : Row) (found : Option Member) (a : Option Tree) (ds : List Token) (d : Option Tree) → phrase_value is_becomes ps ≡ a → data_defaults n ss ≡ ds → phrase_value is_default ps ≡ d → AllByRecursion IsMember ds
       → HasNoRow size n ss r.key → from_source w r.scope (source a (first_of ds) d) ≡ Ok found → IsParameterValue ss n ps size (as_key w r) found
   by_source r found (Some x) ds d ea eds ed h none e =
       let g = expression_given w sets r.scope x found e in
@@ -191,15 +168,15 @@ module _ (w : World) (sets : HasSets w) (ss : List Statement) (n : Name) (ps : L
   by_row r m a = row a.from m a.there (subst (AreDataValues a.from.keys) (sym a.key_is) a.read.members) (subst (IsDataValue a.from.value) a.value_is a.read.value)
 
   pub value_is_meant : (r : Row) (found : Option Member) → AllByRecursion IsRead (data_rows size n ss) → AllByRecursion IsMember (data_defaults n ss)
-      → IsValue (at_key (map row_value (data_rows size n ss)) r.key) (from_source w r.scope (source (trees.phrase_value is_becomes ps) (first_of (data_defaults n ss)) (trees.phrase_value is_default ps))) found
+      → IsValue (at_key (map row_value (data_rows size n ss)) r.key) (from_source w r.scope (source (phrase_value is_becomes ps) (first_of (data_defaults n ss)) (phrase_value is_default ps))) found
       → IsParameterValue ss n ps size (as_key w r) found
   value_is_meant r found h k v = go (at_key (map row_value (data_rows size n ss)) r.key) refl v
     where
       go : (o : Option Member) → at_key (map row_value (data_rows size n ss)) r.key ≡ o
-          → IsValue o (from_source w r.scope (source (trees.phrase_value is_becomes ps) (first_of (data_defaults n ss)) (trees.phrase_value is_default ps))) found → IsParameterValue ss n ps size (as_key w r) found
+          → IsValue o (from_source w r.scope (source (phrase_value is_becomes ps) (first_of (data_defaults n ss)) (phrase_value is_default ps))) found → IsParameterValue ss n ps size (as_key w r) found
       go (Some m) i e = subst (IsParameterValue ss n ps size (as_key w r)) (sym e) (by_row r m (row_at (data_rows size n ss) r.key m h i))
       go None i e =
-          by_source r found (trees.phrase_value is_becomes ps) (data_defaults n ss) (trees.phrase_value is_default ps) refl refl refl k (no_row (data_rows size n ss) r.key h i) e
+          by_source r found (phrase_value is_becomes ps) (data_defaults n ss) (phrase_value is_default ps) refl refl refl k (no_row (data_rows size n ss) r.key h i) e
 
 -- ---- the phrases of the parameter
 
@@ -212,16 +189,16 @@ kind_is ps text at cell (member.Name t) u e = sym (texts_are ps) ∙ go (takes_t
     go false None i = cc
     go false (Some s) i = cc
 
-pub rows_fit : (w : World) → HasSets w → (name : Token) (n : Option ℕ) (ps : List Phrase) (text : Language) (at : Span) (cells : List Span) (t : Table) (rows : List Row) (u : Unit {0}) → fit_values w name n ps text at cells t rows ≡ Ok u
-    → AllByRecursion (λ (k : Key). ForSome (at_key t k.key) (λ m. AllByRecursion (Fits k.env m) (map erased.phrase ps) × IsOfKind ps m)) (map (as_key w) rows)
-rows_fit w sets name n ps text at cells t [] u e = tt
-rows_fit w sets name n ps text at cells t (r ∷ rows) u e =
-    then_ok (fit_row w name n ps text at cells t r) (λ v. fit_values w name n ps text at cells t rows) u e (λ v i k. (fits v i, rows_fit w sets name n ps text at cells t rows u k))
+pub rows_fit : (w : World) → HasSets w → (p : KeyedParameter) (v : PlacedValues) (rows : List Row) (u : Unit {0}) → fit_values w p v rows ≡ Ok u
+    → AllByRecursion (λ (k : Key). ForSome (at_key v.table k.key) (λ m. AllByRecursion (Fits k.env m) (map erased.phrase p.phrases) × IsOfKind p.phrases m)) (map (as_key w) rows)
+rows_fit w sets p v [] u e = tt
+rows_fit w sets p v (r ∷ rows) u e = then_ok (fit_row w p v r) (λ z. fit_values w p v rows) u e (λ z i k. (fits z i, rows_fit w sets p v rows u k))
   where
-    fit_one : (v : Unit {0}) (m : Member) → fit_value w name n ps text at cells t r (Some m) ≡ Ok v → AllByRecursion (Fits (env_of w r.scope) m) (map erased.phrase ps) × IsOfKind ps m
-    fit_one v m e =
-        then_ok (fit_kind (takes_texts ps) text at (cell_of cells (place_of (keys_with t) r.key)) m) (λ x. restricted w r.scope (reference name.text n r.key) m ps) v e (λ x i k.
-        (restrictions_are_sound w r.scope (reference name.text n r.key) m ps sets k, kind_is ps text at (cell_of cells (place_of (keys_with t) r.key)) m x i))
+    fit_one : (z : Unit {0}) (m : Member) → fit_value w p v r (Some m) ≡ Ok z → AllByRecursion (Fits (env_of w r.scope) m) (map erased.phrase p.phrases) × IsOfKind p.phrases m
+    fit_one z m e =
+        let cell = cell_of v.cells (place_of (keys_with v.table) r.key) in
+        then_ok (fit_kind (takes_texts p.phrases) v.text v.at cell m) (λ x. restricted w r.scope (reference p.name.text p.keys r.key) m p.phrases) z e (λ x i k.
+        (restrictions_are_sound w r.scope (reference p.name.text p.keys r.key) m p.phrases sets k, kind_is p.phrases v.text v.at cell m x i))
 
-    fits : (v : Unit {0}) → fit_row w name n ps text at cells t r ≡ Ok v → ForSome (at_key t r.key) (λ m. AllByRecursion (Fits (env_of w r.scope) m) (map erased.phrase ps) × IsOfKind ps m)
-    fits v e m f = fit_one v m (subst (λ o. fit_value w name n ps text at cells t r o ≡ Ok v) f e)
+    fits : (z : Unit {0}) → fit_row w p v r ≡ Ok z → ForSome (at_key v.table r.key) (λ m. AllByRecursion (Fits (env_of w r.scope) m) (map erased.phrase p.phrases) × IsOfKind p.phrases m)
+    fits z e m f = fit_one z m (subst (λ o. fit_value w p v r o ≡ Ok z) f e)

@@ -2,7 +2,7 @@
 use Rattle.std.specs.Prelude.{◌≡◌, ℕ, ◌+◌, ◌<◌, List, ◌∷◌, length, map, drop, Ok}
 use Rattle.std.proofs.Common.{sym, ap, ◌∙◌, add-one, get_or}
 use Rattle.std.proofs.Math.Seq.{drop-cons}
-use Rattle.net_fault.specs.Outcomes.{Outcome, and_then, each}
+use Rattle.net_base.specs.Outcomes.{Outcome, and_then, each}
 
 item_at : {A : Type 0} (xs : List A) (i : ℕ) (x : A) → i < length xs → x ≡ get_or xs i x → drop i xs ≡ x ∷ drop (i + 1) xs
 item_at xs i x l e = let a = drop-cons xs i x l in let b = add-one i in cc

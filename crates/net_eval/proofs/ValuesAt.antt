@@ -1,21 +1,20 @@
 -- A parameter that is bound has at each key what its data's row gives, or its source.
-use Rattle.std.specs.Prelude.{◌≡◌, ◌+◌, ◌||◌, ◌&&◌, ℕ, Bool, true, false, cond, List, [], ◌∷◌, ◌++◌, length, map, take, slice_get, nat_lt, nat_le, is_some, Option, None, Some, if◌then◌else◌, Ok, Err}
+use Rattle.std.specs.Prelude.{◌≡◌, ◌+◌, ◌||◌, ◌&&◌, ℕ, Bool, true, false, cond, List, [], ◌∷◌, ◌++◌, length, map, take, slice_get, nat_lt, is_some, Option, None, Some, if◌then◌else◌, Ok, Err}
 use Rattle.std.specs.List.{AllByRecursion, IsDistinct, flat_map, zip}
 use Rattle.std.proofs.Common.{refl, ap, sym, ◌∙◌, subst, append_assoc, append-nil}
 use Rattle.std.proofs.lemmas.List.{map-append}
 use Rattle.std.proofs.lemmas.Map.Keys.{IsDistinct-head, IsDistinct-tail, IsDistinct-cons}
-use Rattle.net_fault.specs.declared.language.Language.{Language}
-use Rattle.net_fault.specs.declared.language.Language.TheVariants.{Data}
-use Rattle.net_fault.specs.declared.span.Span.{Span}
+use Rattle.net_base.specs.declared.diagnostic.Language.{Language}
+use Rattle.net_base.specs.declared.diagnostic.Language.TheVariants.{Data}
+use Rattle.net_base.specs.declared.diagnostic.Span.{Span}
 use Rattle.net_lex.specs.declared.token.Token.{Token}
 use Rattle.net_sets.specs.declared.member.Member.{Member}
 use Rattle.net_sets.specs.Limits.{tuples_limit}
-use Rattle.net_sets.specs.Operations.{union}
 use Rattle.net_sets.specs.Sets.{Tuple, same_tuple, has, at_key}
 use Rattle.net_sets.proofs.Sames.{same_itself, same_turned}
 use Rattle.net_data.specs.Rows.{Row as DataRow, points, row_of}
 use Rattle.net_tree.specs.Tree.{Braces, Phrase}
-use Rattle.net_expr.specs.declared.row.Keys.{Keys}
+use Rattle.net_expr.specs.declared.indexing.Indexing.{Indexing}
 use Rattle.net_expr.specs.declared.row.Row.{Row}
 use Rattle.net_expr.specs.declared.world.Entry.{Entry}
 use Rattle.net_expr.specs.declared.world.Entry.TheVariants.{Parameter}
@@ -26,18 +25,20 @@ use Rattle.net_expr.specs.Worlds.{World, key_count}
 use Rattle.net_expr.proofs.KeysOnce.{have_distinct_keys}
 use Rattle.net_expr.proofs.SetsGiven.{keeps_sets}
 use Rattle.net_expr.proofs.Walked.{none_there}
-use Rattle.net_fault.specs.declared.diagnostic.Diagnostic.{Diagnostic}
+use Rattle.net_base.specs.declared.diagnostic.Diagnostic.{Diagnostic}
 use Rattle.net_eval.specs.declared.given.Given.{Given}
 use Rattle.net_eval.specs.declared.given.Given.TheVariants as given
 use Rattle.net_eval.specs.declared.given.NamedData.{NamedData}
-use Rattle.net_eval.specs.declared.param.Gives.TheVariants as gives
-use Rattle.net_eval.specs.BoundParameters.{single_key, keys_in, key_size, span_or, index_list, phrase_value, Source, source, source_text, source_at, from_source, insert_value, with_key, fit_values, untaken, data_of, valued_by, values, fill_table, with_data, bound_parameter}
+use Rattle.net_tree.specs.Phrases.{is_becomes}
+use Rattle.net_tree.specs.PhraseValues.{phrase_value}
+use Rattle.net_eval.specs.BoundParameters.{KeyedParameter, placed, keyed, source_in, span_or, index_list, Source, source, source_text, source_at, from_source, insert_value, with_key, fit_values, untaken, data_of, valued_by, values, fill_table, with_data, bound_parameter}
 use Rattle.net_eval.specs.Cells.{member_in, tuple_in}
-use Rattle.net_fault.specs.Outcomes.{Outcome, and_then, each}
-use Rattle.net_eval.specs.ParameterValues.{rows_across, rows_given, row_value, values_given, default_given, source_of, IsValue, IsValueAt, IsValued}
+use Rattle.net_base.specs.Outcomes.{Outcome, and_then, each}
+use Rattle.net_eval.specs.ParameterValues.{rows_across, rows_given, row_value, values_given, default_given, IsValue, IsValueAt, IsValued}
 use Rattle.net_eval.specs.Rows.{Table, Taken, All, with_value, with_row, with_cell, with_group, across, pair_of, with_line, shaped, with_rows, taken, either, with_statement}
 use Rattle.net_eval.specs.SetData.{cut, begins_at, doubled}
 use Rattle.net_eval.proofs.RowsTaken.{then_ok, is_ok}
+use Rattle.net_expr.specs.Indexings.{alone, by_keys, indexing_in}
 
 -- ---- what data give
 
@@ -242,39 +243,40 @@ keys_filled w at x (r ∷ rows) t u once e =
       others = λ key apart. rest.others key apart.1 ∙ one.others key apart.0;
     })
 
-values_filled : (w : World) (name : Token) (n : Option ℕ) (ps : List Phrase) (x : Source) (rows : List Row) (said : Taken) (t : Table) → IsDistinct same_tuple (keys_of rows) → values w name n ps x rows said ≡ Ok t
-    → AreFilled w x rows said.0 t
-values_filled w name n ps x rows said t once e =
-    then_ok (each (with_key w name.span x) rows said.0) (valued_by w name n ps x rows said) t e (λ u i k.
-    then_ok (fit_values w name n ps (source_text x.1) (source_at name.span x) said.1 u rows) (λ v. Ok u) t k (λ v j l.
-    subst (AreFilled w x rows said.0) (is_ok u t l) (keys_filled w name.span x rows said.0 u once i)))
+values_filled : (w : World) (p : KeyedParameter) (x : Source) (rows : List Row) (said : Taken) (t : Table) → IsDistinct same_tuple (keys_of rows) → values w p x rows said ≡ Ok t → AreFilled w x rows said.0 t
+values_filled w p x rows said t once e =
+    then_ok (each (with_key w p.name.span x) rows said.0) (valued_by w p x rows said) t e (λ u i k.
+    then_ok (fit_values w p (placed p x said u) rows) (λ v. Ok u) t k (λ v j l.
+    subst (AreFilled w x rows said.0) (is_ok u t l) (keys_filled w p.name.span x rows said.0 u once i)))
 
 -- ---- the parameter
 
-pub keys_once : (w : World) (b : Option Braces) (k : Keys) → HasSets w → keys_in w b ≡ Ok k → IsDistinct same_tuple (keys_of k.rows)
-keys_once w None k sets e = subst (λ (z : Keys). IsDistinct same_tuple (keys_of z.rows)) (is_ok single_key k e) (IsDistinct-cons same_tuple [] [] tt none_there)
-keys_once w (Some b) k sets e = have_distinct_keys w [] b k (keeps_sets w sets) e
+pub keys_once : (w : World) (b : Option Braces) (i : Indexing) → HasSets w → indexing_in w b ≡ Ok i → IsDistinct same_tuple (keys_of i.rows)
+keys_once w None i sets e = subst (λ (z : Indexing). IsDistinct same_tuple (keys_of z.rows)) (is_ok alone i e) (IsDistinct-cons same_tuple [] [] tt none_there)
+keys_once w (Some b) i sets e =
+    then_ok (index w [] b) (λ k. Ok (by_keys k)) i e (λ k j l.
+    subst (λ (z : Indexing). IsDistinct same_tuple (keys_of z.rows)) (is_ok (by_keys k) i l) (have_distinct_keys w [] b k (keeps_sets w sets) j))
 
-pub table_valued : (w : World) (ws : List ℕ) (name : Token) (ps : List Phrase) (ms : List NamedData) (n : Option ℕ) (rows : List Row) (index : List Tuple) (t : Table) → IsDistinct same_tuple (keys_of rows)
-    → fill_table w ws name ps ms n rows index ≡ Ok t → AllByRecursion (IsValueAt w ps (values_given (key_count n) ms) ms t) rows
-table_valued w ws name ps ms n rows index t once e =
-    then_ok (data_of ws n index (is_some (phrase_value gives.Becomes ps)) ms) (λ all. values w name n ps (source (phrase_value gives.Becomes ps) all.1 (phrase_value gives.Default ps)) rows all.0) t e (λ all i j.
-    let adds = statements_add ws n index (key_count n) (is_some (phrase_value gives.Becomes ps)) ms untaken all i in
-    let fill_table = values_filled w name n ps (source (phrase_value gives.Becomes ps) all.1 (phrase_value gives.Default ps)) rows all.0 t once j in
+pub table_valued : (w : World) (ws : List ℕ) (p : KeyedParameter) (ms : List NamedData) (rows : List Row) (t : Table) → IsDistinct same_tuple (keys_of rows) → fill_table w ws p ms rows ≡ Ok t
+    → AllByRecursion (IsValueAt w p.phrases (values_given (key_count p.keys) ms) ms t) rows
+table_valued w ws p ms rows t once e =
+    then_ok (data_of ws p.keys p.index (is_some (phrase_value is_becomes p.phrases)) ms) (λ all. values w p (source_in p all.1) rows all.0) t e (λ all i j.
+    let adds = statements_add ws p.keys p.index (key_count p.keys) (is_some (phrase_value is_becomes p.phrases)) ms untaken all i in
+    let fill_table = values_filled w p (source_in p all.1) rows all.0 t once j in
     let by : (given : Table) (x : Source) → Type 0 = λ given x. AllByRecursion (λ (r : Row). IsValue (at_key given r.key) (from_source w r.scope x) (at_key t r.key)) rows in
-    subst (λ x. by (values_given (key_count n) ms) x) (ap (λ c. source (phrase_value gives.Becomes ps) c (phrase_value gives.Default ps)) adds.default)
-    (subst (λ given. by given (source (phrase_value gives.Becomes ps) all.1 (phrase_value gives.Default ps))) adds.values fill_table.each))
+    subst (λ x. by (values_given (key_count p.keys) ms) x) (ap (source_in p) adds.default)
+    (subst (λ given. by given (source_in p all.1)) adds.values fill_table.each))
 
 pub are_valued : (w : World) (ws : List ℕ) (name : Token) (b : Option Braces) (ps : List Phrase) (ms : List NamedData) (e : Entry) → HasSets w → bound_parameter w ws name b ps ms ≡ Ok e → IsValued w b ps ms e
 are_valued w ws name b ps ms e sets h =
-    then_ok (keys_in w b) _ e h (λ k i o.
-    then_ok (index_list (span_or name.span b) k.rows) (with_data w ws name ps ms (key_size b k) k.rows) e o (λ index j l.
-    then_ok (fill_table w ws name ps ms (key_size b k) k.rows index) (λ t. Ok (Parameter (key_size b k) index t)) e l (λ t g d.
+    then_ok (indexing_in w b) _ e h (λ k i o.
+    then_ok (index_list (span_or name.span b) k.rows) (λ index. with_data w ws (keyed name ps k index) ms k.rows) e o (λ index j l.
+    then_ok (fill_table w ws (keyed name ps k index) ms k.rows) (λ t. Ok (Parameter k.count index t)) e l (λ t g d.
     record {
-      keys = k;
+      indexing = k;
       indexed = i;
       index = index;
       table = t;
-      is = sym (is_ok (Parameter (key_size b k) index t) e d);
-      at = table_valued w ws name ps ms (key_size b k) k.rows index t (keys_once w b k sets i) g;
+      is = sym (is_ok (Parameter k.count index t) e d);
+      at = table_valued w ws (keyed name ps k index) ms k.rows t (keys_once w b k sets i) g;
     })))

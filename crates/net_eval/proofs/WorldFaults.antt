@@ -1,8 +1,8 @@
 -- What a model and its data are refused for together stands at their parts.
 use Rattle.std.specs.Prelude.{ℕ, ◌+◌, Bool, true, false, List, [], ◌∷◌, length, slice_index_or, take, Option, None, Some, Ok, Err, ⊤}
 use Rattle.std.specs.List.{AllByRecursion}
-use Rattle.net_fault.specs.declared.language.Language.TheVariants.{Model, Data}
-use Rattle.net_fault.specs.Outcomes.{Outcome, and_then, each}
+use Rattle.net_base.specs.declared.diagnostic.Language.TheVariants.{Model, Data}
+use Rattle.net_base.specs.Outcomes.{Outcome, and_then, each}
 use Rattle.net_tree.specs.Spans.{span_of}
 use Rattle.net_tree.specs.Tree.{Tree, Braces, Declaration, set, param, check, node, arc, objective}
 use Rattle.net_data.specs.declared.statement.Statement.{Statement}
@@ -13,18 +13,19 @@ use Rattle.net_expr.specs.Worlds.{World}
 use Rattle.net_eval.specs.Names.{declared}
 use Rattle.net_eval.specs.DataByName.{Sorted, data_by_name}
 use Rattle.net_eval.specs.BoundSets.{bound_set}
-use Rattle.net_eval.specs.BoundParameters.{keys_in, bound_parameter}
+use Rattle.net_eval.specs.BoundParameters.{bound_parameter}
 use Rattle.net_eval.specs.Binding.{widths, next_data, declare, judged, hold, checked, check_one, after_checks, with_given, world}
-use Rattle.net_fault.specs.Places.{Places, Finds}
+use Rattle.net_base.specs.Places.{Places, Finds}
 use Rattle.net_tree.specs.Standing.{Stands, IndexingHasSpans, DeclarationHasSpans, DeclarationsHaveSpans}
-use Rattle.net_fault.proofs.Found.{finds_then, finds_if, Gives, finds_after}
-use Rattle.net_fault.proofs.Elements.{all_index}
+use Rattle.net_base.proofs.Found.{finds_then, finds_if, Gives, finds_after}
+use Rattle.net_base.proofs.Elements.{all_index}
 use Rattle.net_expr.proofs.OperatorFaults.{finds_truth}
 use Rattle.net_expr.proofs.ValueFaults.{whole_stands, finds_value}
 use Rattle.net_data.specs.Standing.{StatementsHaveSpans}
 use Rattle.net_eval.proofs.NameFaults.{MentionsStand, SortedStands, gives_said}
 use Rattle.net_eval.proofs.SetFaults.{finds_bound_set}
-use Rattle.net_eval.proofs.ParameterFaults.{finds_keys_in, finds_bound_parameter}
+use Rattle.net_eval.proofs.ParameterFaults.{finds_indexing_in, finds_bound_parameter}
+use Rattle.net_expr.specs.Indexings.{indexing_in}
 
 module _ (P : Places) where
   finds_declare : (given : Sorted) → SortedStands (P Data) given → (d : Declaration) → DeclarationHasSpans (P Model) d → (w : World) → Finds P (declare given d w)
@@ -47,7 +48,7 @@ module _ (P : Places) where
       (λ b. finds_if P b _ _ tt (whole_stands (P Model) x h))) (λ u. finds_hold w x h rows)
 
   finds_checked : (w : World) (b : Option Braces) → IndexingHasSpans (P Model) b → (x : Tree) → Stands (P Model) x → Finds P (checked w b x)
-  finds_checked w b h x k = finds_then P (keys_in w b) _ (finds_keys_in P w b h) (λ keys. finds_hold w x k keys.rows)
+  finds_checked w b h x k = finds_then P (indexing_in w b) _ (finds_indexing_in P w b h) (λ i. finds_hold w x k i.rows)
 
   finds_check_one : (w : World) (d : Declaration) → DeclarationHasSpans (P Model) d → (known : ℕ) → Finds P (check_one w d known)
   finds_check_one w (set k n ps e) h known = tt

@@ -2,25 +2,26 @@
 -- evaluated in the world of those before it, and then its checks.
 use Rattle.std.specs.Prelude.{◌≡◌, ℕ, ◌+◌, ◌||◌, Bool, false, List, [], ◌∷◌, ◌++◌, length, map, slice_index_or, take, Option, None, if◌then◌else◌, Ok}
 use Rattle.std.specs.Str.{bytes_eq}
-use Rattle.net_fault.specs.declared.language.Language.TheVariants.{Model}
+use Rattle.net_base.specs.declared.diagnostic.Language.TheVariants.{Model}
 use Rattle.net_lex.specs.declared.token.Token.{Token}
 use Rattle.net_data.specs.declared.statement.Statement.{Statement}
 use Rattle.net_tree.specs.Spans.{span_of}
 use Rattle.net_tree.specs.Tree.{Tree, Braces, Declaration, set, param, check, node, arc, objective}
-use Rattle.net_fault.specs.declared.detail.Detail.TheVariants.{Nothing}
+use Rattle.net_base.specs.declared.diagnostic.Detail.TheVariants.{Nothing}
 use Rattle.net_expr.specs.declared.row.Row.{Row}
 use Rattle.net_expr.specs.declared.world.Entry.{Entry}
 use Rattle.net_expr.specs.declared.world.Entry.TheVariants.{Set, Parameter}
 use Rattle.net_expr.specs.Operators.{truth}
 use Rattle.net_expr.specs.Values.{value}
 use Rattle.net_expr.specs.Worlds.{Name, World, key_count, entry_of}
-use Rattle.net_fault.specs.declared.error_code.ErrorCode.TheVariants.{CheckFailed}
-use Rattle.net_fault.specs.Outcomes.{Outcome, and_then, each, rejected_as}
+use Rattle.net_base.specs.declared.error_code.ErrorCode.TheVariants.{CheckFailed}
+use Rattle.net_base.specs.Outcomes.{Outcome, and_then, each, rejected_as}
 use Rattle.net_eval.specs.declared.given.NamedData.{NamedData}
 use Rattle.net_eval.specs.Names.{declared}
 use Rattle.net_eval.specs.DataByName.{Sorted, data_by_name}
 use Rattle.net_eval.specs.BoundSets.{bound_set}
-use Rattle.net_eval.specs.BoundParameters.{keys_in, bound_parameter}
+use Rattle.net_expr.specs.Indexings.{indexing_in}
+use Rattle.net_eval.specs.BoundParameters.{bound_parameter}
 
 -- the number of members of a parameter's keys or a set's tuples
 abbrev pub width_of : Entry → ℕ
@@ -55,7 +56,7 @@ hold w x [] = Ok tt
 hold w x (r ∷ rows) = and_then (and_then (and_then (value w r.scope x) (truth (span_of x))) (judged x)) (λ u. hold w x rows)
 
 abbrev pub checked : World → Option Braces → Tree → Outcome (Unit {0})
-checked w b x = and_then (keys_in w b) (λ k. hold w x k.rows)
+checked w b x = and_then (indexing_in w b) (λ i. hold w x i.rows)
 
 -- the checks, each in the world of the sets and parameters before it
 abbrev pub check_one : World → Declaration → ℕ → Outcome ℕ

@@ -1,9 +1,9 @@
 -- A declared parameter: its index set, its data, its value at each key, and the restrictions of its
 -- phrases.
 use Rattle.std.specs.Prelude.{ℕ, Bool, true, false, ◌||◌, List, [], ◌∷◌, length, map, nat_le, slice_get, is_some, Option, None, Some, if◌then◌else◌, Ok}
-use Rattle.net_fault.specs.declared.language.Language.{Language}
-use Rattle.net_fault.specs.declared.language.Language.TheVariants.{Model, Data}
-use Rattle.net_fault.specs.declared.span.Span.{Span}
+use Rattle.net_base.specs.declared.diagnostic.Language.{Language}
+use Rattle.net_base.specs.declared.diagnostic.Language.TheVariants.{Model, Data}
+use Rattle.net_base.specs.declared.diagnostic.Span.{Span}
 use Rattle.net_lex.specs.declared.token.Token.{Token}
 use Rattle.net_sets.specs.declared.member.Member.{Member}
 use Rattle.net_sets.specs.declared.member.Member.TheVariants.{Number, Name}
@@ -13,49 +13,27 @@ use Rattle.net_sets.specs.Sets.{Tuple, at_key, place_of}
 use Rattle.net_tree.specs.declared.role.Begins.TheVariants as begins
 use Rattle.net_tree.specs.declared.role.Role.{Role}
 use Rattle.net_tree.specs.declared.role.Role.TheVariants as roles
-use Rattle.net_tree.specs.declared.expr.Expr.{Expr}
-use Rattle.net_tree.specs.View.{tree}
 use Rattle.net_tree.specs.Role.{role_of}
+use Rattle.net_tree.specs.Phrases.{is_becomes, is_default}
+use Rattle.net_tree.specs.PhraseValues.{phrase_value}
 use Rattle.net_tree.specs.Spans.{span_of, braces_span}
-use Rattle.net_tree.specs.Tree.{Tree, Braces, Body, plain, valued, priced, Phrase}
-use Rattle.net_fault.specs.declared.detail.Detail.TheVariants.{Nothing}
-use Rattle.net_fault.specs.declared.error_code.ErrorCode.TheVariants.{KindMismatch, TooMany}
+use Rattle.net_tree.specs.Tree.{Tree, Braces, Phrase}
+use Rattle.net_base.specs.declared.diagnostic.Detail.TheVariants.{Nothing}
+use Rattle.net_base.specs.declared.error_code.ErrorCode.TheVariants.{KindMismatch, TooMany}
 use Rattle.net_expr.specs.declared.row.Row.{Row}
-use Rattle.net_expr.specs.declared.row.Keys.{Keys}
+use Rattle.net_expr.specs.declared.indexing.Indexing.{Indexing}
 use Rattle.net_expr.specs.declared.world.Entry.{Entry}
 use Rattle.net_expr.specs.declared.world.Entry.TheVariants.{Parameter}
 use Rattle.net_expr.specs.Operators.{member}
 use Rattle.net_expr.specs.Rows.{keys_of}
-use Rattle.net_expr.specs.Sets.{counted}
-use Rattle.net_expr.specs.Values.{value, index}
+use Rattle.net_expr.specs.Indexings.{indexing_in}
+use Rattle.net_expr.specs.Values.{value}
 use Rattle.net_expr.specs.Worlds.{World, Scope, key_count, reference}
 use Rattle.net_eval.specs.declared.given.NamedData.{NamedData}
-use Rattle.net_eval.specs.declared.param.Gives.{Gives}
-use Rattle.net_eval.specs.declared.param.Gives.TheVariants as gives
 use Rattle.net_eval.specs.Cells.{member_in}
-use Rattle.net_fault.specs.Outcomes.{Outcome, and_then, each, rejected, rejected_as}
+use Rattle.net_base.specs.Outcomes.{Outcome, and_then, each, rejected, rejected_as}
 use Rattle.net_eval.specs.Restrictions.{restricted}
 use Rattle.net_eval.specs.Rows.{Table, Taken, All, with_value, with_statement}
-
-abbrev pub is_wanted : Gives → Role → Bool
-is_wanted gives.Becomes roles.Becomes = true
-is_wanted gives.Default (roles.Phrase begins.Default) = true
-is_wanted _ _ = false
-
-abbrev pub body_value : Body → Option Tree
-body_value plain = None
-body_value (valued x) = Some x
-body_value (priced n x) = None
-
--- the expression of the first phrase with this keyword
-abbrev pub phrase_value : Gives → List Phrase → Option Tree
-phrase_value wanted [] = None
-phrase_value wanted (p ∷ ps) = if is_wanted wanted (role_of p.word) then body_value p.body else phrase_value wanted ps
-
--- the tree of an expression, if there is one
-abbrev pub as_tree : Option Expr → Option Tree
-as_tree None = None
-as_tree (Some x) = Some (tree x)
 
 abbrev pub is_symbolic : Role → Bool
 is_symbolic (roles.Phrase begins.Symbolic) = true
@@ -65,20 +43,6 @@ is_symbolic _ = false
 abbrev pub takes_texts : List Phrase → Bool
 takes_texts [] = false
 takes_texts (p ∷ ps) = is_symbolic (role_of p.word) || takes_texts ps
-
--- a single empty key, for a parameter without indexing
-abbrev pub single_key : Keys
-single_key = record { width = None; rows = (record { key = []; scope = [] }) ∷ [] }
-
--- the keys of an indexing expression
-abbrev pub keys_in : World → Option Braces → Outcome Keys
-keys_in w None = Ok single_key
-keys_in w (Some b) = (index w [] b)
-
--- the number of members of a key, or None without indexing
-abbrev pub key_size : Option Braces → Keys → Option ℕ
-key_size None k = None
-key_size (Some b) k = Some (counted k.width)
 
 abbrev pub span_or : Span → Option Braces → Span
 span_or at None = at
@@ -151,19 +115,35 @@ fit_kind texts text at cell m = if texts || is_number m then Ok tt else no_text 
 abbrev pub keys_with : Table → List Tuple
 keys_with t = map (λ (e : Tuple × Member). e.0) t
 
-abbrev pub fit_value : World → Token → Option ℕ → List Phrase → Language → Span → List Span → Table → Row → Option Member → Outcome (Unit {0})
-fit_value w name n ps text at cells t r None = Ok tt
-fit_value w name n ps text at cells t r (Some m) =
-    and_then (fit_kind (takes_texts ps) text at (cell_of cells (place_of (keys_with t) r.key)) m) (λ u.
-    restricted w r.scope (reference name.text n r.key) m ps)
+-- a declared parameter: its name, the number of members of its keys (none without indexing), its
+-- index set and its phrases
+pub record KeyedParameter : Type 0 where
+  pub name : Token
+  pub keys : Option ℕ
+  pub index : List Tuple
+  pub phrases : List Phrase
 
-abbrev pub fit_row : World → Token → Option ℕ → List Phrase → Language → Span → List Span → Table → Row → Outcome (Unit {0})
-fit_row w name n ps text at cells t r = fit_value w name n ps text at cells t r (at_key t r.key)
+-- values with their origins: first those from these cells of the data, row by row, then those from
+-- the source in this file and at this span
+pub record PlacedValues : Type 0 where
+  pub table : Table
+  pub cells : List Span
+  pub text : Language
+  pub at : Span
+
+abbrev pub fit_value : World → KeyedParameter → PlacedValues → Row → Option Member → Outcome (Unit {0})
+fit_value w p v r None = Ok tt
+fit_value w p v r (Some m) =
+    and_then (fit_kind (takes_texts p.phrases) v.text v.at (cell_of v.cells (place_of (keys_with v.table) r.key)) m) (λ u.
+    restricted w r.scope (reference p.name.text p.keys r.key) m p.phrases)
+
+abbrev pub fit_row : World → KeyedParameter → PlacedValues → Row → Outcome (Unit {0})
+fit_row w p v r = fit_value w p v r (at_key v.table r.key)
 
 -- checks each value, in the order of the index set
-abbrev pub fit_values : World → Token → Option ℕ → List Phrase → Language → Span → List Span → Table → List Row → Outcome (Unit {0})
-fit_values w name n ps text at cells t [] = Ok tt
-fit_values w name n ps text at cells t (r ∷ rows) = and_then (fit_row w name n ps text at cells t r) (λ u. fit_values w name n ps text at cells t rows)
+abbrev pub fit_values : World → KeyedParameter → PlacedValues → List Row → Outcome (Unit {0})
+fit_values w p v [] = Ok tt
+fit_values w p v (r ∷ rows) = and_then (fit_row w p v r) (λ u. fit_values w p v rows)
 
 abbrev pub untaken : All
 untaken = (([], []), None)
@@ -172,22 +152,32 @@ untaken = (([], []), None)
 abbrev pub data_of : List ℕ → Option ℕ → List Tuple → Bool → List NamedData → Outcome All
 data_of widths n index is_assigned ms = each (with_statement widths n index (key_count n) is_assigned) ms untaken
 
--- fills in missing values, then checks all values
-abbrev pub valued_by : World → Token → Option ℕ → List Phrase → Source → List Row → Taken → Table → Outcome Table
-valued_by w name n ps x rows taken t = and_then (fit_values w name n ps (source_text x.1) (source_at name.span x) taken.1 t rows) (λ u. Ok t)
+-- the values of a table after the data and the source were read
+abbrev pub placed : KeyedParameter → Source → Taken → Table → PlacedValues
+placed p x taken t = record { table = t; cells = taken.1; text = source_text x.1; at = source_at p.name.span x }
 
-abbrev pub values : World → Token → Option ℕ → List Phrase → Source → List Row → Taken → Outcome Table
-values w name n ps x rows taken = and_then (each (with_key w name.span x) rows taken.0) (valued_by w name n ps x rows taken)
+-- fills in missing values, then checks all values
+abbrev pub valued_by : World → KeyedParameter → Source → List Row → Taken → Table → Outcome Table
+valued_by w p x rows taken t = and_then (fit_values w p (placed p x taken t) rows) (λ u. Ok t)
+
+abbrev pub values : World → KeyedParameter → Source → List Row → Taken → Outcome Table
+values w p x rows taken = and_then (each (with_key w p.name.span x) rows taken.0) (valued_by w p x rows taken)
+
+-- the source of a parameter with this default in the data
+abbrev pub source_in : KeyedParameter → Option Token → Source
+source_in p default = source (phrase_value is_becomes p.phrases) default (phrase_value is_default p.phrases)
 
 -- the table: the values from the data, then the missing values
-abbrev pub fill_table : World → List ℕ → Token → List Phrase → List NamedData → Option ℕ → List Row → List Tuple → Outcome Table
-fill_table w widths name ps ms n rows index =
-    and_then (data_of widths n index (is_some (phrase_value gives.Becomes ps)) ms) (λ all.
-    values w name n ps (source (phrase_value gives.Becomes ps) all.1 (phrase_value gives.Default ps)) rows all.0)
+abbrev pub fill_table : World → List ℕ → KeyedParameter → List NamedData → List Row → Outcome Table
+fill_table w widths p ms rows =
+    and_then (data_of widths p.keys p.index (is_some (phrase_value is_becomes p.phrases)) ms) (λ all. values w p (source_in p all.1) rows all.0)
 
-abbrev pub with_data : World → List ℕ → Token → List Phrase → List NamedData → Option ℕ → List Row → List Tuple → Outcome Entry
-with_data w widths name ps ms n rows index = and_then (fill_table w widths name ps ms n rows index) (λ t. Ok (Parameter n index t))
+abbrev pub with_data : World → List ℕ → KeyedParameter → List NamedData → List Row → Outcome Entry
+with_data w widths p ms rows = and_then (fill_table w widths p ms rows) (λ t. Ok (Parameter p.keys p.index t))
+
+abbrev pub keyed : Token → List Phrase → Indexing → List Tuple → KeyedParameter
+keyed name ps i index = record { name = name; keys = i.count; index = index; phrases = ps }
 
 abbrev pub bound_parameter : World → List ℕ → Token → Option Braces → List Phrase → List NamedData → Outcome Entry
 bound_parameter w widths name b ps ms =
-    and_then (keys_in w b) (λ k. and_then (index_list (span_or name.span b) k.rows) (λ index. with_data w widths name ps ms (key_size b k) k.rows index))
+    and_then (indexing_in w b) (λ i. and_then (index_list (span_or name.span b) i.rows) (λ index. with_data w widths (keyed name ps i index) ms i.rows))

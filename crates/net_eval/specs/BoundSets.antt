@@ -1,12 +1,12 @@
 -- A declared set: its phrases, then its data, then its value.
 use Rattle.std.specs.Prelude.{ℕ, Bool, true, List, [], ◌∷◌, is_some, unwrap_or, Option, None, Some, if◌then◌else◌, Ok}
-use Rattle.net_fault.specs.declared.language.Language.TheVariants.{Model}
+use Rattle.net_base.specs.declared.diagnostic.Language.TheVariants.{Model}
 use Rattle.net_lex.specs.declared.token.Token.{Token}
 use Rattle.net_sets.specs.Operations.{is_within}
 use Rattle.net_sets.specs.Sets.{Tuple}
 use Rattle.net_tree.specs.Tree.{Phrase}
-use Rattle.net_fault.specs.declared.detail.Detail.TheVariants.{Reported}
-use Rattle.net_fault.specs.declared.error_code.ErrorCode.TheVariants.{NoValue, Restriction}
+use Rattle.net_base.specs.declared.diagnostic.Detail.TheVariants.{Reported}
+use Rattle.net_base.specs.declared.error_code.ErrorCode.TheVariants.{NoValue, Restriction}
 use Rattle.net_expr.specs.declared.world.Entry.{Entry}
 use Rattle.net_expr.specs.declared.world.Entry.TheVariants.{Set}
 use Rattle.net_expr.specs.Worlds.{World}
@@ -15,7 +15,7 @@ use Rattle.net_eval.specs.declared.set_phrase.Claim.{Claim}
 use Rattle.net_eval.specs.declared.set_phrase.Claim.TheVariants as claims
 use Rattle.net_eval.specs.declared.set_phrase.SetPhrase.{SetPhrase}
 use Rattle.net_eval.specs.declared.set_phrase.Claims.{Claims}
-use Rattle.net_fault.specs.Outcomes.{Outcome, and_then, rejected_as}
+use Rattle.net_base.specs.Outcomes.{Outcome, and_then, rejected_as}
 use Rattle.net_eval.specs.SetPhrases.{set_phrases, assigned}
 use Rattle.net_eval.specs.SetData.{given_set}
 

@@ -8,8 +8,9 @@ use Rattle.net_sets.specs.declared.member.Member.TheVariants.{Number, Name}
 use Rattle.net_sets.specs.Limits.{arity_limit}
 use Rattle.net_sets.specs.Sets.{Tuple}
 use Rattle.net_sets.specs.Texts.{text_of}
-use Rattle.net_expr.specs.Numbers.{number_in}
+use Rattle.net_tree.specs.Numerals.{number_in}
 
+-- each numeral of a text has a number (`numerals_have_numbers` of net_tree)
 abbrev pub number_or_name : List ℕ → Option ℤ → Member
 number_or_name text None = Name (text_of text)
 number_or_name text (Some n) = Number n
@@ -18,7 +19,7 @@ abbrev pub member_of : Kind → List ℕ → Member
 member_of Num text = number_or_name text (number_in text)
 member_of _ text = Name (text_of text)
 
--- a number, or the text of a name or a string; each numeral in a data file has an integer value
+-- a number, or the text of a name or a string
 unfoldable pub member_in : Token → Member
 member_in t = member_of t.kind t.text
 

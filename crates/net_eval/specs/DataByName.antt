@@ -10,7 +10,7 @@ use Rattle.net_data.specs.declared.statement.Statement.TheVariants.{Set, List as
 use Rattle.net_eval.specs.declared.given.Given.{Given}
 use Rattle.net_eval.specs.declared.given.Given.TheVariants as given
 use Rattle.net_eval.specs.declared.given.NamedData.{NamedData}
-use Rattle.net_fault.specs.Outcomes.{Outcome, and_then, each}
+use Rattle.net_base.specs.Outcomes.{Outcome, and_then, each}
 use Rattle.net_eval.specs.Names.{Declared, target}
 
 -- for each declared name, in order, its data
@@ -32,20 +32,6 @@ default_word (Some d) = Some d.value
 abbrev pub given_cells : Option Cells → List Token
 given_cells None = []
 given_cells (Some g) = g.cells
-
--- the names in a heading: the columns of a table, or the names of several parameters
-abbrev pub heading : Statement → List Token
-heading (Set s) = []
-heading (Listed l) = []
-heading (Table t) = t.columns
-heading (Columns c) = c.names
-
--- the cells of a statement
-abbrev pub body : Statement → List Token
-body (Set s) = []
-body (Listed l) = given_cells l.given
-body (Table t) = t.cells
-body (Columns c) = c.cells
 
 -- groups of a key and values; the value with index `place` is used
 abbrev pub grouped : (leader values place : ℕ) → List Token → Given

@@ -12,7 +12,7 @@ use Rattle.net_data.specs.Rows as stated
 use Rattle.net_data.specs.Rows.{Row, rows, key_rows}
 use Rattle.net_data.specs.Tests.{is_mark}
 use Rattle.net_eval.specs.DataByName.{grouped, gridded, given_cells}
-use Rattle.net_fault.specs.Outcomes.{Outcome, each}
+use Rattle.net_base.specs.Outcomes.{Outcome, each}
 use Rattle.net_eval.specs.Rows.{Taken, with_row, with_rows}
 use Rattle.net_eval.specs.SetData.{set_rows, cut}
 

@@ -11,8 +11,11 @@ pub mod Rows
 pub mod DataRows
 pub mod Restrictions
 pub mod BoundParameters
+pub mod ParameterViews
 pub mod ParameterValues
 pub mod Binding
 pub mod DataFor
 pub mod DataValues
 pub mod Soundness
+pub mod FromData
+pub mod DeclaredKeys

@@ -1,13 +1,13 @@
 -- The sets and parameters that a model declares, and how data refer to them.
 use Rattle.std.specs.Prelude.{ℕ, ◌+◌, Bool, true, false, List, [], ◌∷◌, Option, None, Some, if◌then◌else◌, Ok}
 use Rattle.std.specs.Str.{bytes_eq}
-use Rattle.net_fault.specs.declared.language.Language.TheVariants.{Data}
+use Rattle.net_base.specs.declared.diagnostic.Language.TheVariants.{Data}
 use Rattle.net_lex.specs.declared.token.Token.{Token}
-use Rattle.net_fault.specs.declared.detail.Detail.TheVariants.{Reported}
+use Rattle.net_base.specs.declared.diagnostic.Detail.TheVariants.{Reported}
 use Rattle.net_expr.specs.Worlds.{Name}
 use Rattle.net_tree.specs.Tree.{Declaration, set, param, check, node, arc, objective}
-use Rattle.net_fault.specs.declared.error_code.ErrorCode.TheVariants.{NoSuchName}
-use Rattle.net_fault.specs.Outcomes.{Outcome, rejected_as}
+use Rattle.net_base.specs.declared.error_code.ErrorCode.TheVariants.{NoSuchName}
+use Rattle.net_base.specs.Outcomes.{Outcome, rejected_as}
 
 -- the declared names in order, each with whether it is a set
 abbrev pub Declared : Type 0

@@ -8,18 +8,20 @@ use Rattle.net_sets.specs.declared.member.Member.{Member}
 use Rattle.net_sets.specs.Sets.{Tuple, same_tuple, has, at_key}
 use Rattle.net_tree.specs.Tree.{Braces, Phrase}
 use Rattle.net_expr.specs.declared.row.Row.{Row}
-use Rattle.net_expr.specs.declared.row.Keys.{Keys}
+use Rattle.net_expr.specs.declared.indexing.Indexing.{Indexing}
+use Rattle.net_expr.specs.Indexings.{indexing_in}
 use Rattle.net_expr.specs.declared.world.Entry.{Entry}
 use Rattle.net_expr.specs.declared.world.Entry.TheVariants.{Parameter}
 use Rattle.net_expr.specs.SetValues.{HasSets}
 use Rattle.net_expr.specs.Worlds.{Name, World, entry_of, key_count}
+use Rattle.net_tree.specs.Phrases.{is_becomes, is_default}
+use Rattle.net_tree.specs.PhraseValues.{phrase_value}
 use Rattle.net_eval.specs.declared.given.Given.{Given}
 use Rattle.net_eval.specs.declared.given.Given.TheVariants as given
 use Rattle.net_eval.specs.declared.given.NamedData.{NamedData}
-use Rattle.net_eval.specs.declared.param.Gives.TheVariants as gives
-use Rattle.net_eval.specs.BoundParameters.{keys_with, keys_in, key_size, phrase_value, Source, source, from_source, bound_parameter}
+use Rattle.net_eval.specs.BoundParameters.{keys_with, Source, source, from_source, bound_parameter}
 use Rattle.net_eval.specs.Cells.{member_in, tuple_in}
-use Rattle.net_fault.specs.Outcomes.{Outcome}
+use Rattle.net_base.specs.Outcomes.{Outcome}
 use Rattle.net_eval.specs.Rows.{Table, either, pair_of}
 use Rattle.net_eval.specs.SetData.{cut}
 
@@ -64,7 +66,7 @@ default_given (m ∷ ms) = either m.default (default_given ms)
 -- the source for a key without a row: the expression of `:=`, else the data's default, else the
 -- expression of `default`, else nothing
 abbrev pub source_of : List Phrase → List NamedData → Source
-source_of ps ms = source (phrase_value gives.Becomes ps) (default_given ms) (phrase_value gives.Default ps)
+source_of ps ms = source (phrase_value is_becomes ps) (default_given ms) (phrase_value is_default ps)
 
 -- the value is that of the data's row, or else that of the source
 abbrev pub IsValue : Option Member → Outcome (Option Member) → Option Member → Type 0
@@ -78,12 +80,12 @@ IsValueAt w ps said ms t r = IsValue (at_key said r.key) (from_source w r.scope 
 -- without such a row, the value of `:=`, the data's default or the value of `default`; without any
 -- of these, none.
 pub record IsValued (w : World) (b : Option Braces) (ps : List Phrase) (ms : List NamedData) (e : Entry) : Type 0 where
-  pub keys : Keys
-  pub indexed : keys_in w b ≡ Ok keys
+  pub indexing : Indexing
+  pub indexed : indexing_in w b ≡ Ok indexing
   pub index : List Tuple
   pub table : Table
-  pub is : e ≡ Parameter (key_size b keys) index table
-  pub at : AllByRecursion (IsValueAt w ps (values_given (key_count (key_size b keys)) ms) ms table) keys.rows
+  pub is : e ≡ Parameter indexing.count index table
+  pub at : AllByRecursion (IsValueAt w ps (values_given (key_count indexing.count) ms) ms table) indexing.rows
 
 abbrev pub AreValued : Type 0
 AreValued = (w : World) (widths : List ℕ) (name : Token) (b : Option Braces) (ps : List Phrase) (ms : List NamedData) (e : Entry) → HasSets w → bound_parameter w widths name b ps ms ≡ Ok e → IsValued w b ps ms e

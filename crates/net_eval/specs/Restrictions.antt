@@ -1,25 +1,25 @@
 -- The restrictions on the values of a parameter in its phrases.
 use Rattle.std.specs.Prelude.{Bool, true, not, List, [], ◌∷◌, Option, None, Some, if◌then◌else◌, Ok, ℤ, int_lt, int_le}
-use Rattle.net_fault.specs.declared.language.Language.TheVariants.{Model}
-use Rattle.net_fault.specs.declared.span.Span.{Span}
+use Rattle.net_base.specs.declared.diagnostic.Language.TheVariants.{Model}
+use Rattle.net_base.specs.declared.diagnostic.Span.{Span}
 use Rattle.net_lex.specs.declared.token.Token.{Token}
 use Rattle.net_sets.specs.declared.member.Member.{Member}
 use Rattle.net_tree.specs.Spans.{span_of}
 use Rattle.net_tree.specs.Tree.{Tree, Body, plain, valued, priced, Phrase}
-use Rattle.net_fault.specs.declared.detail.Detail.{Detail}
+use Rattle.net_base.specs.declared.diagnostic.Detail.{Detail}
 use Rattle.net_expr.specs.declared.value.Value.{Value}
 use Rattle.net_expr.specs.declared.value.Value.TheVariants.{One}
 use Rattle.net_expr.specs.Numbers.{number}
 use Rattle.net_expr.specs.Operators.{same, belongs}
 use Rattle.net_expr.specs.Values.{value}
 use Rattle.net_expr.specs.Worlds.{World, Scope}
-use Rattle.net_fault.specs.declared.error_code.ErrorCode.TheVariants.{Restriction}
+use Rattle.net_base.specs.declared.error_code.ErrorCode.TheVariants.{Restriction}
 use Rattle.net_tree.specs.declared.role.Relation.{Relation}
 use Rattle.net_tree.specs.declared.role.Relation.TheVariants as relations
 use Rattle.net_tree.specs.declared.role.Role.{Role}
 use Rattle.net_tree.specs.declared.role.Role.TheVariants as roles
 use Rattle.net_tree.specs.Role.{role_of}
-use Rattle.net_fault.specs.Outcomes.{Outcome, and_then, rejected_as}
+use Rattle.net_base.specs.Outcomes.{Outcome, and_then, rejected_as}
 
 -- the relations that can restrict a value: all except these two
 abbrev pub restricting : Relation → Option Relation

@@ -1,23 +1,23 @@
 -- The data statements of a parameter: rows of a key and a value.
 use Rattle.std.specs.Prelude.{ℕ, ◌+◌, Bool, true, false, ◌&&◌, ◌||◌, List, [], ◌∷◌, ◌++◌, length, nat_eq, nat_lt, slice_get, take, is_some, Option, None, Some, if◌then◌else◌, Result, Ok, Err, ⊤, ◌≡◌}
-use Rattle.net_fault.specs.declared.language.Language.{Language}
-use Rattle.net_fault.specs.declared.language.Language.TheVariants.{Data}
-use Rattle.net_fault.specs.declared.span.Span.{Span}
+use Rattle.net_base.specs.declared.diagnostic.Language.{Language}
+use Rattle.net_base.specs.declared.diagnostic.Language.TheVariants.{Data}
+use Rattle.net_base.specs.declared.diagnostic.Span.{Span}
 use Rattle.net_lex.specs.declared.token.Token.{Token}
 use Rattle.net_sets.specs.declared.member.Member.{Member}
 use Rattle.net_sets.specs.Limits.{tuples_limit}
 use Rattle.net_sets.specs.Sets.{Tuple, has, at_key}
 use Rattle.net_data.specs.Rows.{points}
-use Rattle.net_fault.specs.declared.detail.Detail.TheVariants.{Nothing}
-use Rattle.net_fault.specs.declared.error_code.ErrorCode.TheVariants.{Arity, OutsideSet, TooMany, DoubleValue}
+use Rattle.net_base.specs.declared.diagnostic.Detail.TheVariants.{Nothing}
+use Rattle.net_base.specs.declared.error_code.ErrorCode.TheVariants.{Arity, OutsideSet, TooMany, DoubleValue}
 use Rattle.net_expr.specs.Worlds.{reference}
-use Rattle.net_fault.specs.declared.fault.Fault.{Fault}
-use Rattle.net_fault.specs.declared.fault.Fault.TheVariants.{OutOfMemory, At}
+use Rattle.net_base.specs.declared.fault.Fault.{Fault}
+use Rattle.net_base.specs.declared.fault.Fault.TheVariants.{OutOfMemory, At}
 use Rattle.net_eval.specs.declared.given.Given.{Given}
 use Rattle.net_eval.specs.declared.given.Given.TheVariants as given
 use Rattle.net_eval.specs.declared.given.NamedData.{NamedData}
 use Rattle.net_eval.specs.Cells.{member_in, tuple_in}
-use Rattle.net_fault.specs.Outcomes.{Outcome, and_then, each, rejected_as, rejected_there}
+use Rattle.net_base.specs.Outcomes.{Outcome, and_then, each, rejected_as, rejected_there}
 use Rattle.net_eval.specs.SetData.{begins_at, whole_groups, cut, leading_size, agrees, doubled}
 
 -- the values of a parameter with their keys

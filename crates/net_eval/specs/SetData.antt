@@ -1,21 +1,29 @@
 -- The data statements of a set.
 use Rattle.std.specs.Prelude.{ℕ, zero, suc, ◌+◌, Bool, ◌||◌, List, [], ◌∷◌, ◌++◌, length, map, take, nat_eq, nat_le, is_some, slice_get, unwrap_or, Option, None, Some, if◌then◌else◌, Ok}
-use Rattle.std.specs.List.{fold}
-use Rattle.net_fault.specs.declared.language.Language.TheVariants.{Data}
-use Rattle.net_fault.specs.declared.span.Span.{Span}
+use Rattle.std.specs.List.{fold, flat_map}
+use Rattle.net_base.specs.declared.diagnostic.Language.TheVariants.{Data}
+use Rattle.net_base.specs.declared.diagnostic.Span.{Span}
 use Rattle.net_lex.specs.declared.token.Token.{Token}
 use Rattle.net_sets.specs.Limits.{tuples_limit}
 use Rattle.net_sets.specs.Sets.{Tuple, has, added}
 use Rattle.net_data.specs.Rows.{points, groups, first_item, begins_tuple, more_items}
-use Rattle.net_fault.specs.declared.detail.Detail.TheVariants.{Reported}
-use Rattle.net_fault.specs.declared.error_code.ErrorCode.TheVariants.{Arity, TooMany, DoubleValue}
+use Rattle.net_base.specs.declared.diagnostic.Detail.TheVariants.{Reported}
+use Rattle.net_base.specs.declared.error_code.ErrorCode.TheVariants.{Arity, TooMany, DoubleValue}
 use Rattle.net_eval.specs.declared.given.Given.{Given}
 use Rattle.net_eval.specs.declared.given.Given.TheVariants as given
 use Rattle.net_eval.specs.declared.given.NamedData.{NamedData}
-use Rattle.net_eval.specs.declared.item.Item.{Item}
-use Rattle.net_eval.specs.declared.item.Rows.{Rows}
 use Rattle.net_eval.specs.Cells.{tuple_in}
-use Rattle.net_fault.specs.Outcomes.{Outcome, and_then, each, rejected_as, rejected_there}
+use Rattle.net_base.specs.Outcomes.{Outcome, and_then, each, rejected_as, rejected_there}
+
+-- a tuple of a set, or a single member
+pub record Item : Type 0 where
+  pub is_tuple : Bool
+  pub members : List Token
+
+-- rows of a set, and the single members after them that are not a complete row yet
+pub record Rows : Type 0 where
+  pub rows : List (List Token)
+  pub alone : List Token
 
 -- the items of a set: tuples and single members
 abbrev pub items_from : ℕ → List Token → List Item
@@ -26,6 +34,15 @@ items_from (suc n) (t ∷ ts) = (record { is_tuple = begins_tuple (t ∷ ts); me
 abbrev pub items : List Token → List Item
 items ts = items_from (length ts) ts
 
+-- the members of all items
+abbrev pub words : List Token → List Token
+words ts = flat_map (λ (i : Item). i.members) (items ts)
+
+abbrev pub given_words : Given → List Token
+given_words (given.Members ts) = words ts
+given_words (given.Groups g) = []
+given_words (given.Grid g) = []
+
 -- adds the pending single members as a row, if there are any
 abbrev pub closed_with : List (List Token) → List Token → List (List Token)
 closed_with rows [] = rows
@@ -33,6 +50,13 @@ closed_with rows (t ∷ ts) = rows ++ (t ∷ ts) ∷ []
 
 abbrev pub closed : Rows → List (List Token)
 closed r = closed_with r.rows r.alone
+
+-- the pending single members are the first of the members after the rows
+abbrev pub pending : List (List Token) → ℕ → List Token → Rows
+pending rows count left = record { rows = rows; alone = take count left }
+
+abbrev pub item : Bool → List Token → Item
+item is_tuple members = record { is_tuple = is_tuple; members = members }
 
 -- the pending single members are a row if they are as many as the dimension
 abbrev pub opened : ℕ → List (List Token) → List Token → Rows

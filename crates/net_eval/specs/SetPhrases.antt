@@ -1,6 +1,6 @@
 -- The phrases of a set declaration: its dimension, its supersets and its value.
 use Rattle.std.specs.Prelude.{ℕ, ◌&&◌, Bool, List, [], ◌∷◌, ◌++◌, Option, None, Some, if◌then◌else◌, Ok, ℤ, pos, int_le, nat_eq, unsigned_abs}
-use Rattle.net_fault.specs.declared.span.Span.{Span}
+use Rattle.net_base.specs.declared.diagnostic.Span.{Span}
 use Rattle.net_sets.specs.declared.member.Member.TheVariants.{Number}
 use Rattle.net_sets.specs.Sets.{Tuple}
 use Rattle.net_tree.specs.declared.role.Begins.TheVariants as begins
@@ -10,7 +10,7 @@ use Rattle.net_tree.specs.declared.role.Role.TheVariants as roles
 use Rattle.net_tree.specs.Role.{role_of}
 use Rattle.net_tree.specs.Spans.{span_of}
 use Rattle.net_tree.specs.Tree.{Tree, plain, valued, priced, Body, Phrase}
-use Rattle.net_fault.specs.declared.error_code.ErrorCode.TheVariants.{KindMismatch, Arity}
+use Rattle.net_base.specs.declared.error_code.ErrorCode.TheVariants.{KindMismatch, Arity}
 use Rattle.net_expr.specs.declared.value.Value.{Value}
 use Rattle.net_expr.specs.declared.value.Value.TheVariants.{One, Many}
 use Rattle.net_expr.specs.Values.{value}
@@ -21,7 +21,7 @@ use Rattle.net_eval.specs.declared.set_phrase.Claim.{Claim}
 use Rattle.net_eval.specs.declared.set_phrase.Claim.TheVariants as claims
 use Rattle.net_eval.specs.declared.set_phrase.SetPhrase.{SetPhrase}
 use Rattle.net_eval.specs.declared.set_phrase.Claims.{Claims}
-use Rattle.net_fault.specs.Outcomes.{Outcome, and_then, rejected, each}
+use Rattle.net_base.specs.Outcomes.{Outcome, and_then, rejected, each}
 
 abbrev pub set_word : Role → SetWord
 set_word (roles.Phrase begins.Dimen) = words.Dimension

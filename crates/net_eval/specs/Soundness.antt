@@ -1,7 +1,7 @@
 -- Laws that relate parameters, checks and worlds, as the code binds them, to their meaning.
 use Rattle.std.specs.Prelude.{◌≡◌, ℕ, true, List, [], map, Option, Ok}
 use Rattle.std.specs.List.{AllByRecursion}
-use Rattle.net_fault.specs.declared.detail.Detail.{Detail}
+use Rattle.net_base.specs.declared.diagnostic.Detail.{Detail}
 use Rattle.net_lex.specs.declared.token.Token.{Token}
 use Rattle.net_data.specs.declared.statement.Statement.{Statement}
 use Rattle.net_data.specs.Meaning.{IsStatement, all_judged}

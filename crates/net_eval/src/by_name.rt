@@ -1,42 +1,39 @@
 //! Collecting the data statements by declared name.
 
-ghost use Rattle.std.specs.Prelude.{◌≡◌, false, IfOk, None, Ok, length};
+ghost use Rattle.std.specs.Prelude.{◌≡◌, false, IfOk, None, length};
 ghost use Rattle.net_data.specs.declared.statement.Statement.TheVariants as Statements;
-ghost use Rattle.net_eval.specs.declared.given.Given.TheVariants as given;
 ghost use Rattle.net_eval.specs.DataByName as named_data;
-ghost use Rattle.net_fault.specs.Outcomes.{Refines, Updates};
+ghost use Rattle.net_base.specs.Outcomes.{Refines, Updates};
 
-use crate::cell::Cell;
-use crate::flattened::StatementCells;
 use crate::given::{DataFor, Given, Grid, Groups, Line, NamedData};
 use crate::names::Names;
+use net_base::{Fault, Items};
 use net_data::{
     ColumnsStatement, DefaultValue, ListStatement, NamedSet, SetStatement, Statement,
-    TableStatement,
+    TableStatement, Word,
 };
-use net_fault::Fault;
-use net_views::Items;
 use std::alloc::{AllocError, Global};
 
-fn default_word<'t, 's>(default: &Option<DefaultValue<'t, 's>>) -> Option<Cell<'t, 's>>
-    ensures { result ≡ named_data.default_word default.now }
-{
-    match default {
-        None => None,
-        Some(default) => Some(Cell::new(default.value.token())),
-    }
-}
-
-/// Adds a statement's data for the name with this index. Fails only if memory runs out.
+/// Adds a statement's data for the set or parameter that a token names.
 fn add<'m, 't, 's>(
-    place: usize,
-    named: NamedData<'m, 't, 's>,
+    names: &Names<'s>,
+    is_set: bool,
+    word: &Word<'t, 's>,
+    default: Option<Word<'t, 's>>,
+    given: Given<'m, 't, 's>,
     all: &mut Vec<DataFor<'m, 't, 's>>,
 ) -> Result<(), Fault>
-    ensures { Updates (Ok (named_data.with_named_data place named.entry all.old.items)) result all.new.items }
+    ensures { Updates (named_data.with_named names.now is_set word.now (λ i. named_data.named word.now default.entry given.entry) all.old.items)
+        result all.new.items }
 {
+    let place = names.target(is_set, word)?;
     if place < all.len() {
-        all[place].push(named)?;
+        let word = word.copied();
+        all[place].push(NamedData {
+            word,
+            default,
+            given,
+        })?;
     }
     Ok(())
 }
@@ -49,46 +46,42 @@ fn in_set<'t, 's>(
 ) -> Result<(), Fault>
     ensures { Updates (named_data.in_statement names.now (Statements.Set set.now) all.old.items) result all.new.items }
 {
-    let word = Cell::new(set.name.token());
-    let place = names.target(true, &word)?;
     let given = Given::Members(set.items.copied());
-    add(
-        place,
-        NamedData {
-            word,
-            default: None,
-            given,
-        },
-        all,
-    )
+    add(names, true, &set.name, None, given, all)
+}
+
+fn default_word<'t, 's>(default: &Option<DefaultValue<'t, 's>>) -> Option<Word<'t, 's>>
+    ensures { result ≡ named_data.default_word default.now }
+{
+    match default {
+        None => None,
+        Some(default) => Some(default.value.copied()),
+    }
 }
 
 /// `param p default 0 := a 1;`
 fn in_list<'m, 't, 's>(
     names: &Names<'s>,
     list: &ListStatement<'t, 's>,
-    cells: &'m [Cell<'t, 's>],
+    cells: &'m [Word<'t, 's>],
     all: &mut Vec<DataFor<'m, 't, 's>>,
 ) -> Result<(), Fault>
     requires { cells.now ≡ named_data.given_cells list.now.given }
     ensures { Updates (named_data.in_statement names.now (Statements.List list.now) all.old.items) result all.new.items }
 {
-    let word = Cell::new(list.name.token());
-    let leader = names.target(false, &word)?;
-    let default = default_word(&list.default);
-    let given = Given::Groups(Groups {
-        leader,
+    let groups = Groups {
+        leader: names.target(false, &list.name)?,
         values: 1,
         place: 0,
         cells: Line::new(cells),
-    });
+    };
+    let default = default_word(&list.default);
     add(
-        leader,
-        NamedData {
-            word,
-            default,
-            given,
-        },
+        names,
+        false,
+        &list.name,
+        default,
+        Given::Groups(groups),
         all,
     )
 }
@@ -96,32 +89,18 @@ fn in_list<'m, 't, 's>(
 /// `param p : a b := c 1 2;`
 fn in_table<'m, 't, 's>(
     names: &Names<'s>,
-    table: &TableStatement<'t, 's>,
-    columns: &'m [Cell<'t, 's>],
-    cells: &'m [Cell<'t, 's>],
+    table: &'m TableStatement<'t, 's>,
     all: &mut Vec<DataFor<'m, 't, 's>>,
 ) -> Result<(), Fault>
-    requires heading { columns.now ≡ table.now.columns }
-    requires cells { cells.now ≡ table.now.cells }
-    ensures { Updates (named_data.in_statement names.now (Statements.Table table.now) all.old.items) result all.new.items }
+    ensures { Updates (named_data.in_statement names.now (Statements.Table table.entry.now) all.old.items) result all.new.items }
 {
-    let word = Cell::new(table.name.token());
-    let place = names.target(false, &word)?;
-    let default = default_word(&table.default);
-    let given = Given::Grid(Grid {
+    let grid = Grid {
         transposed: table.transposed.is_some(),
-        columns: Line::new(columns),
-        cells: Line::new(cells),
-    });
-    add(
-        place,
-        NamedData {
-            word,
-            default,
-            given,
-        },
-        all,
-    )
+        columns: Line::new(table.columns.as_slice()),
+        cells: Line::new(table.cells.as_slice()),
+    };
+    let default = default_word(&table.default);
+    add(names, false, &table.name, default, Given::Grid(grid), all)
 }
 
 fn set_first<'s>(names: &Names<'s>, set: &Option<NamedSet<'_, 's>>) -> Result<Option<usize>, Fault>
@@ -130,7 +109,7 @@ fn set_first<'s>(names: &Names<'s>, set: &Option<NamedSet<'_, 's>>) -> Result<Op
     match set {
         None => Ok(None),
         Some(set) => {
-            let place = names.target(true, &Cell::new(set.name.token()))?;
+            let place = names.target(true, &set.name)?;
             Ok(Some(place))
         }
     }
@@ -148,7 +127,7 @@ fn lesser(first: Option<usize>, place: usize) -> usize
 /// Looks up all names in a heading; returns the index of the one declared first.
 fn first_of<'s>(
     names: &Names<'s>,
-    words: &[Cell<'_, 's>],
+    words: &[Word<'_, 's>],
     before: Option<usize>,
 ) -> Result<Option<usize>, Fault>
     ensures { Refines (named_data.first_of names.now words.now before) result }
@@ -161,84 +140,54 @@ fn first_of<'s>(
     Ok(first)
 }
 
+/// Returns the groups of a heading, with the index of the value that is used.
+fn groups_of<'m, 't, 's>(
+    leader: usize,
+    place: usize,
+    columns: &'m ColumnsStatement<'t, 's>,
+) -> Given<'m, 't, 's>
+    ensures { result ≡ named_data.grouped leader (length columns.entry.now.names) place columns.entry.now.cells }
+{
+    Given::Groups(Groups {
+        leader,
+        values: columns.names.as_slice().len(),
+        place,
+        cells: Line::new(columns.cells.as_slice()),
+    })
+}
+
+/// Adds the parameters of a heading.
 fn in_heading<'m, 't, 's>(
     names: &Names<'s>,
     leader: usize,
-    words: &[Cell<'t, 's>],
-    cells: &'m [Cell<'t, 's>],
+    columns: &'m ColumnsStatement<'t, 's>,
     all: &mut Vec<DataFor<'m, 't, 's>>,
 ) -> Result<(), Fault>
-    ensures { Updates (named_data.headed names.now leader (length words.now) cells.entry.now 0 words.now all.old.items) result all.new.items }
+    ensures { Updates (named_data.headed names.now leader (length columns.entry.now.names) columns.entry.now.cells 0 columns.entry.now.names
+        all.old.items) result all.new.items }
 {
-    for (place, word) in words.iter().enumerate() {
-        let groups = Groups {
-            leader,
-            values: words.len(),
-            place,
-            cells: Line::new(cells),
-        };
-        headed(names, word, groups, all)?;
+    for (place, word) in columns.names.as_slice().iter().enumerate() {
+        let groups = groups_of(leader, place, columns);
+        add(names, false, word, None, groups, all)?;
     }
     Ok(())
-}
-
-/// Adds a parameter of a heading with its groups.
-fn headed<'m, 't, 's>(
-    names: &Names<'s>,
-    word: &Cell<'t, 's>,
-    groups: Groups<'m, 't, 's>,
-    all: &mut Vec<DataFor<'m, 't, 's>>,
-) -> Result<(), Fault>
-    ensures { Updates (named_data.with_named names.now false word.now (λ i. named_data.named word.now None (given.Groups groups.entry)) all.old.items)
-        result all.new.items }
-{
-    let target = names.target(false, word)?;
-    add_groups(target, word.copied(), groups, all)
-}
-
-fn add_groups<'m, 't, 's>(
-    target: usize,
-    word: Cell<'t, 's>,
-    groups: Groups<'m, 't, 's>,
-    all: &mut Vec<DataFor<'m, 't, 's>>,
-) -> Result<(), Fault>
-    ensures { Updates (Ok (named_data.with_named_data target (named_data.named word.entry None (given.Groups groups.entry))
-        all.old.items)) result all.new.items }
-{
-    add(
-        target,
-        NamedData {
-            word,
-            default: None,
-            given: Given::Groups(groups),
-        },
-        all,
-    )
 }
 
 /// Adds the set of a heading.
 fn set_headed<'m, 't, 's>(
     names: &Names<'s>,
     leader: usize,
-    values: usize,
-    set: &Option<NamedSet<'t, 's>>,
-    cells: &'m [Cell<'t, 's>],
+    columns: &'m ColumnsStatement<'t, 's>,
     all: &mut Vec<DataFor<'m, 't, 's>>,
 ) -> Result<(), Fault>
-    ensures { Updates (named_data.set_headed names.now leader values cells.entry.now set.now all.old.items) result all.new.items }
+    ensures { Updates (named_data.set_headed names.now leader (length columns.entry.now.names) columns.entry.now.cells columns.entry.now.set
+        all.old.items) result all.new.items }
 {
-    match set {
+    match &columns.set {
         None => Ok(()),
         Some(set) => {
-            let word = Cell::new(set.name.token());
-            let target = names.target(true, &word)?;
-            let groups = Groups {
-                leader,
-                values,
-                place: 0,
-                cells: Line::new(cells),
-            };
-            add_groups(target, word, groups, all)
+            let groups = groups_of(leader, 0, columns);
+            add(names, true, &set.name, None, groups, all)
         }
     }
 }
@@ -246,33 +195,32 @@ fn set_headed<'m, 't, 's>(
 /// `param : S : p q := a 1 2;`
 fn in_columns<'m, 't, 's>(
     names: &Names<'s>,
-    set: &Option<NamedSet<'t, 's>>,
-    words: &[Cell<'t, 's>],
-    cells: &'m [Cell<'t, 's>],
+    columns: &'m ColumnsStatement<'t, 's>,
     all: &mut Vec<DataFor<'m, 't, 's>>,
 ) -> Result<(), Fault>
-    ensures { Updates (named_data.in_columns names.now set.now words.now cells.entry.now all.old.items) result all.new.items }
+    ensures { Updates (named_data.in_statement names.now (Statements.Columns columns.entry.now) all.old.items) result all.new.items }
 {
-    let before = set_first(names, set)?;
-    let leader = first_of(names, words, before)?.unwrap_or(0);
-    set_headed(names, leader, words.len(), set, cells, all)?;
-    in_heading(names, leader, words, cells, all)
+    let before = set_first(names, &columns.set)?;
+    let leader = first_of(names, columns.names.as_slice(), before)?.unwrap_or(0);
+    set_headed(names, leader, columns, all)?;
+    in_heading(names, leader, columns, all)
 }
 
 fn in_statement<'m, 't, 's>(
     names: &Names<'s>,
-    sheet: &'m StatementCells<'m, 't, 's>,
+    statement: &'m Statement<'t, 's>,
     all: &mut Vec<DataFor<'m, 't, 's>>,
 ) -> Result<(), Fault>
-    ensures { Updates (named_data.in_statement names.now sheet.entry.now all.old.items) result all.new.items }
+    ensures { Updates (named_data.in_statement names.now statement.entry.now all.old.items) result all.new.items }
 {
-    match sheet.statement() {
+    match statement {
         Statement::Set(set) => in_set(names, set, all),
-        Statement::List(list) => in_list(names, list, sheet.cells(), all),
-        Statement::Table(table) => in_table(names, table, sheet.heading(), sheet.cells(), all),
-        Statement::Columns(columns) => {
-            in_columns(names, &columns.set, sheet.heading(), sheet.cells(), all)
-        }
+        Statement::List(list) => match &list.given {
+            None => in_list(names, list, &[], all),
+            Some(given) => in_list(names, list, given.cells.as_slice(), all),
+        },
+        Statement::Table(table) => in_table(names, table, all),
+        Statement::Columns(columns) => in_columns(names, columns, all),
     }
 }
 
@@ -298,13 +246,13 @@ fn no_data<'m, 't, 's>(
 pub(crate) fn data_by_name<'m, 't, 's>(
     alloc: Global,
     names: &Names<'s>,
-    statements: &'m [StatementCells<'m, 't, 's>],
+    statements: &'m [Statement<'t, 's>],
 ) -> Result<Items<DataFor<'m, 't, 's>>, Fault>
     ensures { Refines (named_data.data_by_name names.now statements.entry.now) result }
 {
     let mut all = no_data(alloc, names)?;
-    for sheet in statements {
-        in_statement(names, sheet, &mut all)?;
+    for statement in statements {
+        in_statement(names, statement, &mut all)?;
     }
     Ok(Items::new(all))
 }

@@ -5,11 +5,11 @@ ghost use Rattle.net_tree.specs.Spans as trees;
 ghost use Rattle.net_tree.specs.View.{tree, braces_of};
 ghost use Rattle.net_expr.specs.Items as items;
 ghost use Rattle.net_expr.specs.Operators as operators;
-ghost use Rattle.net_fault.specs.Outcomes.{Refines, and_then};
+ghost use Rattle.net_base.specs.Outcomes.{Refines, and_then};
 ghost use Rattle.net_expr.specs.Values as values;
 
+use net_base::Fault;
 use net_expr::{Env, Keys, Member, Scope, World};
-use net_fault::Fault;
 use net_sets::Cow;
 use net_tree::{Braces, Expr};
 use std::alloc::Global;

@@ -3,11 +3,10 @@
 ghost use Rattle.std.specs.Prelude.{◌≡◌, ◌+◌, ◌<◌, ◌≤◌, ◌^◌, IfOk, map};
 ghost use Rattle.net_tree.specs.View.{tree, declaration_of, indexing_of};
 ghost use Rattle.net_eval.specs.Binding as binding;
-ghost use Rattle.net_fault.specs.Outcomes.{Refines, each};
+ghost use Rattle.net_base.specs.Outcomes.{Refines, each};
 
-use crate::indexing::keys_in;
-use net_expr::{Env, Row, World, holds};
-use net_fault::{Detail, ErrorCode, Fault, Language};
+use net_base::{Detail, ErrorCode, Fault, Language};
+use net_expr::{Env, Row, World, holds, indexing_of};
 use net_tree::{Braces, Decl, Expr, span_of};
 use std::alloc::Global;
 
@@ -41,8 +40,8 @@ fn checked<'s>(
 ) -> Result<(), Fault>
     ensures { Refines (binding.checked env.now (indexing_of braces.now) (tree condition.now)) result }
 {
-    let keys = keys_in(alloc, env, braces)?;
-    hold(alloc, env, condition, keys.rows.as_slice())
+    let indexing = indexing_of(alloc, env, braces)?;
+    hold(alloc, env, condition, indexing.rows.as_slice())
 }
 
 fn check_one<'s>(

@@ -2,7 +2,7 @@
 
 ghost use Rattle.std.specs.Prelude.{◌≡◌, [], Ok, Some};
 ghost use Rattle.std.specs.Option.{option_map, IfSome};
-ghost use Rattle.net_fault.specs.declared.span.Span.{Span as Place};
+ghost use Rattle.net_base.specs.declared.diagnostic.Span.{Span as Place};
 ghost use Rattle.net_tree.specs.View.{tree, links_of};
 ghost use Rattle.net_expr.specs.Sets as sets;
 ghost use Rattle.net_expr.specs.Values.{value as value_of};

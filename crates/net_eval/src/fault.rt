@@ -1,12 +1,11 @@
 //! Building errors about declared sets and parameters.
 
 ghost use Rattle.std.specs.Prelude.{◌≡◌, IfOk};
-ghost use Rattle.net_fault.specs.Outcomes.{diagnostic_at};
-ghost use Rattle.net_fault.specs.declared.detail.Detail.TheVariants.{Reported};
-ghost use Rattle.net_fault.specs.declared.fault.Fault.TheVariants.{At};
+ghost use Rattle.net_base.specs.Outcomes.{diagnostic_at};
+ghost use Rattle.net_base.specs.declared.diagnostic.Detail.TheVariants.{Reported};
+ghost use Rattle.net_base.specs.declared.fault.Fault.TheVariants.{At};
 
-use net_fault::{Detail, ErrorCode, Fault, Language, Span};
-use net_views::Excerpt;
+use net_base::{Detail, ErrorCode, Excerpt, Fault, Language, Span};
 use std::alloc::{AllocError, Global};
 
 /// Builds an error at a name or at a part of its declaration; the name is its detail. Fails only if

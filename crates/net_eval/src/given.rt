@@ -2,15 +2,14 @@
 
 ghost use Rattle.std.specs.Prelude.{◌≡◌, ◌++◌, ◌∷◌, [], OnOk};
 
-use crate::cell::Cell;
-use net_data::Members;
+use net_data::{Members, Word};
 use std::alloc::AllocError;
 use std::marker::Model;
 
 /// Consecutive tokens, which contracts see as a list.
 #[derive(Drop)]
 pub(crate) struct Line<'m, 't, 's> {
-    cells: &'m [Cell<'t, 's>],
+    cells: &'m [Word<'t, 's>],
 }
 
 impl<'m, 't, 's> Model for Line<'m, 't, 's> {
@@ -23,13 +22,13 @@ impl<'m, 't, 's> Model for Line<'m, 't, 's> {
 }
 
 impl<'m, 't, 's> Line<'m, 't, 's> {
-    pub(crate) fn new(cells: &'m [Cell<'t, 's>]) -> Line<'m, 't, 's>
+    pub(crate) fn new(cells: &'m [Word<'t, 's>]) -> Line<'m, 't, 's>
         ensures { result ≡ cells.entry.now }
     {
         Line { cells }
     }
 
-    pub(crate) fn cells(&self) -> &'m [Cell<'t, 's>]
+    pub(crate) fn cells(&self) -> &'m [Word<'t, 's>]
         ensures { result.now ≡ self.now }
     {
         self.cells
@@ -69,9 +68,9 @@ pub(crate) enum Given<'m, 't, 's> {
 /// A name in a data statement, and the content of the statement for it.
 #[derive(Drop)]
 pub(crate) struct NamedData<'m, 't, 's> {
-    pub(crate) word: Cell<'t, 's>,
+    pub(crate) word: Word<'t, 's>,
     /// The value after `default`.
-    pub(crate) default: Option<Cell<'t, 's>>,
+    pub(crate) default: Option<Word<'t, 's>>,
     pub(crate) given: Given<'m, 't, 's>,
 }
 

@@ -1,162 +1,126 @@
-//! The items of a set's data, and its rows.
+//! The rows of a set in its data.
 
-ghost use Rattle.std.specs.Prelude.{◌≡◌, ◌++◌, ◌∷◌, [], IfOk};
+ghost use Rattle.std.specs.Prelude.{◌≡◌, ◌≤◌, ◌+◌, ◌++◌, ◌∷◌, [], IfOk, OnOk, length, take, drop};
 ghost use Rattle.net_eval.specs.SetData as set_data;
 
-use crate::cell::Cell;
-use crate::flattened::cells_of;
-use net_data::{Cells, Members};
-use net_views::Items;
+use crate::given::{Given, Line};
+use crate::group::{behind, front};
+use net_base::Items;
+use net_data::{Members, Word};
 use std::alloc::{AllocError, Global};
 
-/// A tuple of a set, or a single member.
-#[derive(Drop)]
-pub(crate) struct Item<'t, 's> {
-    pub(crate) is_tuple: bool,
-    pub(crate) members: Cells<'t, 's>,
+/// Returns the members of all items, if the statement gives items. Fails only if memory runs out.
+pub(crate) fn given_words<'t, 's>(
+    alloc: Global,
+    given: &Given<'_, 't, 's>,
+) -> Result<Items<Word<'t, 's>>, AllocError>
+    ensures { IfOk result (λ all. all ≡ set_data.given_words given.now) }
+{
+    match given {
+        Given::Members(members) => words_of(alloc, members),
+        Given::Groups(_) => Ok(Items::new(Vec::new(alloc))),
+        Given::Grid(_) => Ok(Items::new(Vec::new(alloc))),
+    }
 }
 
-/// Rows of a set, and the single members after them that are not a complete row yet.
-#[derive(Drop)]
-pub(crate) struct Rows<'t, 's> {
-    pub(crate) rows: Items<Items<Cell<'t, 's>>>,
-    pub(crate) alone: Items<Cell<'t, 's>>,
-}
-
-fn items_of<'t, 's>(
+fn words_of<'t, 's>(
     alloc: Global,
     members: &Members<'t, 's>,
-) -> Result<Items<Item<'t, 's>>, AllocError>
-    ensures { IfOk result (λ all. all ≡ set_data.items members.now) }
+) -> Result<Items<Word<'t, 's>>, AllocError>
+    ensures { IfOk result (λ all. all ≡ set_data.words members.now) }
 {
     let mut all = Vec::new(alloc);
     let mut left = members.copied();
-    while let Some(members) = left.first() {
-        let is_tuple = left.begins_tuple();
-        all.push(Item { is_tuple, members })?;
+    while let Some(item) = left.first() {
+        item.push_to(&mut all)?;
         left = left.rest();
     }
     Ok(Items::new(all))
 }
 
-fn with_row<'t, 's>(
-    rows: Items<Items<Cell<'t, 's>>>,
-    row: Items<Cell<'t, 's>>,
-) -> Result<Items<Items<Cell<'t, 's>>>, AllocError>
-    ensures { IfOk result (λ all. all ≡ rows.entry ++ row.entry ∷ []) }
-{
-    let mut all = rows.into_vec();
-    all.push(row)?;
-    Ok(Items::new(all))
+/// The rows of a set so far, and the members after them.
+#[derive(Drop)]
+struct SetRows<'c, 't, 's> {
+    rows: Vec<Line<'c, 't, 's>>,
+    /// The number of single members that are not a complete row yet.
+    alone: usize,
+    left: &'c [Word<'t, 's>],
 }
 
-/// Adds the pending single members as a row, if there are any. Fails only if memory runs out.
-fn closed<'t, 's>(rows: Rows<'t, 's>) -> Result<Items<Items<Cell<'t, 's>>>, AllocError>
-    ensures { IfOk result (λ all. all ≡ set_data.closed rows.entry) }
-{
-    let Rows { rows, alone } = rows;
-    if alone.as_slice().is_empty() {
-        Ok(rows)
-    } else {
-        with_row(rows, alone)
+impl<'c, 't, 's> SetRows<'c, 't, 's> {
+    /// Makes the pending members a row.
+    fn push_row(&mut self) -> Result<(), AllocError>
+        requires { self.old.alone ≤ length self.old.left.now }
+        ensures row { OnOk result (self.new.rows.items ≡ self.old.rows.items ++ take self.old.alone self.old.left.now ∷ []) }
+        ensures left { OnOk result (self.new.left.now ≡ drop self.old.alone self.old.left.now) }
+        ensures alone { OnOk result (self.new.alone ≡ 0) }
+    {
+        self.rows.push(Line::new(front(self.alone, self.left)))?;
+        self.left = behind(self.alone, self.left);
+        self.alone = 0;
+        Ok(())
     }
-}
 
-/// Makes the pending single members a row if they are as many as the dimension. Fails only if
-/// memory runs out.
-fn opened<'t, 's>(
-    alloc: Global,
-    dimension: usize,
-    rows: Items<Items<Cell<'t, 's>>>,
-    alone: Items<Cell<'t, 's>>,
-) -> Result<Rows<'t, 's>, AllocError>
-    ensures { IfOk result (λ all. all ≡ set_data.opened dimension rows.entry alone.entry) }
-{
-    if dimension <= alone.as_slice().len() {
-        let rows = with_row(rows, alone)?;
-        Ok(Rows {
-            rows,
-            alone: Items::new(Vec::new(alloc)),
-        })
-    } else {
-        Ok(Rows { rows, alone })
+    /// Makes the pending members a row, if there are any.
+    fn close(&mut self) -> Result<(), AllocError>
+        requires { self.old.alone ≤ length self.old.left.now }
+        ensures rows { OnOk result (self.new.rows.items ≡ set_data.closed_with self.old.rows.items (take self.old.alone self.old.left.now)) }
+        ensures left { OnOk result (self.new.left.now ≡ drop self.old.alone self.old.left.now) }
+        ensures alone { OnOk result (self.new.alone ≡ 0) }
+    {
+        if self.alone == 0 {
+            return Ok(());
+        }
+        self.push_row()
     }
-}
 
-fn joined<'t, 's>(
-    front: Items<Cell<'t, 's>>,
-    back: &[Cell<'t, 's>],
-) -> Result<Items<Cell<'t, 's>>, AllocError>
-    ensures { IfOk result (λ all. all ≡ front.entry ++ back.now) }
-{
-    let mut all = front.into_vec();
-    for cell in back {
-        all.push(cell.copied())?;
-    }
-    Ok(Items::new(all))
-}
-
-/// Adds a tuple as a row, after the pending single members. Fails only if memory runs out.
-fn with_tuple<'t, 's>(
-    alloc: Global,
-    rows: Rows<'t, 's>,
-    members: Items<Cell<'t, 's>>,
-) -> Result<Rows<'t, 's>, AllocError>
-    ensures { IfOk result (λ all. all ≡ record { rows = set_data.closed rows.entry ++ members.entry ∷ []; alone = [] }) }
-{
-    let rows = with_row(closed(rows)?, members)?;
-    Ok(Rows {
-        rows,
-        alone: Items::new(Vec::new(alloc)),
-    })
-}
-
-/// Adds single members to the pending ones. Fails only if memory runs out.
-fn with_alone<'t, 's>(
-    alloc: Global,
-    dimension: usize,
-    rows: Rows<'t, 's>,
-    members: &[Cell<'t, 's>],
-) -> Result<Rows<'t, 's>, AllocError>
-    ensures { IfOk result (λ all. all ≡ set_data.opened dimension rows.entry.rows (rows.entry.alone ++ members.now)) }
-{
-    let Rows { rows, alone } = rows;
-    let alone = joined(alone, members)?;
-    opened(alloc, dimension, rows, alone)
-}
-
-fn with_item<'t, 's>(
-    alloc: Global,
-    dimension: usize,
-    rows: Rows<'t, 's>,
-    item: &Item<'t, 's>,
-) -> Result<Rows<'t, 's>, AllocError>
-    ensures { IfOk result (λ all. all ≡ set_data.with_item dimension rows.entry item.now) }
-{
-    let members = cells_of(alloc, item.members.copied())?;
-    if item.is_tuple {
-        with_tuple(alloc, rows, members)
-    } else {
-        with_alone(alloc, dimension, rows, members.as_slice())
+    /// Adds an item: a tuple is a row, a single member is added to the pending ones.
+    fn push_item(
+        &mut self,
+        dimension: usize,
+        is_tuple: bool,
+        count: usize,
+    ) -> Result<(), AllocError>
+        requires { self.old.alone + count ≤ length self.old.left.now }
+        ensures rows { OnOk result (set_data.pending self.new.rows.items self.new.alone self.new.left.now ≡ set_data.with_item dimension (set_data.pending
+            self.old.rows.items self.old.alone self.old.left.now) (set_data.item is_tuple (take count (drop self.old.alone self.old.left.now)))) }
+        ensures left { OnOk result (drop self.new.alone self.new.left.now ≡ drop count (drop self.old.alone self.old.left.now)) }
+        ensures few { OnOk result (self.new.alone ≤ length self.new.left.now) }
+    {
+        if is_tuple {
+            self.close()?;
+            self.alone = count;
+            return self.push_row();
+        }
+        self.alone += count;
+        if dimension <= self.alone {
+            return self.push_row();
+        }
+        Ok(())
     }
 }
 
 /// Returns the rows of a set of this dimension: each tuple is one, and so is each sequence of as
 /// many single members. Fails only if memory runs out.
-pub(crate) fn set_rows<'t, 's>(
+pub(crate) fn set_rows<'c, 't, 's>(
     alloc: Global,
     dimension: usize,
     members: &Members<'t, 's>,
-) -> Result<Items<Items<Cell<'t, 's>>>, AllocError>
+    words: &'c [Word<'t, 's>],
+) -> Result<Items<Line<'c, 't, 's>>, AllocError>
+    requires { words.now ≡ set_data.words members.now }
     ensures { IfOk result (λ all. all ≡ set_data.set_rows dimension members.now) }
 {
-    let items = items_of(alloc, members)?;
-    let mut rows = Rows {
-        rows: Items::new(Vec::new(alloc)),
-        alone: Items::new(Vec::new(alloc)),
+    let mut all = SetRows {
+        rows: Vec::new(alloc),
+        alone: 0,
+        left: words,
     };
-    for item in items.as_slice() {
-        rows = with_item(alloc, dimension, rows, item)?;
+    let mut left = members.copied();
+    while let Some(item) = left.first() {
+        all.push_item(dimension, left.begins_tuple(), item.len())?;
+        left = left.rest();
     }
-    closed(rows)
+    all.close()?;
+    Ok(Items::new(all.rows))
 }

@@ -3,7 +3,7 @@
 ghost use Rattle.std.specs.Prelude.{◌≡◌, ℕ, List, [], Ok};
 ghost use Rattle.net_data.specs.declared.statement.Statement.{Statement};
 ghost use Rattle.net_data.specs.Standing.{StatementsHaveSpans};
-ghost use Rattle.net_fault.specs.Places.{Finds, IsInFiles, IsSpanIn};
+ghost use Rattle.net_base.specs.Places.{Finds, IsInFiles, IsSpanIn};
 ghost use Rattle.net_tree.specs.Standing.{DeclarationsHaveSpans};
 ghost use Rattle.net_expr.specs.SetValues.{HasSets};
 ghost use Rattle.net_expr.specs.Worlds.{World};
@@ -13,6 +13,7 @@ ghost use Rattle.net_eval.specs.Binding as binding;
 ghost use Rattle.net_eval.specs.Binding.{AreNew};
 ghost use Rattle.net_eval.specs.DataRows as rows;
 ghost use Rattle.net_eval.specs.ParameterValues.{HasParameters, AreValued};
+ghost use Rattle.net_eval.specs.Soundness.{RestrictionsAreSound, ParametersAreSound, ChecksAreSound, WorldsAreSound};
 
 /// Theorem: a model without name errors declares no set or parameter twice.
 pub fn well_named_are_new()
@@ -53,4 +54,27 @@ pub fn rows_come_before_sources()
 pub fn errors_are_in_model_or_data()
     ensures value { (model_size data_size : ℕ) (ds : List Declaration) (ss : List Statement) → DeclarationsHaveSpans (IsSpanIn model_size) ds
         → StatementsHaveSpans (IsSpanIn data_size) ss → Finds (IsInFiles model_size data_size) (binding.world ds ss) }
+{}
+
+/// Theorem: a value that the code accepts for a parameter satisfies each restriction of its
+/// declaration.
+pub fn restrictions_are_sound()
+    ensures value { RestrictionsAreSound }
+{}
+
+/// Theorem: the entry of a parameter, from its declaration and its data, is the one that AMPL
+/// defines.
+pub fn parameters_are_sound()
+    ensures value { ParametersAreSound }
+{}
+
+/// Theorem: the condition of a `check` that the code accepts is true at each of its keys.
+pub fn checks_are_sound()
+    ensures value { ChecksAreSound }
+{}
+
+/// Theorem: the world of a model and its data, as the code computes it, is the world that AMPL
+/// defines.
+pub fn worlds_are_sound()
+    ensures value { WorldsAreSound }
 {}

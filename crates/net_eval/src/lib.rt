@@ -7,14 +7,13 @@ mod calls;
 mod cell;
 mod check;
 mod crossing;
-mod earlier;
+mod declared_keys;
 mod fault;
-mod flattened;
+mod from_data;
 mod given;
 mod group;
 mod indexing;
 mod item;
-mod iterated_sets;
 mod laws;
 mod names;
 mod param;
@@ -23,7 +22,6 @@ mod restriction;
 mod row;
 mod set;
 mod set_phrase;
-mod soundness;
 mod source;
 mod stored;
 mod superset;
@@ -31,12 +29,10 @@ mod world;
 
 pub use calls::{holds, index_of, members, value};
 pub use laws::{
-    bound_worlds_have_parameters, bound_worlds_have_sets, errors_are_in_model_or_data,
-    rows_come_before_sources, statements_are_taken_by_rows, well_named_are_new,
+    bound_worlds_have_parameters, bound_worlds_have_sets, checks_are_sound,
+    errors_are_in_model_or_data, parameters_are_sound, restrictions_are_sound,
+    rows_come_before_sources, statements_are_taken_by_rows, well_named_are_new, worlds_are_sound,
 };
+pub use net_base::Fault as EvalFault;
 pub use net_expr::{Entry, Keys, Member, Scope, Text, Tuple, World};
-pub use net_fault::Fault as EvalFault;
-pub use soundness::{
-    checks_are_sound, parameters_are_sound, restrictions_are_sound, worlds_are_sound,
-};
 pub use world::bind;

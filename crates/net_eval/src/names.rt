@@ -6,15 +6,13 @@ ghost use Rattle.net_tree.specs.View.{model, declaration_of};
 ghost use Rattle.net_sets.specs.Names.{named};
 ghost use Rattle.net_eval.specs.Consistent.{or_else};
 ghost use Rattle.net_eval.specs.Names as names;
-ghost use Rattle.net_fault.specs.Outcomes.{Refines};
+ghost use Rattle.net_base.specs.Outcomes.{Refines};
 
-use crate::cell::Cell;
 use crate::fault::reject_name;
-use net_expr::name_key;
-use net_fault::{ErrorCode, Fault, Language};
+use net_base::{ErrorCode, Excerpt, Fault, Language};
+use net_data::Word;
 use net_sets::{HashKey, NameMap};
 use net_tree::Decl;
-use net_views::Excerpt;
 use std::alloc::{AllocError, Global};
 use std::marker::Model;
 
@@ -53,7 +51,7 @@ fn remember<'s>(
 }
 
 impl<'s> Names<'s> {
-    /// Creates an empty list. The key has to come from all names that will be added.
+    /// Creates an empty list. The key has to be that of the run.
     fn new(alloc: Global, key: HashKey) -> Names<'s>
         ensures { result ≡ [] }
     {
@@ -99,7 +97,7 @@ impl<'s> Names<'s> {
 
     /// Returns the index of the set or the parameter that a token in the data names. Returns E30 if
     /// there is none.
-    pub(crate) fn target(&self, is_set: bool, word: &Cell<'_, 's>) -> Result<usize, Fault>
+    pub(crate) fn target(&self, is_set: bool, word: &Word<'_, 's>) -> Result<usize, Fault>
         ensures { Refines (names.target self.now is_set word.now) result }
     {
         let token = word.token();
@@ -118,10 +116,14 @@ impl<'s> Names<'s> {
 
 /// Returns the names that declarations declare as sets and parameters. Fails only if memory runs
 /// out.
-pub(crate) fn declared<'s>(alloc: Global, decls: &[Decl<'s>]) -> Result<Names<'s>, AllocError>
+pub(crate) fn declared<'s>(
+    alloc: Global,
+    key: HashKey,
+    decls: &[Decl<'s>],
+) -> Result<Names<'s>, AllocError>
     ensures { IfOk result (λ all. all ≡ names.declared (map declaration_of decls.now)) }
 {
-    let mut all = Names::new(alloc, name_key(decls));
+    let mut all = Names::new(alloc, key);
     for decl in decls {
         all = with_declared(all, decl)?;
     }

@@ -2,69 +2,30 @@
 
 ghost use Rattle.std.specs.Prelude.{◌≡◌, [], IfOk, map};
 ghost use Rattle.std.specs.Option.{option_copied};
-ghost use Rattle.net_tree.specs.View.{body_of, phrase_of, indexing_of};
+ghost use Rattle.net_tree.specs.View.{phrase_of, indexing_of};
 ghost use Rattle.net_expr.specs.declared.world.Entry.TheVariants.{Parameter as AParameter};
 ghost use Rattle.net_eval.specs.BoundParameters as bound;
-ghost use Rattle.net_eval.specs.declared.param.Gives.TheVariants as gives;
-ghost use Rattle.net_fault.specs.Outcomes.{Refines, Updates};
+ghost use Rattle.net_eval.specs.FromData.{Answers};
+ghost use Rattle.net_eval.specs.ParameterViews.{parameter_of, values_of};
+ghost use Rattle.net_base.specs.Outcomes.{Refines, Updates};
 
-use crate::cell::Cell;
-use crate::earlier::BindingEnv;
+use crate::declared_keys::keys_of_sets;
+use crate::from_data::{are_constant, from_data_alone, has_source};
 use crate::given::NamedData;
-use crate::indexing::{index_list, key_size, keys_in, span_or};
+use crate::indexing::{index_list, span_or};
 use crate::param_data::data_of;
 use crate::restriction::{KeyedValue, restricted};
 use crate::row::Values;
 use crate::source::{source_at, source_of, source_text, with_keys};
 use crate::stored::boxed;
-use net_expr::{Entry, Env, Row};
-use net_fault::{Detail, ErrorCode, Fault, Language, Span};
+use crate::world::BindingEnv;
+use net_base::{Boxed, Detail, ErrorCode, Fault, Language, Span};
+use net_data::Word;
+use net_expr::{Entry, Env, Row, indexing_of};
 use net_lex::Token;
 use net_sets::{Member, SharedSet, Table};
-use net_tree::{Begins, Body, Braces, Expr, Phrase, Role, role_of};
-use net_views::Boxed;
+use net_tree::{Begins, Braces, Expr, Phrase, PhraseWord, Role, phrase_value};
 use std::alloc::{AllocError, Global};
-
-/// The keyword of a phrase with a value.
-#[derive(Clone, Copy)]
-enum Gives {
-    /// `:=`
-    Becomes,
-    /// `default`
-    Default,
-}
-
-fn is_wanted(wanted: Gives, role: Role) -> bool
-    ensures { result ≡ bound.is_wanted wanted role }
-{
-    match (wanted, role) {
-        (Gives::Becomes, Role::Becomes) => true,
-        (Gives::Default, Role::Phrase(Begins::Default)) => true,
-        _ => false,
-    }
-}
-
-fn body_value<'a, 's>(body: &'a Body<'s>) -> Option<&'a Expr<'s>>
-    ensures { bound.as_tree (option_copied result) ≡ bound.body_value (body_of body.entry.now) }
-{
-    match body {
-        Body::Valued(expr) => Some(expr),
-        Body::Plain => None,
-        Body::Priced(_, _) => None,
-    }
-}
-
-/// Returns the expression of the first phrase with this keyword.
-fn phrase_value<'a, 's>(wanted: Gives, phrases: &'a [Phrase<'s>]) -> Option<&'a Expr<'s>>
-    ensures { bound.as_tree (option_copied result) ≡ bound.phrase_value wanted (map phrase_of phrases.entry.now) }
-{
-    for phrase in phrases {
-        if is_wanted(wanted, role_of(&phrase.word)) {
-            return body_value(&phrase.body);
-        }
-    }
-    None
-}
 
 fn is_symbolic(role: Role) -> bool
     ensures { result ≡ bound.is_symbolic role }
@@ -76,18 +37,18 @@ fn is_symbolic(role: Role) -> bool
 }
 
 /// Returns whether strings are allowed as values.
-fn takes_texts(phrases: &[Phrase<'_>]) -> bool
+pub(crate) fn takes_texts(phrases: &[Phrase<'_>]) -> bool
     ensures { result ≡ bound.takes_texts (map phrase_of phrases.now) }
 {
     for phrase in phrases {
-        if is_symbolic(role_of(&phrase.word)) {
+        if is_symbolic(phrase.word.role()) {
             return true;
         }
     }
     false
 }
 
-fn is_number(member: &Member<'_>) -> bool
+pub(crate) fn is_number(member: &Member<'_>) -> bool
     ensures { result ≡ bound.is_number member.now }
 {
     match member {
@@ -141,6 +102,8 @@ pub(crate) struct Parameter<'a, 's> {
 /// from the source at this span.
 #[derive(Drop)]
 struct PlacedValues<'a, 's> {
+    /// Whether strings are allowed as values.
+    takes_texts: bool,
     table: &'a Table<'s>,
     /// The spans of the cells, row by row.
     cells: &'a [Span],
@@ -157,8 +120,8 @@ fn fit_value<'s>(
     near: usize,
     row: &Row<'s>,
 ) -> Result<(), Fault>
-    ensures { Refines (bound.fit_row env.now parameter.now.name.now parameter.now.keys (map phrase_of parameter.now.phrases.now) values.now.text
-        values.now.at values.now.cells.now values.now.table.now row.now) result }
+    requires { values.now.takes_texts ≡ bound.takes_texts (map phrase_of parameter.now.phrases.now) }
+    ensures { Refines (bound.fit_row env.now (parameter_of parameter.now) (values_of values.now) row.now) result }
 {
     let table = values.table;
     match table.get_with_hint(near, &row.key) {
@@ -166,7 +129,7 @@ fn fit_value<'s>(
         Some(member) => {
             let phrases = parameter.phrases;
             let cell = cell_of(values.cells, table.row_with_hint(near, &row.key));
-            fit_kind(takes_texts(phrases), values.text, values.at, cell, member)?;
+            fit_kind(values.takes_texts, values.text, values.at, cell, member)?;
             let keyed = KeyedValue {
                 name: &parameter.name.text,
                 keys: parameter.keys,
@@ -186,8 +149,8 @@ fn fit_values<'s>(
     values: &PlacedValues<'_, 's>,
     rows: &[Row<'s>],
 ) -> Result<(), Fault>
-    ensures { Refines (bound.fit_values env.now parameter.now.name.now parameter.now.keys (map phrase_of parameter.now.phrases.now) values.now.text
-        values.now.at values.now.cells.now values.now.table.now rows.now) result }
+    requires { values.now.takes_texts ≡ bound.takes_texts (map phrase_of parameter.now.phrases.now) }
+    ensures { Refines (bound.fit_values env.now (parameter_of parameter.now) (values_of values.now) rows.now) result }
 {
     let mut near: usize = 0;
     for row in rows {
@@ -203,19 +166,19 @@ fn with_values<'s>(
     alloc: Global,
     env: &Env<'_, 's>,
     parameter: &Parameter<'_, 's>,
-    default: Option<&Cell<'_, 's>>,
+    default: Option<&Word<'_, 's>>,
     rows: &[Row<'s>],
     values: &mut Values<'s>,
 ) -> Result<(), Fault>
-    ensures { Updates (bound.values env.now parameter.now.name.now parameter.now.keys (map phrase_of parameter.now.phrases.now) (bound.source
-        (bound.phrase_value gives.Becomes (map phrase_of parameter.now.phrases.now)) (option_copied default.entry) (bound.phrase_value gives.Default
-        (map phrase_of parameter.now.phrases.now))) rows.now values.old) result values.new.0 }
+    ensures { Updates (bound.values env.now (parameter_of parameter.now) (bound.source_in (parameter_of parameter.now) (option_copied default.entry))
+        rows.now values.old) result values.new.0 }
 {
-    let assigned = phrase_value(Gives::Becomes, parameter.phrases);
-    let otherwise = phrase_value(Gives::Default, parameter.phrases);
+    let assigned = phrase_value(PhraseWord::Becomes, parameter.phrases);
+    let otherwise = phrase_value(PhraseWord::Default, parameter.phrases);
     let source = source_of(parameter.name.span, assigned, default, otherwise);
     with_keys(alloc, env, &source, rows, &mut values.table)?;
     let placed = PlacedValues {
+        takes_texts: takes_texts(parameter.phrases),
         table: &values.table,
         cells: values.places.as_slice(),
         text: source_text(&source),
@@ -225,7 +188,7 @@ fn with_values<'s>(
 }
 
 /// Builds the entry of a parameter. Fails only if memory runs out.
-fn parameter_entry<'s>(
+pub(crate) fn parameter_entry<'s>(
     alloc: Global,
     parameter: &Parameter<'_, 's>,
     table: Table<'s>,
@@ -246,10 +209,10 @@ fn filled<'s>(
     values: &mut Values<'s>,
 ) -> Result<(), Fault>
     requires { values.old ≡ ([], []) }
-    ensures { Updates (bound.fill_table earlier.now.env earlier.now.widths.now parameter.now.name.now (map phrase_of parameter.now.phrases.now)
-        named_data.now parameter.now.keys rows.now parameter.now.index.now) result values.new.0 }
+    ensures { Updates (bound.fill_table earlier.now.env earlier.now.widths.now (parameter_of parameter.now) named_data.now rows.now) result
+        values.new.0 }
 {
-    let is_assigned = phrase_value(Gives::Becomes, parameter.phrases).is_some();
+    let is_assigned = phrase_value(PhraseWord::Becomes, parameter.phrases).is_some();
     let widths = earlier.widths;
     let default = data_of(alloc, widths, parameter, is_assigned, named_data, values)?;
     with_values(
@@ -269,12 +232,42 @@ fn with_data<'s>(
     named_data: &[NamedData<'_, '_, 's>],
     rows: &[Row<'s>],
 ) -> Result<Boxed<Entry<'s>>, Fault>
-    ensures { Refines (bound.with_data earlier.now.env earlier.now.widths.now parameter.now.name.now (map phrase_of parameter.now.phrases.now)
-        named_data.now parameter.now.keys rows.now parameter.now.index.now) result }
+    ensures { Refines (bound.with_data earlier.now.env earlier.now.widths.now (parameter_of parameter.now) named_data.now rows.now) result }
 {
     let mut values = Values::over(alloc, parameter.index.copied()?)?;
     filled(alloc, earlier, parameter, named_data, rows, &mut values)?;
     Ok(parameter_entry(alloc, parameter, values.into_table())?)
+}
+
+/// Evaluates a parameter over declared sets whose values all come from the data, without a row for
+/// each key. Returns `None` if it is another parameter.
+fn bound_from_data<'s>(
+    alloc: Global,
+    earlier: &BindingEnv<'_, 's>,
+    name: &Token<'s>,
+    braces: &Option<Braces<'s>>,
+    phrases: &[Phrase<'s>],
+    named_data: &[NamedData<'_, '_, 's>],
+) -> Result<Option<Boxed<Entry<'s>>>, Fault>
+    ensures { Answers (bound.bound_parameter earlier.now.env earlier.now.widths.now name.now (indexing_of braces.now) (map phrase_of phrases.now)
+        named_data.now) result }
+{
+    let Some(braces) = braces else {
+        return Ok(None);
+    };
+    if has_source(phrases, named_data) || !are_constant(phrases) {
+        return Ok(None);
+    }
+    let Some(keys) = keys_of_sets(alloc, &earlier.env, braces)? else {
+        return Ok(None);
+    };
+    let parameter = Parameter {
+        name,
+        keys: Some(keys.count),
+        index: &keys.index,
+        phrases,
+    };
+    from_data_alone(alloc, earlier, &parameter, named_data)
 }
 
 /// Evaluates a declared parameter: its index set, then its data, then the missing values, then the
@@ -290,13 +283,16 @@ pub(crate) fn bound_parameter<'s>(
     ensures { Refines (bound.bound_parameter earlier.now.env earlier.now.widths.now name.now (indexing_of braces.now) (map phrase_of phrases.now)
         named_data.now) result }
 {
+    if let Some(entry) = bound_from_data(alloc, earlier, name, braces, phrases, named_data)? {
+        return Ok(entry);
+    }
     let env = &earlier.env;
-    let keys = keys_in(alloc, env, braces)?;
-    let rows = keys.rows.as_slice();
+    let indexing = indexing_of(alloc, env, braces)?;
+    let rows = indexing.rows.as_slice();
     let index = index_list(alloc, env, span_or(name.span, braces), braces, rows)?;
     let parameter = Parameter {
         name,
-        keys: key_size(braces, &keys),
+        keys: indexing.count,
         index: &index,
         phrases,
     };

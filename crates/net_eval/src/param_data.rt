@@ -4,34 +4,25 @@ ghost use Rattle.std.specs.Prelude.{◌≡◌, [], None};
 ghost use Rattle.net_expr.specs.Worlds.{key_count};
 ghost use Rattle.net_eval.specs.declared.given.Given.TheVariants as given;
 ghost use Rattle.net_eval.specs.Rows as rows;
-ghost use Rattle.net_fault.specs.Outcomes.{Refines, Updates, each};
+ghost use Rattle.net_base.specs.Outcomes.{Updates, each};
 
-use crate::cell::Cell;
 use crate::given::{Given, Grid, Groups, Line, NamedData};
-use crate::group::{cut, whole_groups};
+use crate::group::whole_rows;
 use crate::param::Parameter;
 use crate::row::{NamedParameter, Values, pair_of, with_cell, with_groups};
 use crate::set::{agrees, doubled, leading_size};
-use net_fault::{ErrorCode, Fault};
+use net_base::Fault;
+use net_data::Word;
+use net_expr::key_count;
 use std::alloc::Global;
-
-fn has_two(word: &Cell<'_, '_>, keys: usize) -> Result<(), Fault>
-    ensures { Refines (rows.has_two word.now keys) result }
-{
-    if keys == 2 {
-        Ok(())
-    } else {
-        Err(Fault::of_data(ErrorCode::Arity, word.token().span))
-    }
-}
 
 /// Adds the cells of a row in a table, column by column.
 fn across<'t, 's>(
     alloc: Global,
     parameter: &NamedParameter<'_, '_, 's>,
     grid: &Grid<'_, 't, 's>,
-    row: &Cell<'t, 's>,
-    cells: &[Cell<'t, 's>],
+    row: &Word<'t, 's>,
+    cells: &[Word<'t, 's>],
     values: &mut Values<'s>,
 ) -> Result<(), Fault>
     ensures { Updates (rows.across parameter.now.word.now parameter.now.keys parameter.now.index.now grid.now.transposed row.now grid.now.columns
@@ -41,28 +32,13 @@ fn across<'t, 's>(
         let Some(cell) = cells.get(place) else {
             return Ok(());
         };
-        let key = pair_of(alloc, grid.transposed, row, column)?;
-        with_cell(alloc, parameter, key.as_slice(), cell, values)?;
+        let key = pair_of(grid.transposed, row, column);
+        with_cell(alloc, parameter, &key, cell, values)?;
     }
     Ok(())
 }
 
-fn with_line<'t, 's>(
-    alloc: Global,
-    parameter: &NamedParameter<'_, '_, 's>,
-    grid: &Grid<'_, 't, 's>,
-    line: &[Cell<'t, 's>],
-    values: &mut Values<'s>,
-) -> Result<(), Fault>
-    ensures { Updates (rows.with_line parameter.now.word.now parameter.now.keys parameter.now.index.now grid.now.transposed grid.now.columns line.now
-        values.old) result values.new }
-{
-    match line {
-        [] => Ok(()),
-        [row, cells @ ..] => across(alloc, parameter, grid, row, cells, values),
-    }
-}
-
+/// Adds the rows of a table.
 fn with_lines<'t, 's>(
     alloc: Global,
     parameter: &NamedParameter<'_, '_, 's>,
@@ -74,7 +50,9 @@ fn with_lines<'t, 's>(
         lines.now values.old) result values.new }
 {
     for line in lines {
-        with_line(alloc, parameter, grid, line.cells(), values)?;
+        if let [row, cells @ ..] = line.cells() {
+            across(alloc, parameter, grid, row, cells, values)?;
+        }
     }
     Ok(())
 }
@@ -94,8 +72,8 @@ fn grouped<'t, 's>(
     let word = parameter.word;
     let size = key_count(parameter.keys);
     agrees(word, leading_size(widths, groups.leader, size), size)?;
-    let cells = cut(alloc, size, groups.values, groups.cells.cells())?;
-    whole_groups(word.token().span, size, groups.values, cells.as_slice())?;
+    let at = word.token().span;
+    let rows = whole_rows(alloc, at, size, groups.values, groups.cells.cells())?;
     if is_doubled {
         return Err(doubled(alloc, word)?);
     }
@@ -104,7 +82,7 @@ fn grouped<'t, 's>(
         parameter,
         size,
         groups.place,
-        cells.as_slice(),
+        rows.as_slice(),
         values,
     )
 }
@@ -121,10 +99,10 @@ fn gridded<'t, 's>(
         (given.Grid grid.now) is_doubled values.old) result values.new }
 {
     let word = parameter.word;
-    has_two(word, key_count(parameter.keys))?;
-    let columns = grid.columns.cells();
-    let lines = cut(alloc, 1, columns.len(), grid.cells.cells())?;
-    whole_groups(word.token().span, 1, columns.len(), lines.as_slice())?;
+    agrees(word, key_count(parameter.keys), 2)?;
+    let at = word.token().span;
+    let columns = grid.columns.cells().len();
+    let lines = whole_rows(alloc, at, 1, columns, grid.cells.cells())?;
     if is_doubled {
         return Err(doubled(alloc, word)?);
     }
@@ -156,7 +134,7 @@ fn taken<'t, 's>(
     }
 }
 
-fn either<'t, 's>(before: Option<Cell<'t, 's>>, now: &Option<Cell<'t, 's>>) -> Option<Cell<'t, 's>>
+fn either<'t, 's>(before: Option<Word<'t, 's>>, now: &Option<Word<'t, 's>>) -> Option<Word<'t, 's>>
     ensures { result ≡ rows.either before.entry now.now }
 {
     match before {
@@ -176,11 +154,11 @@ pub(crate) fn data_of<'t, 's>(
     is_assigned: bool,
     named_data: &[NamedData<'_, 't, 's>],
     values: &mut Values<'s>,
-) -> Result<Option<Cell<'t, 's>>, Fault>
+) -> Result<Option<Word<'t, 's>>, Fault>
     ensures { rows.Gives (each (rows.with_statement widths.now parameter.now.keys parameter.now.index.now (key_count parameter.now.keys) is_assigned)
         named_data.now (values.old, None)) result values.new }
 {
-    let mut default: Option<Cell<'t, 's>> = None;
+    let mut default: Option<Word<'t, 's>> = None;
     for named in named_data {
         let is_doubled = is_assigned || (named.default.is_some() && default.is_some());
         let here = NamedParameter {
@@ -192,13 +170,4 @@ pub(crate) fn data_of<'t, 's>(
         default = either(default, &named.default);
     }
     Ok(default)
-}
-
-fn key_count(keys: Option<u8>) -> usize
-    ensures { result ≡ key_count keys }
-{
-    match keys {
-        None => 0,
-        Some(count) => usize::from(count),
-    }
 }

@@ -2,10 +2,10 @@
 
 ghost use Rattle.std.specs.Prelude.{◌≡◌, IfOk, map};
 ghost use Rattle.net_tree.specs.View.{tree, body_of, phrase_of};
-ghost use Rattle.net_fault.specs.Outcomes.{Refines, diagnostic_at};
-ghost use Rattle.net_fault.specs.declared.error_code.ErrorCode.TheVariants.{Restriction};
-ghost use Rattle.net_fault.specs.declared.fault.Fault.TheVariants.{At};
-ghost use Rattle.net_fault.specs.declared.language.Language.TheVariants.{Model};
+ghost use Rattle.net_base.specs.Outcomes.{Refines, diagnostic_at};
+ghost use Rattle.net_base.specs.declared.error_code.ErrorCode.TheVariants.{Restriction};
+ghost use Rattle.net_base.specs.declared.fault.Fault.TheVariants.{At};
+ghost use Rattle.net_base.specs.declared.diagnostic.Language.TheVariants.{Model};
 ghost use Rattle.net_eval.specs.Restrictions as restrictions;
 ghost use Rattle.net_expr.specs.Numbers as numbers;
 ghost use Rattle.net_expr.specs.Sets.{fits};
@@ -13,19 +13,17 @@ ghost use Rattle.net_expr.specs.Worlds as worlds;
 ghost use Rattle.net_expr.specs.declared.value.Value.TheVariants.{One};
 ghost use Rattle.net_tree.specs.declared.role.Relation.TheVariants as relations;
 
+use net_base::{ErrorCode, Excerpt, Fault, Language, Span};
 use net_expr::{Env, Row, Value, evaluate, reported_reference};
-use net_fault::{ErrorCode, Fault, Language, Span};
-use net_lex::Token;
 use net_sets::{Member, Tuple};
-use net_tree::{Body, Expr, Phrase, Relation, Role, role_of, span_of};
-use net_views::Excerpt;
+use net_tree::{Body, Expr, Phrase, Relation, Role, Terminal, span_of};
 use std::alloc::{AllocError, Global};
 
 /// Returns the relation by which a phrase restricts a value, if it does.
-fn relation_of(word: &Token<'_>) -> Option<Relation>
+pub(crate) fn relation_of(word: &Terminal<'_>) -> Option<Relation>
     ensures { result ≡ restrictions.relation word.now }
 {
-    match role_of(word) {
+    match word.role() {
         Role::Relation(relation) => restricting(relation),
         _ => None,
     }
@@ -188,7 +186,7 @@ fn restricted_in<'s>(
     alloc: Global,
     env: &Env<'_, 's>,
     keyed: &KeyedValue<'_, 's>,
-    word: &Token<'s>,
+    word: &Terminal<'s>,
     body: &Body<'s>,
 ) -> Result<(), Fault>
     ensures { Refines (restrictions.restricted_in env.now keyed.now.row.now.scope (worlds.reference keyed.now.name.now keyed.now.keys

@@ -2,21 +2,21 @@
 
 ghost use Rattle.std.specs.Prelude.{◌≡◌, ◌+◌, [], IfOk, None, Some, slice_get};
 ghost use Rattle.std.specs.Option.{option_copied};
-ghost use Rattle.net_fault.specs.declared.error_code.ErrorCode.TheVariants.{TooMany};
-ghost use Rattle.net_fault.specs.declared.fault.Fault.TheVariants.{At};
-ghost use Rattle.net_fault.specs.declared.language.Language.TheVariants.{Data};
+ghost use Rattle.net_base.specs.declared.error_code.ErrorCode.TheVariants.{TooMany};
+ghost use Rattle.net_base.specs.declared.fault.Fault.TheVariants.{At};
+ghost use Rattle.net_base.specs.declared.diagnostic.Language.TheVariants.{Data};
 ghost use Rattle.net_sets.specs.Sets.{at_key};
 ghost use Rattle.net_expr.specs.Worlds as worlds;
 ghost use Rattle.net_eval.specs.Rows as rows;
-ghost use Rattle.net_fault.specs.Outcomes.{Updates, each, bare, diagnostic_at};
+ghost use Rattle.net_base.specs.Outcomes.{Updates, each, bare, diagnostic_at};
 
-use crate::cell::{Cell, tuple_in};
+use crate::cell::{member_in, tuple_in};
 use crate::given::Line;
 use crate::group::{begins_at, front, is_point};
+use net_base::{Detail, ErrorCode, Fault, Items, Language, Span};
+use net_data::Word;
 use net_expr::reported_reference;
-use net_fault::{Detail, ErrorCode, Fault, Language, Span};
 use net_sets::{Member, SetFault, SharedSet, Table, Tuple, TupleSet};
-use net_views::Items;
 use std::alloc::{AllocError, Global};
 use std::marker::Model;
 
@@ -61,7 +61,7 @@ impl<'s> Values<'s> {
 /// A parameter that a statement names.
 #[derive(Drop)]
 pub(crate) struct NamedParameter<'a, 't, 's> {
-    pub(crate) word: &'a Cell<'t, 's>,
+    pub(crate) word: &'a Word<'t, 's>,
     /// The number of members of a key, or `None` without indexing.
     pub(crate) keys: Option<u8>,
     /// The index set.
@@ -114,8 +114,8 @@ fn too_many(text: Language, at: Span) -> Fault
 fn with_row<'s>(
     alloc: Global,
     parameter: &NamedParameter<'_, '_, 's>,
-    cells: &[Cell<'_, 's>],
-    value: &Cell<'_, 's>,
+    cells: &[Word<'_, 's>],
+    value: &Word<'_, 's>,
     values: &mut Values<'s>,
 ) -> Result<(), Fault>
     ensures { Updates (rows.with_row parameter.now.word.now parameter.now.keys parameter.now.index.now cells.now value.now values.old) result values.new }
@@ -139,7 +139,7 @@ fn with_row<'s>(
         at,
         near,
         &key,
-        value.member(),
+        member_in(value),
         &mut values.table,
     )?;
     values.places.push(value.token().span)?;
@@ -150,8 +150,8 @@ fn with_row<'s>(
 pub(crate) fn with_cell<'s>(
     alloc: Global,
     parameter: &NamedParameter<'_, '_, 's>,
-    cells: &[Cell<'_, 's>],
-    value: &Cell<'_, 's>,
+    cells: &[Word<'_, 's>],
+    value: &Word<'_, 's>,
     values: &mut Values<'s>,
 ) -> Result<(), Fault>
     ensures { Updates (rows.with_cell parameter.now.word.now parameter.now.keys parameter.now.index.now cells.now (Some value.now) values.old) result
@@ -164,30 +164,12 @@ pub(crate) fn with_cell<'s>(
     }
 }
 
-/// Adds a group: the members of a key, and values of which one is used.
-fn with_group<'s>(
-    alloc: Global,
-    parameter: &NamedParameter<'_, '_, 's>,
-    size: usize,
-    place: usize,
-    group: &[Cell<'_, 's>],
-    values: &mut Values<'s>,
-) -> Result<(), Fault>
-    ensures { Updates (rows.with_group parameter.now.word.now parameter.now.keys parameter.now.index.now size place group.now values.old) result
-        values.new }
-{
-    match value_at(size, place, group) {
-        None => Ok(()),
-        Some(value) => with_cell(alloc, parameter, front(size, group), value, values),
-    }
-}
-
 /// Returns the value with this index after the key.
 fn value_at<'c, 't, 's>(
     size: usize,
     place: usize,
-    group: &'c [Cell<'t, 's>],
-) -> Option<&'c Cell<'t, 's>>
+    group: &'c [Word<'t, 's>],
+) -> Option<&'c Word<'t, 's>>
     ensures { option_copied result ≡ slice_get group.entry.now (size + place) }
 {
     if size < group.len() && place < group.len() - size {
@@ -197,7 +179,7 @@ fn value_at<'c, 't, 's>(
     }
 }
 
-/// Adds a statement of groups.
+/// Adds groups, each the members of a key, and values of which one is used.
 pub(crate) fn with_groups<'s>(
     alloc: Global,
     parameter: &NamedParameter<'_, '_, 's>,
@@ -210,26 +192,25 @@ pub(crate) fn with_groups<'s>(
         values.new }
 {
     for group in groups {
-        with_group(alloc, parameter, size, place, group.cells(), values)?;
+        let group = group.cells();
+        if let Some(value) = value_at(size, place, group) {
+            with_cell(alloc, parameter, front(size, group), value, values)?;
+        }
     }
     Ok(())
 }
 
+/// Returns the key of a value in a table; `(tr)` puts the column's member first.
 pub(crate) fn pair_of<'t, 's>(
-    alloc: Global,
     transposed: bool,
-    row: &Cell<'t, 's>,
-    column: &Cell<'t, 's>,
-) -> Result<Items<Cell<'t, 's>>, AllocError>
-    ensures { IfOk result (λ all. all ≡ rows.pair_of transposed row.now column.now) }
+    row: &Word<'t, 's>,
+    column: &Word<'t, 's>,
+) -> [Word<'t, 's>; 2]
+    ensures { result ≡ rows.pair_of transposed row.now column.now }
 {
-    let mut all = Vec::new(alloc);
     if transposed {
-        all.push(column.copied())?;
-        all.push(row.copied())?;
+        [column.copied(), row.copied()]
     } else {
-        all.push(row.copied())?;
-        all.push(column.copied())?;
+        [row.copied(), column.copied()]
     }
-    Ok(Items::new(all))
 }

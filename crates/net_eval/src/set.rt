@@ -3,31 +3,30 @@
 ghost use Rattle.std.specs.Prelude.{◌≡◌, ◌||◌, [], IfOk, is_some, map};
 ghost use Rattle.std.specs.Option.{option_copied};
 ghost use Rattle.net_expr.specs.declared.world.Entry.TheVariants.{Set as ASet};
-ghost use Rattle.net_fault.specs.declared.language.Language.TheVariants.{Data as InData};
-ghost use Rattle.net_fault.specs.declared.detail.Detail.TheVariants.{Reported};
-ghost use Rattle.net_fault.specs.declared.fault.Fault.TheVariants.{At};
-ghost use Rattle.net_fault.specs.declared.error_code.ErrorCode.TheVariants.{DoubleValue};
+ghost use Rattle.net_base.specs.declared.diagnostic.Language.TheVariants.{Data as InData};
+ghost use Rattle.net_base.specs.declared.diagnostic.Detail.TheVariants.{Reported};
+ghost use Rattle.net_base.specs.declared.fault.Fault.TheVariants.{At};
+ghost use Rattle.net_base.specs.declared.error_code.ErrorCode.TheVariants.{DoubleValue};
 ghost use Rattle.net_eval.specs.declared.given.Given.TheVariants as given;
 ghost use Rattle.net_tree.specs.View.{phrase_of};
 ghost use Rattle.net_eval.specs.BoundSets as bound;
 ghost use Rattle.net_eval.specs.SetData as set_data;
-ghost use Rattle.net_fault.specs.Outcomes.{Refines, Updates, each, diagnostic_at};
+ghost use Rattle.net_base.specs.Outcomes.{Refines, Updates, each, diagnostic_at};
 
-use crate::cell::{Cell, tuple_in};
-use crate::earlier::BindingEnv;
+use crate::cell::tuple_in;
 use crate::fault::reject_name;
-use crate::given::{Given, Groups, NamedData};
-use crate::group::{all_of_size, begins_at, cut, keys_of, whole_groups};
-use crate::item::set_rows;
+use crate::given::{Given, Groups, Line, NamedData};
+use crate::group::{all_of_size, begins_at, keys_of, whole_rows};
+use crate::item::{given_words, set_rows};
 use crate::set_phrase::{Claim, Claims, SetPhrase, assigned, set_phrases};
 use crate::stored::{boxed, unboxed};
-use net_data::Members;
+use crate::world::BindingEnv;
+use net_base::{Boxed, ErrorCode, Fault, Items, Language};
+use net_data::{Members, Word};
 use net_expr::Entry;
-use net_fault::{ErrorCode, Fault, Language};
 use net_lex::Token;
-use net_sets::{HashKey, IndexedSet, KeyDigest, SetFault, TupleSet};
+use net_sets::{HashKey, IndexedSet, SetFault, TupleSet};
 use net_tree::Phrase;
-use net_views::{Boxed, Items};
 use std::alloc::{AllocError, Global};
 
 /// Returns the number of members of a key: that of the first declared name of the heading, if it is
@@ -41,7 +40,7 @@ pub(crate) fn leading_size(widths: &[usize], leader: usize, own: usize) -> usize
     }
 }
 
-pub(crate) fn agrees(word: &Cell<'_, '_>, reported: usize, own: usize) -> Result<(), Fault>
+pub(crate) fn agrees(word: &Word<'_, '_>, reported: usize, own: usize) -> Result<(), Fault>
     ensures { Refines (set_data.agrees word.now reported own) result }
 {
     if reported == own {
@@ -53,7 +52,7 @@ pub(crate) fn agrees(word: &Cell<'_, '_>, reported: usize, own: usize) -> Result
 
 /// Builds the error for a statement that repeats earlier data for a name. Fails only if memory runs
 /// out.
-pub(crate) fn doubled(alloc: Global, word: &Cell<'_, '_>) -> Result<Fault, AllocError>
+pub(crate) fn doubled(alloc: Global, word: &Word<'_, '_>) -> Result<Fault, AllocError>
     ensures { IfOk result (λ f. f ≡ At (diagnostic_at InData DoubleValue word.now.span (Reported word.now.text))) }
 {
     let token = word.token();
@@ -66,26 +65,28 @@ pub(crate) fn doubled(alloc: Global, word: &Cell<'_, '_>) -> Result<Fault, Alloc
     )
 }
 
-fn member_rows<'t, 's>(
+fn member_rows<'c, 't, 's>(
     alloc: Global,
     dimension: usize,
-    word: &Cell<'t, 's>,
+    word: &Word<'t, 's>,
     members: &Members<'t, 's>,
-) -> Result<Items<Items<Cell<'t, 's>>>, Fault>
+    words: &'c [Word<'t, 's>],
+) -> Result<Items<Line<'c, 't, 's>>, Fault>
+    requires { words.now ≡ set_data.words members.now }
     ensures { Refines (set_data.given_rows [] dimension word.now (given.Members members.now)) result }
 {
-    let rows = set_rows(alloc, dimension, members)?;
+    let rows = set_rows(alloc, dimension, members, words)?;
     all_of_size(word.token().span, dimension, rows.as_slice())?;
     Ok(rows)
 }
 
-fn key_rows<'t, 's>(
+fn key_rows<'c, 't, 's>(
     alloc: Global,
     widths: &[usize],
     dimension: usize,
-    word: &Cell<'t, 's>,
-    groups: &Groups<'_, 't, 's>,
-) -> Result<Items<Items<Cell<'t, 's>>>, Fault>
+    word: &Word<'t, 's>,
+    groups: &Groups<'c, 't, 's>,
+) -> Result<Items<Line<'c, 't, 's>>, Fault>
     ensures { Refines (set_data.given_rows widths.now dimension word.now (given.Groups groups.now)) result }
 {
     agrees(
@@ -93,26 +94,24 @@ fn key_rows<'t, 's>(
         leading_size(widths, groups.leader, dimension),
         dimension,
     )?;
-    let cells = cut(alloc, dimension, groups.values, groups.cells.cells())?;
-    whole_groups(
-        word.token().span,
-        dimension,
-        groups.values,
-        cells.as_slice(),
-    )?;
-    Ok(keys_of(alloc, dimension, cells.as_slice())?)
+    let at = word.token().span;
+    let rows = whole_rows(alloc, at, dimension, groups.values, groups.cells.cells())?;
+    Ok(keys_of(alloc, dimension, rows.as_slice())?)
 }
 
-fn given_rows<'t, 's>(
+/// Returns the rows of a set in a statement; `words` are the members of its items.
+fn given_rows<'c, 't, 's>(
     alloc: Global,
     widths: &[usize],
     dimension: usize,
-    named: &NamedData<'_, 't, 's>,
-) -> Result<Items<Items<Cell<'t, 's>>>, Fault>
+    named: &NamedData<'c, 't, 's>,
+    words: &'c [Word<'t, 's>],
+) -> Result<Items<Line<'c, 't, 's>>, Fault>
+    requires { words.now ≡ set_data.given_words named.now.given }
     ensures { Refines (set_data.given_rows widths.now dimension named.now.word named.now.given) result }
 {
     match &named.given {
-        Given::Members(members) => member_rows(alloc, dimension, &named.word, members),
+        Given::Members(members) => member_rows(alloc, dimension, &named.word, members, words),
         Given::Groups(groups) => key_rows(alloc, widths, dimension, &named.word, groups),
         Given::Grid(_) => Ok(Items::new(Vec::new(alloc))),
     }
@@ -120,8 +119,8 @@ fn given_rows<'t, 's>(
 
 fn with_member<'s>(
     alloc: Global,
-    word: &Cell<'_, 's>,
-    row: &[Cell<'_, 's>],
+    word: &Word<'_, 's>,
+    row: &[Word<'_, 's>],
     set: &mut TupleSet<'s>,
 ) -> Result<(), Fault>
     ensures { Updates (set_data.with_member word.now row.now set.old) result set.new }
@@ -143,25 +142,17 @@ fn with_member<'s>(
     }
 }
 
-/// Derives the key for a set of the tuples of rows.
-fn key_of(rows: &[Items<Cell<'_, '_>>]) -> HashKey {
-    let mut digest = KeyDigest::new();
-    for row in rows {
-        digest.update(&tuple_in(row.as_slice()));
-    }
-    digest.finish()
-}
-
 fn members_of<'s>(
     alloc: Global,
-    word: &Cell<'_, 's>,
-    rows: &[Items<Cell<'_, 's>>],
+    key: HashKey,
+    word: &Word<'_, 's>,
+    rows: &[Line<'_, '_, 's>],
 ) -> Result<Boxed<TupleSet<'s>>, Fault>
     ensures { Refines (each (set_data.with_member word.now) rows.now []) result }
 {
-    let mut set = TupleSet::new(alloc, key_of(rows));
+    let mut set = TupleSet::new(alloc, key);
     for row in rows {
-        with_member(alloc, word, row.as_slice(), &mut set)?;
+        with_member(alloc, word, row.cells(), &mut set)?;
     }
     Ok(boxed(alloc, set)?)
 }
@@ -176,35 +167,36 @@ fn is_given(is_assigned: bool, found: &Option<Boxed<TupleSet<'_>>>) -> bool
 /// Adds a statement with the members of a set, which must not have a value yet.
 fn with_statement<'s>(
     alloc: Global,
-    widths: &[usize],
+    earlier: &BindingEnv<'_, 's>,
     dimension: usize,
     is_assigned: bool,
     named: &NamedData<'_, '_, 's>,
     found: Option<Boxed<TupleSet<'s>>>,
 ) -> Result<Option<Boxed<TupleSet<'s>>>, Fault>
-    ensures { Refines (set_data.with_statement widths.now dimension is_assigned named.now found.entry) result }
+    ensures { Refines (set_data.with_statement earlier.now.widths.now dimension is_assigned named.now found.entry) result }
 {
-    let rows = given_rows(alloc, widths, dimension, named)?;
+    let words = given_words(alloc, &named.given)?;
+    let rows = given_rows(alloc, earlier.widths, dimension, named, words.as_slice())?;
     if is_given(is_assigned, &found) {
         Err(doubled(alloc, &named.word)?)
     } else {
-        Ok(Some(members_of(alloc, &named.word, rows.as_slice())?))
+        Ok(Some(members_of(alloc, earlier.env.key(), &named.word, rows.as_slice())?))
     }
 }
 
 /// Returns the set in the data statements, if they give one.
 fn given_set<'s>(
     alloc: Global,
-    widths: &[usize],
+    earlier: &BindingEnv<'_, 's>,
     dimension: usize,
     is_assigned: bool,
     named_data: &[NamedData<'_, '_, 's>],
 ) -> Result<Option<Boxed<TupleSet<'s>>>, Fault>
-    ensures { Refines (set_data.given_set widths.now dimension is_assigned named_data.now) result }
+    ensures { Refines (set_data.given_set earlier.now.widths.now dimension is_assigned named_data.now) result }
 {
     let mut found = None;
     for named in named_data {
-        found = with_statement(alloc, widths, dimension, is_assigned, named, found)?;
+        found = with_statement(alloc, earlier, dimension, is_assigned, named, found)?;
     }
     Ok(found)
 }
@@ -282,19 +274,19 @@ fn set_entry<'s>(
 fn set_of<'s>(
     alloc: Global,
     is_iterated: bool,
-    widths: &[usize],
+    earlier: &BindingEnv<'_, 's>,
     name: &Token<'s>,
     named_data: &[NamedData<'_, '_, 's>],
     claims: &Claims<'_, 's>,
 ) -> Result<Boxed<Entry<'s>>, Fault>
-    ensures { Refines (bound.set_of widths.now name.now named_data.now claims.now) result }
+    ensures { Refines (bound.set_of earlier.now.widths.now name.now named_data.now claims.now) result }
 {
     let phrases = claims.phrases.as_slice();
     let dimension = claims.dimension.unwrap_or(1);
     let assigned = assigned(phrases);
     let found = given_set(
         alloc,
-        widths,
+        earlier,
         usize::from(dimension),
         assigned.is_some(),
         named_data,
@@ -316,12 +308,5 @@ pub(crate) fn bound_set<'s>(
     ensures { Refines (bound.bound_set earlier.now.env earlier.now.widths.now name.now (map phrase_of phrases.now) named_data.now) result }
 {
     let claims = set_phrases(alloc, &earlier.env, phrases)?;
-    set_of(
-        alloc,
-        is_iterated,
-        earlier.widths,
-        name,
-        named_data,
-        &claims,
-    )
+    set_of(alloc, is_iterated, earlier, name, named_data, &claims)
 }

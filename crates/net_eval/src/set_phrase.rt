@@ -4,18 +4,17 @@ ghost use Rattle.std.specs.Prelude.{◌≡◌, None, Ok, map};
 ghost use Rattle.std.specs.Option.{option_copied, IfSome};
 ghost use Rattle.net_tree.specs.Spans as trees;
 ghost use Rattle.net_tree.specs.View.{tree, body_of, phrase_of};
-ghost use Rattle.net_fault.specs.Outcomes.{Refines};
+ghost use Rattle.net_base.specs.Outcomes.{Refines};
 ghost use Rattle.net_eval.specs.SetPhrases as phrases;
 ghost use Rattle.net_eval.specs.declared.set_phrase.SetWord.TheVariants as words;
 
 use crate::crossing::crossed;
 use crate::stored::{StoredSet, unboxed, value_of};
 use crate::superset::Superset;
+use net_base::{Boxed, ErrorCode, Fault, Items, Span};
 use net_expr::{Env, Value};
-use net_fault::{ErrorCode, Fault, Span};
 use net_sets::{Member, TupleSet};
-use net_tree::{Begins, Body, Expr, Phrase, Relation, Role, role_of, span_of};
-use net_views::{Boxed, Items};
+use net_tree::{Begins, Body, Expr, Phrase, Relation, Role, span_of};
 use std::alloc::Global;
 
 /// The keyword of a phrase.
@@ -248,7 +247,7 @@ pub(crate) fn set_phrases<'w, 's>(
         claims = in_body(
             alloc,
             env,
-            set_word(role_of(&phrase.word)),
+            set_word(phrase.word.role()),
             &phrase.body,
             claims,
         )?;

@@ -1,14 +1,16 @@
 //! The source of values that are missing in the data.
 
-ghost use Rattle.std.specs.Prelude.{◌≡◌};
+ghost use Rattle.std.specs.Prelude.{◌≡◌, option_map};
 ghost use Rattle.std.specs.Option.{option_copied};
+ghost use Rattle.net_tree.specs.View.{tree};
 ghost use Rattle.net_eval.specs.BoundParameters as bound;
-ghost use Rattle.net_fault.specs.Outcomes.{Refines, Updates, each};
+ghost use Rattle.net_base.specs.Outcomes.{Refines, Updates, each};
 
-use crate::cell::Cell;
+use crate::cell::member_in;
 use crate::row::with_value;
+use net_base::{Fault, Language, Span};
+use net_data::Word;
 use net_expr::{Env, Row, Scope, member};
-use net_fault::{Fault, Language, Span};
 use net_sets::{Member, Table};
 use net_tree::{Expr, span_of};
 use std::alloc::Global;
@@ -20,7 +22,7 @@ pub(crate) struct Source<'a, 'c, 's> {
     /// The span of the parameter's declaration.
     pub(crate) declared_at: Span,
     pub(crate) expr: Option<&'a Expr<'s>>,
-    pub(crate) word: Option<&'a Cell<'c, 's>>,
+    pub(crate) word: Option<&'a Word<'c, 's>>,
 }
 
 /// Returns the source of values that are missing in the data: the expression of `:=`, else the
@@ -28,12 +30,12 @@ pub(crate) struct Source<'a, 'c, 's> {
 pub(crate) fn source_of<'a, 'c, 's>(
     declared_at: Span,
     assigned: Option<&'a Expr<'s>>,
-    default: Option<&'a Cell<'c, 's>>,
+    default: Option<&'a Word<'c, 's>>,
     otherwise: Option<&'a Expr<'s>>,
 ) -> Source<'a, 'c, 's>
     ensures place { result.declared_at ≡ declared_at }
-    ensures value { (bound.as_tree (option_copied result.expr), option_copied result.word) ≡ bound.source (bound.as_tree (option_copied assigned.entry))
-        (option_copied default.entry) (bound.as_tree (option_copied otherwise.entry)) }
+    ensures value { (option_map tree (option_copied result.expr), option_copied result.word) ≡ bound.source (option_map tree (option_copied assigned.entry))
+        (option_copied default.entry) (option_map tree (option_copied otherwise.entry)) }
 {
     match (assigned, default) {
         (Some(expr), _) => Source {
@@ -60,11 +62,11 @@ fn from_source<'s>(
     scope: &Scope<'s>,
     source: &Source<'_, '_, 's>,
 ) -> Result<Option<Member<'s>>, Fault>
-    ensures { Refines (bound.from_source env.now scope.now (bound.as_tree (option_copied source.now.expr), option_copied source.now.word)) result }
+    ensures { Refines (bound.from_source env.now scope.now (option_map tree (option_copied source.now.expr), option_copied source.now.word)) result }
 {
     match (source.expr, source.word) {
         (Some(expr), _) => Ok(Some(member(alloc, env, scope, expr)?)),
-        (None, Some(word)) => Ok(Some(word.member())),
+        (None, Some(word)) => Ok(Some(member_in(word))),
         (None, None) => Ok(None),
     }
 }
@@ -81,7 +83,7 @@ pub(crate) fn source_text(source: &Source<'_, '_, '_>) -> Language
 
 /// Returns the span of the source.
 pub(crate) fn source_at(source: &Source<'_, '_, '_>) -> Span
-    ensures { result ≡ bound.source_at source.now.declared_at (bound.as_tree (option_copied source.now.expr), option_copied source.now.word) }
+    ensures { result ≡ bound.source_at source.now.declared_at (option_map tree (option_copied source.now.expr), option_copied source.now.word) }
 {
     match (source.expr, source.word) {
         (Some(expr), _) => span_of(expr),
@@ -100,7 +102,7 @@ fn with_key<'s>(
     row: &Row<'s>,
     table: &mut Table<'s>,
 ) -> Result<(), Fault>
-    ensures { Updates (bound.with_key env.now source.now.declared_at (bound.as_tree (option_copied source.now.expr), option_copied source.now.word)
+    ensures { Updates (bound.with_key env.now source.now.declared_at (option_map tree (option_copied source.now.expr), option_copied source.now.word)
         row.now table.old) result table.new }
 {
     if table.get_with_hint(near, &row.key).is_some() {
@@ -123,7 +125,7 @@ pub(crate) fn with_keys<'s>(
     table: &mut Table<'s>,
 ) -> Result<(), Fault>
     ensures { Updates (each (bound.with_key env.now source.now.declared_at (
-      bound.as_tree (option_copied source.now.expr),
+      option_map tree (option_copied source.now.expr),
       option_copied
           source.now.word,
     )) rows.now table.old) result table.new }

@@ -2,14 +2,13 @@
 
 ghost use Rattle.std.specs.Prelude.{◌≡◌, [], IfOk};
 ghost use Rattle.net_tree.specs.View.{tree};
-ghost use Rattle.net_fault.specs.Outcomes.{Refines};
+ghost use Rattle.net_base.specs.Outcomes.{Refines};
 ghost use Rattle.net_expr.specs.Values.{value};
 
+use net_base::{Boxed, Fault};
 use net_expr::{Env, Scope, Value, evaluate};
-use net_fault::Fault;
 use net_sets::{Cow, TupleSet};
 use net_tree::Expr;
-use net_views::Boxed;
 use std::alloc::{AllocError, Global};
 use std::marker::Model;
 

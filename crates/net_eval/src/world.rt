@@ -8,24 +8,21 @@ ghost use Rattle.net_eval.specs.BoundParameters as parameters;
 ghost use Rattle.net_expr.specs.Worlds.{entry_of};
 ghost use Rattle.net_eval.specs.Binding as binding;
 ghost use Rattle.net_expr.specs.declared.world.Entry.{Entry as AnEntry};
-ghost use Rattle.net_fault.specs.Outcomes.{Outcome, Refines, Updates, and_then, each};
+ghost use Rattle.net_base.specs.Outcomes.{Outcome, Refines, Updates, and_then, each};
 
 use crate::by_name::data_by_name;
 use crate::check::all_checked;
-use crate::earlier::BindingEnv;
-use crate::flattened::{StatementCells, index_statements};
 use crate::given::{DataFor, NamedData};
-use crate::iterated_sets::{IteratedSets, find_iterated_sets};
 use crate::names::declared;
 use crate::param::bound_parameter;
 use crate::set::bound_set;
 use crate::stored::unboxed;
-use net_data::Tables;
-use net_expr::{Entry, Env, World, name_key};
-use net_fault::Fault;
+use net_base::{Boxed, Fault};
+use net_data::{Statement, Tables};
+use net_expr::{Entry, Env, World};
 use net_lex::Token;
+use net_resolve::Hints;
 use net_tree::{Braces, Decl, Model, Phrase};
-use net_views::Boxed;
 use std::alloc::{AllocError, Global};
 
 /// Returns the number of members of a parameter's keys or a set's tuples.
@@ -121,7 +118,7 @@ fn entry_of_parameter<'s>(
 /// Evaluates a declaration and adds it.
 fn declare<'s>(
     alloc: Global,
-    iterated_sets: &IteratedSets<'s>,
+    hints: &Hints<'s>,
     given: &[DataFor<'_, '_, 's>],
     decl: &Decl<'s>,
     world: &mut World<'s>,
@@ -135,7 +132,7 @@ fn declare<'s>(
     match decl {
         Decl::Set(_, name, phrases, _) => {
             let phrases = phrases.as_slice();
-            let is_iterated = iterated_sets.has(&name.text);
+            let is_iterated = hints.is_iterated(&name.text);
             let earlier = whole(world, widths);
             let entry = entry_of_set(alloc, is_iterated, given, name, phrases, &earlier);
             with_entry(name, entry, world, widths)
@@ -156,17 +153,17 @@ fn declare<'s>(
 #[tactic(auto, using(crate::proofs::Fresh::fresh))]
 fn declare_all<'s>(
     alloc: Global,
+    hints: &Hints<'s>,
     given: &[DataFor<'_, '_, 's>],
     decls: &[Decl<'s>],
 ) -> Result<World<'s>, Fault>
     requires { binding.AreNew [] (map declaration_of decls.now) }
     ensures { Refines (each (binding.declare given.now) (map declaration_of decls.now) []) result }
 {
-    let iterated_sets = find_iterated_sets(alloc, decls)?;
-    let mut world = World::new(alloc, name_key(decls));
+    let mut world = World::new(alloc, hints.key());
     let mut widths = Vec::new(alloc);
     for decl in decls {
-        declare(alloc, &iterated_sets, given, decl, &mut world, &mut widths)?;
+        declare(alloc, hints, given, decl, &mut world, &mut widths)?;
     }
     Ok(world)
 }
@@ -184,31 +181,34 @@ fn after_checks<'s>(alloc: Global, decls: &[Decl<'s>], world: World<'s>) -> Resu
 /// Returns the world, given the data for each name.
 fn bind_given<'s>(
     alloc: Global,
+    hints: &Hints<'s>,
     decls: &[Decl<'s>],
     given: &[DataFor<'_, '_, 's>],
 ) -> Result<World<'s>, Fault>
     requires { binding.AreNew [] (map declaration_of decls.now) }
     ensures { Refines (binding.with_given (map declaration_of decls.now) given.now) result }
 {
-    let world = declare_all(alloc, given, decls)?;
+    let world = declare_all(alloc, hints, given, decls)?;
     after_checks(alloc, decls, world)
 }
 
 #[tactic(auto, unfolding(crate::specs::Binding::world))]
 fn bind_statements<'m, 's>(
     alloc: Global,
+    hints: &Hints<'s>,
     decls: &[Decl<'s>],
-    sheets: &'m [StatementCells<'m, '_, 's>],
+    statements: &'m [Statement<'_, 's>],
 ) -> Result<World<'s>, Fault>
     requires { binding.AreNew [] (map declaration_of decls.now) }
-    ensures { Refines (binding.world (map declaration_of decls.now) sheets.entry.now) result }
+    ensures { Refines (binding.world (map declaration_of decls.now) statements.entry.now) result }
 {
-    let names = declared(alloc, decls)?;
-    let given = data_by_name(alloc, &names, sheets)?;
-    bind_given(alloc, decls, given.as_slice())
+    let names = declared(alloc, hints.key(), decls)?;
+    let given = data_by_name(alloc, &names, statements)?;
+    bind_given(alloc, hints, decls, given.as_slice())
 }
 
-/// Evaluates a model with its data. No two sets or parameters of the model have the same name.
+/// Evaluates a model with its data. No two sets or parameters of the model have the same name. A
+/// set that is iterated by a component gets an index for it; the world is the same without.
 ///
 /// The names of all statements are looked up first: E30 at a name in the data that is not a set or
 /// a parameter as the statement requires. Then the sets and parameters are evaluated in order of
@@ -216,11 +216,24 @@ fn bind_statements<'m, 's>(
 pub fn bind<'s>(
     alloc: Global,
     model: &Model<'s>,
+    hints: &Hints<'s>,
     tables: &Tables<'_, 's>,
 ) -> Result<World<'s>, Fault>
     requires { binding.AreNew [] (view.model model.now) }
     ensures { Refines (binding.world (view.model model.now) tables.now.statements) result }
 {
-    let sheets = index_statements(alloc, tables.statements.as_slice())?;
-    bind_statements(alloc, model.declarations.as_slice(), sheets.as_slice())
+    bind_statements(
+        alloc,
+        hints,
+        model.declarations.as_slice(),
+        tables.statements.as_slice(),
+    )
+}
+
+/// The sets and parameters declared so far.
+#[derive(Drop)]
+pub(crate) struct BindingEnv<'w, 's> {
+    pub(crate) env: Env<'w, 's>,
+    /// For each, the number of members of its keys or tuples.
+    pub(crate) widths: &'w [usize],
 }

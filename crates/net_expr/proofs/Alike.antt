@@ -3,19 +3,19 @@ use Rattle.std.specs.Prelude.{◌≡◌, ℕ, Bool, true, false, List, [], ◌�
 use Rattle.std.specs.List.{AllByRecursion}
 use Rattle.std.proofs.Common.{refl, ap, sym, ◌∙◌, subst}
 use Rattle.std.proofs.lemmas.Bool.{eqb-true}
-use Rattle.net_fault.specs.declared.span.Span.{Span}
+use Rattle.net_base.specs.declared.diagnostic.Span.{Span}
 use Rattle.net_sets.specs.Limits.{tuples_limit}
 use Rattle.net_sets.specs.Operations.{union}
 use Rattle.net_sets.specs.Sets.{Tuple, has, added}
 use Rattle.net_tree.specs.Spans.{span_between}
 use Rattle.net_tree.specs.Tree.{Links, Braces, empty, filled, none, link}
-use Rattle.net_fault.specs.declared.error_code.ErrorCode.TheVariants.{KindMismatch, Arity, TooMany}
+use Rattle.net_base.specs.declared.error_code.ErrorCode.TheVariants.{KindMismatch, Arity, TooMany}
 use Rattle.net_expr.specs.declared.row.Keys.{Keys}
 use Rattle.net_expr.specs.declared.row.Place.{Place}
 use Rattle.net_expr.specs.declared.row.Row.{Row}
 use Rattle.net_expr.specs.declared.value.Value.{Value}
 use Rattle.net_expr.specs.Items.{has_in, any_in, has_part, tuples_of, Opening, walking, listing, opened, open_with}
-use Rattle.net_fault.specs.Outcomes.{Outcome, and_then, rejected, each}
+use Rattle.net_base.specs.Outcomes.{Outcome, and_then, rejected, each}
 use Rattle.net_expr.specs.Rows.{start, go_on, onward, same_arity, finished_key, keep, filter_rows, width_of, keys, selected, no_keys, keys_of, rows_of, tuples_in, all_of, listed_as, listed}
 use Rattle.net_expr.specs.Values.{value, values, index, walk, set_after, place, holds}
 use Rattle.net_expr.specs.Widths.{width_by_form}

@@ -1,18 +1,18 @@
 -- No key of braces stands twice, where sets have their tuples once.
 use Rattle.std.specs.Prelude.{◌≡◌, ℕ, Bool, true, false, [], ◌∷◌, length, nat_eq, Option, None, Some, if◌then◌else◌, Ok}
 use Rattle.std.proofs.Common.{refl, ap, sym, ◌∙◌, subst, arith}
-use Rattle.net_fault.specs.declared.span.Span.{Span}
+use Rattle.net_base.specs.declared.diagnostic.Span.{Span}
 use Rattle.net_sets.specs.Sets.{Tuple, same_tuple}
 use Rattle.net_sets.proofs.Sames.{tuple_decides}
 use Rattle.net_tree.specs.Spans.{span_of}
 use Rattle.net_tree.specs.Tree.{Tree, leaf, tuple, chain, none, link}
-use Rattle.net_fault.specs.declared.error_code.ErrorCode.TheVariants.{Arity}
+use Rattle.net_base.specs.declared.error_code.ErrorCode.TheVariants.{Arity}
 use Rattle.net_expr.specs.declared.row.Place.{Place}
 use Rattle.net_expr.specs.declared.value.Value.{Value}
 use Rattle.net_expr.specs.declared.value.Value.TheVariants.{One, Several, Many, Truth}
 use Rattle.net_expr.specs.Items.{new_dummy, is_in, needed}
 use Rattle.net_tree.specs.Operations.{operation}
-use Rattle.net_fault.specs.Outcomes.{Outcome, rejected}
+use Rattle.net_base.specs.Outcomes.{Outcome, rejected}
 use Rattle.net_expr.specs.Rows.{with_key, bind, matches_tuple, matches_as_tuple, match_component, match_whole}
 use Rattle.net_expr.specs.Values.{value, place, left_place, places}
 use Rattle.net_expr.specs.Worlds.{Name, World}

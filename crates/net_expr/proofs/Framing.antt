@@ -1,20 +1,20 @@
 -- Walks over items: what is found and what is still to come at each item are together what is wanted.
 use Rattle.std.specs.Prelude.{◌≡◌, ℕ, ◌+◌, ◌-◌, ◌<◌, ◌≤◌, List, [], ◌∷◌, ◌++◌, length, take, drop, get_or, slice_get, Option, None, Some, IfSome, Ok, Err, ⊤}
 use Rattle.std.proofs.Common.{refl, sym, ap, ◌∙◌, arith}
-use Rattle.net_fault.specs.declared.span.Span.{Span}
+use Rattle.net_base.specs.declared.diagnostic.Span.{Span}
 use Rattle.net_sets.specs.Components.{sought}
 use Rattle.net_sets.specs.Sets.{Tuple}
 use Rattle.net_tree.specs.declared.expr.Link.{Link, out-Link}
 use Rattle.net_tree.specs.View.{tree, links_of}
 use Rattle.net_tree.specs.Weights.{weight, weights}
-use Rattle.net_fault.specs.declared.fault.Fault.{Fault}
-use Rattle.net_fault.specs.declared.fault.Fault.TheVariants as faults
-use Rattle.net_fault.specs.declared.diagnostic.Diagnostic.{Diagnostic}
-use Rattle.net_expr.specs.declared.frame.Frame.{Frame}
+use Rattle.net_base.specs.declared.fault.Fault.{Fault}
+use Rattle.net_base.specs.declared.fault.Fault.TheVariants as faults
+use Rattle.net_base.specs.declared.diagnostic.Diagnostic.{Diagnostic}
+use Rattle.net_expr.specs.declared.keys.Frame.{Frame}
 use Rattle.net_expr.specs.declared.row.Place.{Place}
 use Rattle.net_expr.specs.declared.row.Row.{Row}
 use Rattle.net_expr.specs.Frames.{still, steps, steps_next, steps_of, of_tuples, steps_still, weight_of, Leads}
-use Rattle.net_fault.specs.Outcomes.{Outcome, Refines, Updates, and_then, each}
+use Rattle.net_base.specs.Outcomes.{Outcome, Refines, Updates, and_then, each}
 use Rattle.net_expr.specs.Rows.{onward, go_on}
 use Rattle.net_expr.specs.Selecting.{selecting}
 use Rattle.net_expr.specs.Values.{place, walk}

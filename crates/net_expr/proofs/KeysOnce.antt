@@ -3,19 +3,19 @@ use Rattle.std.specs.Prelude.{◌≡◌, ◌||◌, ℕ, Bool, true, false, List,
 use Rattle.std.specs.List.{AllByRecursion, IsDistinct}
 use Rattle.std.proofs.Common.{refl, ap, sym, ◌∙◌, subst, append_assoc, append-nil}
 use Rattle.std.proofs.lemmas.Map.Keys.{IsDistinct-head, IsDistinct-tail, IsDistinct-cons}
-use Rattle.net_fault.specs.declared.span.Span.{Span}
+use Rattle.net_base.specs.declared.diagnostic.Span.{Span}
 use Rattle.net_sets.specs.Limits.{tuples_limit}
 use Rattle.net_sets.specs.Operations.{union}
 use Rattle.net_sets.specs.Sets.{Tuple, same_tuple, has, added}
 use Rattle.net_sets.proofs.Sames.{same_turned}
 use Rattle.net_tree.specs.Spans.{span_between}
 use Rattle.net_tree.specs.Tree.{Tree, empty, filled}
-use Rattle.net_fault.specs.declared.error_code.ErrorCode.TheVariants.{KindMismatch, Arity, TooMany}
+use Rattle.net_base.specs.declared.error_code.ErrorCode.TheVariants.{KindMismatch, Arity, TooMany}
 use Rattle.net_expr.specs.declared.row.Keys.{Keys}
 use Rattle.net_expr.specs.declared.row.Row.{Row}
 use Rattle.net_expr.specs.declared.value.Value.{Value}
 use Rattle.net_expr.specs.Items.{has_in, any_in, has_part, is_set, tuples_of, Opening, walking, listing, opened, open_with}
-use Rattle.net_fault.specs.Outcomes.{Outcome, and_then, rejected, each}
+use Rattle.net_base.specs.Outcomes.{Outcome, and_then, rejected, each}
 use Rattle.net_expr.specs.Rows.{start, onward, keep, filter_rows, width_of, keys, selected, no_keys, keys_of, rows_of, tuples_in, all_of, listed_as, listed}
 use Rattle.net_expr.specs.SetValues.{HaveDistinctKeys}
 use Rattle.net_expr.specs.Values.{value, values, walk, set_after, place, holds}

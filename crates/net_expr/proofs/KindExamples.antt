@@ -7,13 +7,13 @@ use Rattle.net_tree.specs.declared.operator.Words.TheVariants as operator
 use Rattle.net_tree.specs.Role.{role_of, marks, keys}
 use Rattle.net_tree.specs.Spans.{span_of, span_between, braces_span}
 use Rattle.net_tree.specs.Tree.{leaf, parens, tuple, braced, signed, chain, none, link, absent, filled}
-use Rattle.net_fault.specs.declared.language.Language.TheVariants as languages
-use Rattle.net_fault.specs.declared.error_code.ErrorCode.TheVariants as error_codes
-use Rattle.net_fault.specs.declared.detail.Detail.TheVariants.{Nothing}
+use Rattle.net_base.specs.declared.diagnostic.Language.TheVariants as languages
+use Rattle.net_base.specs.declared.error_code.ErrorCode.TheVariants as error_codes
+use Rattle.net_base.specs.declared.diagnostic.Detail.TheVariants.{Nothing}
 use Rattle.net_expr.specs.declared.value.Value.TheVariants.{Truth}
 use Rattle.net_expr.specs.Limits.{is_small}
 use Rattle.net_tree.specs.Operations.{operations, operation, reduction, is_minus}
-use Rattle.net_expr.specs.Numbers.{number_in}
+use Rattle.net_tree.specs.Numerals.{number_in}
 use Rattle.net_expr.specs.Values.{value}
 use Rattle.net_expr.proofs.Trees.{number, string, key, mark}
 

@@ -1,4 +1,3 @@
-pub mod Numerals
 mod Doubling
 pub mod Cases
 pub mod Walking

@@ -1,10 +1,10 @@
 -- An operator of numbers, applied, makes what it makes of two numbers.
 use Rattle.std.specs.Prelude.{◌≡◌, ◌⊎◌, Result, Ok, Err}
 use Rattle.std.proofs.Common.{inl, inr, refl, sym, subst}
-use Rattle.net_fault.specs.declared.span.Span.{Span}
-use Rattle.net_fault.specs.declared.fault.Fault.{Fault}
-use Rattle.net_fault.specs.declared.fault.Fault.TheVariants as faults
-use Rattle.net_fault.specs.Outcomes.{Outcome, Refines, Yields}
+use Rattle.net_base.specs.declared.diagnostic.Span.{Span}
+use Rattle.net_base.specs.declared.fault.Fault.{Fault}
+use Rattle.net_base.specs.declared.fault.Fault.TheVariants as faults
+use Rattle.net_base.specs.Outcomes.{Outcome, Refines, Yields}
 use Rattle.net_tree.specs.declared.operator.BinOp.{BinOp}
 use Rattle.net_tree.specs.declared.operator.BinOp.TheVariants as op
 use Rattle.net_expr.specs.declared.value.Value.{Value}

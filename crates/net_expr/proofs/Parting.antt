@@ -1,7 +1,7 @@
 -- Two different tuples of an item's set lead to different keys.
 use Rattle.std.specs.Prelude.{◌≡◌, ◌+◌, ◌&&◌, Bool, true, false, [], ◌∷◌, ◌++◌, length, nat_le, Option, None, Some, if◌then◌else◌, Ok, Err}
 use Rattle.std.proofs.Common.{refl, ap, sym, ◌∙◌, subst, arith, append_assoc, append-nil}
-use Rattle.net_fault.specs.declared.span.Span.{Span}
+use Rattle.net_base.specs.declared.diagnostic.Span.{Span}
 use Rattle.net_sets.specs.declared.member.Member.{Member}
 use Rattle.net_sets.specs.Sets.{Tuple, same_member, same_tuple}
 use Rattle.net_sets.proofs.Sames.{member_decides, tuple_decides}
@@ -12,7 +12,7 @@ use Rattle.net_expr.specs.declared.value.Value.TheVariants.{One, Several, Many, 
 use Rattle.net_sets.specs.Limits.{arity_limit}
 use Rattle.net_expr.specs.Items.{new_dummy, size}
 use Rattle.net_expr.specs.Operators.{longer}
-use Rattle.net_fault.specs.Outcomes.{Outcome, and_then}
+use Rattle.net_base.specs.Outcomes.{Outcome, and_then}
 use Rattle.net_expr.specs.Rows.{bind, matches_member, match_component, if_fits}
 use Rattle.net_expr.specs.Values.{value, places}
 use Rattle.net_expr.specs.Worlds.{Name, World}

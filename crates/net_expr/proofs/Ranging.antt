@@ -1,14 +1,14 @@
 -- How many numbers a range lists.
 use Rattle.std.specs.Prelude.{◌≡◌, ℕ, zero, suc, ◌+ℤ◌, length, nat_le, if◌then◌else◌, ℤ, Some, Ok}
 use Rattle.std.proofs.Common.{refl, sym, ap, ◌∙◌}
-use Rattle.net_fault.specs.declared.span.Span.{Span}
+use Rattle.net_base.specs.declared.diagnostic.Span.{Span}
 use Rattle.net_sets.specs.Limits.{tuples_limit}
 use Rattle.net_sets.specs.Ranges.{range, range_size, singles, numbers_by}
-use Rattle.net_fault.specs.declared.error_code.ErrorCode.TheVariants.{TooMany}
+use Rattle.net_base.specs.declared.error_code.ErrorCode.TheVariants.{TooMany}
 use Rattle.net_expr.specs.declared.value.Value.TheVariants.{Many}
 use Rattle.net_expr.specs.Numbers.{range_within}
 use Rattle.net_expr.specs.Sets.{within_size}
-use Rattle.net_fault.specs.Outcomes.{rejected}
+use Rattle.net_base.specs.Outcomes.{rejected}
 
 many_numbers : (a c : ℤ) (n : ℕ) → length (singles (numbers_by a c n)) ≡ n
 many_numbers a c zero = refl

@@ -8,7 +8,7 @@ use Rattle.std.proofs.lemmas.Bool.Decides.{Decides-int_eq}
 use Rattle.std.proofs.lemmas.Int.{ints}
 use Rattle.std.proofs.lemmas.List.{length-append}
 use Rattle.std.proofs.lemmas.Map.Keys.{IsDistinct-head, IsDistinct-tail, IsDistinct-cons}
-use Rattle.net_fault.specs.declared.span.Span.{Span}
+use Rattle.net_base.specs.declared.diagnostic.Span.{Span}
 use Rattle.net_lex.specs.declared.token.Token.{Token}
 use Rattle.net_sets.specs.declared.member.Member.{Member}
 use Rattle.net_sets.specs.declared.member.Member.TheVariants as member
@@ -21,8 +21,8 @@ use Rattle.net_tree.specs.declared.role.Role.TheVariants as roles
 use Rattle.net_tree.specs.Role.{role_of}
 use Rattle.net_tree.specs.Spans.{span_of, braces_span}
 use Rattle.net_tree.specs.Tree.{Tree, Links, Part, leaf, indexed, parens, tuple, negated, braced, signed, reduced, chain, choice, net, none, link, absent, part}
-use Rattle.net_fault.specs.declared.detail.Detail.{Detail}
-use Rattle.net_fault.specs.declared.error_code.ErrorCode.TheVariants.{DivMod}
+use Rattle.net_base.specs.declared.diagnostic.Detail.{Detail}
+use Rattle.net_base.specs.declared.error_code.ErrorCode.TheVariants.{DivMod}
 use Rattle.net_tree.specs.declared.operator.BinOp.{BinOp}
 use Rattle.net_tree.specs.declared.operator.BinOp.TheVariants as op
 use Rattle.net_tree.specs.declared.operator.Reduction.{Reduction}
@@ -34,10 +34,11 @@ use Rattle.net_expr.specs.declared.world.Entry.{Entry}
 use Rattle.net_expr.specs.declared.world.Entry.TheVariants.{Set, Parameter}
 use Rattle.net_expr.specs.Items.{begins_range}
 use Rattle.net_expr.specs.Limits.{is_small}
-use Rattle.net_expr.specs.Numbers.{number_in, number, sized, divides, plus, less, times, quotient, remainder, step, size, range, range_of}
+use Rattle.net_expr.specs.Numbers.{number, sized, divides, plus, less, times, quotient, remainder, step, size, range, range_of}
+use Rattle.net_tree.specs.Numerals.{number_in}
 use Rattle.net_tree.specs.Operations.{operation, reduction, is_minus}
 use Rattle.net_expr.specs.Operators.{of_numbers, same, of_sets, crossed, belongs, contained, truth, as_truth, as_denial, apply, decided, tuple_of}
-use Rattle.net_fault.specs.Outcomes.{Outcome, and_then, rejected}
+use Rattle.net_base.specs.Outcomes.{Outcome, and_then, rejected}
 use Rattle.net_expr.specs.Rows.{as_set, keys_of, reduce, gathered_over, reduced_to}
 use Rattle.net_expr.specs.Sets.{counted, shared, set_of}
 use Rattle.net_expr.specs.SetValues.{IsSetOf, HasSets, KeepsSets}

@@ -1,8 +1,8 @@
 -- What an expression is refused for stands at one of its parts.
 use Rattle.std.specs.Prelude.{Bool, List, [], ◌∷◌, ◌++◌, nat_le, Option, None, Some, if◌then◌else◌, Ok, ℤ}
-use Rattle.net_fault.specs.declared.span.Span.{Span}
-use Rattle.net_fault.specs.declared.language.Language.TheVariants.{Model}
-use Rattle.net_fault.specs.Outcomes.{Outcome, and_then, each}
+use Rattle.net_base.specs.declared.diagnostic.Span.{Span}
+use Rattle.net_base.specs.declared.diagnostic.Language.TheVariants.{Model}
+use Rattle.net_base.specs.Outcomes.{Outcome, and_then, each}
 use Rattle.net_lex.specs.declared.token.Token.{Token}
 use Rattle.net_sets.specs.Limits.{arity_limit}
 use Rattle.net_sets.specs.Sets.{Tuple}
@@ -15,16 +15,17 @@ use Rattle.net_expr.specs.declared.row.Place.{Place}
 use Rattle.net_expr.specs.declared.row.Row.{Row}
 use Rattle.net_expr.specs.declared.value.Value.{Value}
 use Rattle.net_expr.specs.Items.{is_in, has_in, any_in, begins_range, has_part, new_dummy, needed, chosen, tuples_of, walking, opened}
-use Rattle.net_expr.specs.Numbers.{number_in, number, range_of}
+use Rattle.net_expr.specs.Numbers.{number, range_of}
+use Rattle.net_tree.specs.Numerals.{number_in}
 use Rattle.net_tree.specs.Operations.{operation, reduction, is_minus}
 use Rattle.net_expr.specs.Operators.{apply, decided, truth, tuple_of}
 use Rattle.net_expr.specs.Rows.{start, match_component, if_fits, onward, selected, as_set, listed, reduce}
 use Rattle.net_expr.specs.Values.{number_value, token_value, subscripted, tupled, with_sign, either, value, otherwise, values, chained, index, walk, set_after, place, left_place, places, holds}
 use Rattle.net_expr.specs.Widths.{width_by_form, begin, with_item, with_items}
 use Rattle.net_expr.specs.Worlds.{Name, World, Scope, bound}
-use Rattle.net_fault.specs.Places.{Places, Finds}
+use Rattle.net_base.specs.Places.{Places, Finds}
 use Rattle.net_tree.specs.Standing.{Stands, LinksStand, PartStands, BracesStand}
-use Rattle.net_fault.proofs.Found.{finds_then, finds_if, finds_each}
+use Rattle.net_base.proofs.Found.{finds_then, finds_if, finds_each}
 use Rattle.net_expr.proofs.OperatorFaults.{finds_number, finds_sized, finds_range_of, finds_truth, finds_apply, finds_decided, finds_tuple_of, finds_name_at}
 use Rattle.net_expr.proofs.RowFaults.{finds_chosen, finds_tuples_of, finds_opened, finds_fitted, finds_fitted_alone, finds_finished, finds_as_set, finds_listed, finds_reduce, finds_if_fits, finds_onward, finds_open_with, finds_selected}
 

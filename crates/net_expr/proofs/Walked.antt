@@ -4,20 +4,20 @@ use Rattle.std.specs.List.{AllByRecursion, IsDistinct}
 use Rattle.std.proofs.Common.{refl, ap, sym, ◌∙◌, subst, append_assoc, append-nil}
 use Rattle.std.proofs.lemmas.Bool.{eqb-true}
 use Rattle.std.proofs.lemmas.Map.Keys.{IsDistinct-head, IsDistinct-tail, IsDistinct-cons}
-use Rattle.net_fault.specs.declared.span.Span.{Span}
+use Rattle.net_base.specs.declared.diagnostic.Span.{Span}
 use Rattle.net_sets.specs.Limits.{arity_limit, tuples_limit}
 use Rattle.net_sets.specs.Sets.{Tuple, same_tuple, has}
 use Rattle.net_sets.proofs.Sames.{tuple_decides}
 use Rattle.net_tree.specs.Spans.{span_of}
 use Rattle.net_tree.specs.Tree.{Tree, Links, chain, none, link}
-use Rattle.net_fault.specs.declared.error_code.ErrorCode.TheVariants.{Arity, TooMany}
+use Rattle.net_base.specs.declared.error_code.ErrorCode.TheVariants.{Arity, TooMany}
 use Rattle.net_expr.specs.declared.row.Place.{Place}
 use Rattle.net_expr.specs.declared.row.Row.{Row}
 use Rattle.net_expr.specs.declared.value.Value.{Value}
 use Rattle.net_expr.specs.declared.value.Value.TheVariants.{One, Several, Many, Truth}
 use Rattle.net_expr.specs.Items.{is_in, both, has_in, needed, fits_needed, chosen, tuples_of}
 use Rattle.net_tree.specs.Operations.{operation}
-use Rattle.net_fault.specs.Outcomes.{Outcome, and_then, rejected, each}
+use Rattle.net_base.specs.Outcomes.{Outcome, and_then, rejected, each}
 use Rattle.net_expr.specs.Rows.{go_on, onward, same_arity, finished_key, keys_of}
 use Rattle.net_expr.specs.SetValues.{IsSetOf, GivesSets}
 use Rattle.net_expr.specs.Values.{value, place, set_after, walk}

@@ -1,18 +1,18 @@
 -- Iteration over the items of an indexing expression: the state at each item that is not yet
 -- finished.
 use Rattle.std.specs.Prelude.{◌≡◌, ℕ, ◌+◌, List, [], ◌∷◌, Option, None, Some, Result, Ok, Err, ⊤}
-use Rattle.net_fault.specs.declared.span.Span.{Span}
+use Rattle.net_base.specs.declared.diagnostic.Span.{Span}
 use Rattle.net_sets.specs.Components.{sought}
 use Rattle.net_sets.specs.Sets.{Tuple}
 use Rattle.net_tree.specs.Tree.{Links, none, link}
 use Rattle.net_tree.specs.View.{tree, links_of}
 use Rattle.net_tree.specs.Weights.{weight, weights}
-use Rattle.net_fault.specs.declared.fault.Fault.{Fault}
-use Rattle.net_fault.specs.declared.fault.Fault.TheVariants.{OutOfMemory, At}
-use Rattle.net_expr.specs.declared.frame.Frame.{Frame}
+use Rattle.net_base.specs.declared.fault.Fault.{Fault}
+use Rattle.net_base.specs.declared.fault.Fault.TheVariants.{OutOfMemory, At}
+use Rattle.net_expr.specs.declared.keys.Frame.{Frame}
 use Rattle.net_expr.specs.declared.row.Place.{Place}
 use Rattle.net_expr.specs.declared.row.Row.{Row}
-use Rattle.net_fault.specs.Outcomes.{Outcome, each}
+use Rattle.net_base.specs.Outcomes.{Outcome, each}
 use Rattle.net_expr.specs.Rows.{onward}
 use Rattle.net_expr.specs.Selecting.{selecting}
 use Rattle.net_expr.specs.Values.{place, walk}

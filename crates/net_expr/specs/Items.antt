@@ -1,13 +1,13 @@
 -- The form of items in an indexing expression.
 use Rattle.std.specs.Prelude.{ℕ, ◌+◌, Bool, true, false, ◌&&◌, ◌||◌, List, nat_le, Option, None, Some, is_some, if◌then◌else◌, Ok}
-use Rattle.net_fault.specs.declared.span.Span.{Span}
+use Rattle.net_base.specs.declared.diagnostic.Span.{Span}
 use Rattle.net_sets.specs.Limits.{arity_limit}
 use Rattle.net_sets.specs.Sets.{Tuple}
 use Rattle.net_tree.specs.Tree.{Tree, Links, Part, leaf, tuple, none, link, absent, part}
-use Rattle.net_fault.specs.declared.error_code.ErrorCode.TheVariants.{KindMismatch, Arity}
+use Rattle.net_base.specs.declared.error_code.ErrorCode.TheVariants.{KindMismatch, Arity}
 use Rattle.net_expr.specs.declared.value.Value.{Value}
 use Rattle.net_expr.specs.declared.value.Value.TheVariants.{Many}
-use Rattle.net_fault.specs.Outcomes.{Outcome, and_then, rejected}
+use Rattle.net_base.specs.Outcomes.{Outcome, and_then, rejected}
 pub use Rattle.net_tree.specs.Items.{is_in, after_in, both, sides}
 use Rattle.net_tree.specs.Items.{single_name}
 use Rattle.net_tree.specs.Operations.{operation, is_range}

@@ -13,3 +13,4 @@ pub mod Values
 pub mod Walks
 pub mod Frames
 pub mod SetValues
+pub mod Indexings

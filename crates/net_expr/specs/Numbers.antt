@@ -1,43 +1,18 @@
--- Numbers: values of numerals, and arithmetic.
+-- Numbers and arithmetic.
 use Rattle.std.specs.Prelude.{ℕ, ◌+◌, ◌==◌, Bool, true, false, ◌&&◌, List, [], ◌∷◌, Option, None, Some, if◌then◌else◌, Result, Ok, Err, ℤ, pos, ◌+ℤ◌, ◌-ℤ◌, ◌*ℤ◌, neg_ℤ, int_lt, int_le, int_div, int_rem, nat_le}
 use Rattle.std.specs.Int.{int_min, int_max}
-use Rattle.net_fault.specs.declared.span.Span.{Span}
-use Rattle.net_lex.specs.declared.whole.NumFault.{NumFault}
-use Rattle.net_lex.specs.Bytes.{first, minus, after_sign}
-use Rattle.net_lex.specs.Limits.{limits}
-use Rattle.net_lex.specs.Numerals.{Parts, up, down, signed}
-use Rattle.net_lex.specs.NumeralFront.{numeral_at}
-use Rattle.net_lex.specs.Significands.{Significand, with_digits, whole_value}
+use Rattle.net_base.specs.declared.diagnostic.Span.{Span}
 use Rattle.net_sets.specs.declared.member.Member.TheVariants.{Number}
 use Rattle.net_sets.specs.Limits.{tuples_limit}
 use Rattle.net_sets.specs.Ranges.{range_size, singles}
 use Rattle.net_sets.specs.Ranges.{range as range_numbers}
-use Rattle.net_fault.specs.declared.error_code.ErrorCode.TheVariants.{KindMismatch, DivMod, ValueTooLarge, TooMany}
+use Rattle.net_base.specs.declared.error_code.ErrorCode.TheVariants.{KindMismatch, DivMod, ValueTooLarge, TooMany}
 use Rattle.net_tree.specs.declared.operator.Reduction.{Reduction}
 use Rattle.net_tree.specs.declared.operator.Reduction.TheVariants.{Sum, Min, Max}
 use Rattle.net_expr.specs.declared.value.Value.{Value}
 use Rattle.net_expr.specs.declared.value.Value.TheVariants.{One, Many}
-use Rattle.net_fault.specs.Outcomes.{Outcome, and_then, rejected}
+use Rattle.net_base.specs.Outcomes.{Outcome, and_then, rejected}
 use Rattle.net_expr.specs.Limits.{is_small}
-
--- the significant digits of a numeral, and the number of zeros after them
-abbrev pub significant : Parts → Significand
-significant p = with_digits (with_digits (record { digits = 0; zeros = 0 }) p.whole) p.fraction
-
-abbrev pub whole_size : Parts → Result ℕ NumFault
-whole_size p = whole_value limits.value (significant p).digits ((significant p).zeros + up p) (down p)
-
-abbrev pub with_sign : Bool → Result ℕ NumFault → Option ℤ
-with_sign negative (Ok n) = Some (signed negative n)
-with_sign negative (Err why) = None
-
-abbrev pub if_whole : List ℕ → Option (Parts × List ℕ) → Option ℤ
-if_whole text (Some (p, [])) = with_sign (first text == minus) (whole_size p)
-if_whole text _ = None
-
--- the value of a numeral, if it is an integer within the limit
-unfoldable pub number_in : List ℕ → Option ℤ
-number_in text = if_whole text (numeral_at (after_sign text))
 
 -- the result of arithmetic, which must be within the limit
 abbrev pub sized : Span → ℤ → Outcome Value

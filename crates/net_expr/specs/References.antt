@@ -4,8 +4,8 @@ use Rattle.std.specs.Fmt.{signed_decimal}
 use Rattle.net_sets.specs.declared.member.Member.{Member}
 use Rattle.net_sets.specs.declared.member.Member.TheVariants.{Number, Name}
 use Rattle.net_sets.specs.Sets.{Tuple}
-use Rattle.net_fault.specs.declared.detail.Detail.{Detail}
-use Rattle.net_fault.specs.declared.detail.Detail.TheVariants.{Nothing, Reported}
+use Rattle.net_base.specs.declared.diagnostic.Detail.{Detail}
+use Rattle.net_base.specs.declared.diagnostic.Detail.TheVariants.{Nothing, Reported}
 
 -- each single quote doubled
 abbrev pub doubled : List ℕ → List ℕ

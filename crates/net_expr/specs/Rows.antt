@@ -1,12 +1,12 @@
 -- Iteration over an indexing expression: its state, and the keys that it produces.
 use Rattle.std.specs.Prelude.{ℕ, Bool, true, false, List, [], ◌∷◌, ◌++◌, length, map, nat_eq, nat_le, nat_lt, Option, None, Some, if◌then◌else◌, Ok, ℤ, pos}
-use Rattle.net_fault.specs.declared.span.Span.{Span}
+use Rattle.net_base.specs.declared.diagnostic.Span.{Span}
 use Rattle.net_sets.specs.declared.member.Member.{Member}
 use Rattle.net_sets.specs.declared.member.Member.TheVariants.{Number}
 use Rattle.net_sets.specs.Limits.{tuples_limit}
 use Rattle.net_sets.specs.Sets.{Tuple, same_member, same_tuple}
 use Rattle.net_sets.specs.Operations.{union}
-use Rattle.net_fault.specs.declared.error_code.ErrorCode.TheVariants.{NoValue, KindMismatch, Arity, TooMany}
+use Rattle.net_base.specs.declared.error_code.ErrorCode.TheVariants.{NoValue, KindMismatch, Arity, TooMany}
 use Rattle.net_tree.specs.declared.operator.Reduction.{Reduction}
 use Rattle.net_tree.specs.declared.operator.Reduction.TheVariants.{Sum, Min, Max}
 use Rattle.net_expr.specs.declared.value.Value.{Value}
@@ -14,7 +14,7 @@ use Rattle.net_expr.specs.declared.value.Value.TheVariants.{One, Several, Many}
 use Rattle.net_expr.specs.declared.row.Place.{Place}
 use Rattle.net_expr.specs.declared.row.Row.{Row}
 use Rattle.net_expr.specs.declared.row.Keys.{Keys}
-use Rattle.net_fault.specs.Outcomes.{Outcome, and_then, rejected}
+use Rattle.net_base.specs.Outcomes.{Outcome, and_then, rejected}
 use Rattle.net_expr.specs.Worlds.{Name, Scope, with_dummy}
 use Rattle.net_expr.specs.Operators.{longer}
 use Rattle.net_expr.specs.Numbers.{number, sized, gathered}

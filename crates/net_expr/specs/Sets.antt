@@ -1,15 +1,15 @@
 -- The results of the set operators.
 use Rattle.std.specs.Prelude.{ℕ, ◌&&◌, [], ◌+◌, Bool, true, List, length, nat_eq, nat_le, Option, None, Some, if◌then◌else◌, Ok}
-use Rattle.net_fault.specs.declared.span.Span.{Span}
+use Rattle.net_base.specs.declared.diagnostic.Span.{Span}
 use Rattle.net_sets.specs.Limits.{arity_limit, tuples_limit}
 use Rattle.net_sets.specs.Sets.{Tuple, has}
 use Rattle.net_sets.specs.Operations.{union, difference, intersection, symmetric_difference, product, widest, is_within}
-use Rattle.net_fault.specs.declared.error_code.ErrorCode.TheVariants.{Arity, TooMany}
+use Rattle.net_base.specs.declared.error_code.ErrorCode.TheVariants.{Arity, TooMany}
 use Rattle.net_tree.specs.declared.operator.BinOp.{BinOp}
 use Rattle.net_tree.specs.declared.operator.BinOp.TheVariants as op
 use Rattle.net_expr.specs.declared.value.Value.{Value}
 use Rattle.net_expr.specs.declared.value.Value.TheVariants.{Many}
-use Rattle.net_fault.specs.Outcomes.{Outcome, rejected}
+use Rattle.net_base.specs.Outcomes.{Outcome, rejected}
 
 -- `{}` counts as one component
 abbrev pub counted : Option ℕ → ℕ

@@ -1,8 +1,8 @@
 -- A key, as far as its subscripts have been evaluated.
 use Rattle.std.specs.Prelude.{◌+◌, Bool, true, false, not, ◌||◌, [], ◌∷◌, ◌++◌, length, nat_le, Option, None, Some, if◌then◌else◌, Ok}
-use Rattle.net_fault.specs.declared.span.Span.{Span}
-use Rattle.net_fault.specs.declared.error_code.ErrorCode.TheVariants.{KindMismatch}
-use Rattle.net_fault.specs.Outcomes.{Outcome, rejected}
+use Rattle.net_base.specs.declared.diagnostic.Span.{Span}
+use Rattle.net_base.specs.declared.error_code.ErrorCode.TheVariants.{KindMismatch}
+use Rattle.net_base.specs.Outcomes.{Outcome, rejected}
 use Rattle.net_sets.specs.Limits.{arity_limit}
 use Rattle.net_sets.specs.Sets.{Tuple}
 use Rattle.net_expr.specs.declared.subscripts.Subscripts.{Subscripts}

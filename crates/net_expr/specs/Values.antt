@@ -1,6 +1,6 @@
 -- The value of a tree, in a world and with dummies in scope, or the first error from left to right.
 use Rattle.std.specs.Prelude.{Bool, true, not, List, [], ◌∷◌, ◌++◌, Option, None, Some, if◌then◌else◌, Ok, ℤ, pos}
-use Rattle.net_fault.specs.declared.span.Span.{Span}
+use Rattle.net_base.specs.declared.diagnostic.Span.{Span}
 use Rattle.net_lex.specs.declared.token.Token.{Token}
 use Rattle.net_sets.specs.declared.member.Member.TheVariants as member
 use Rattle.net_sets.specs.Texts.{text_of}
@@ -10,21 +10,24 @@ use Rattle.net_tree.specs.declared.role.Role.TheVariants as roles
 use Rattle.net_tree.specs.Role.{role_of}
 use Rattle.net_tree.specs.Spans.{span_of, span_between, braces_span}
 use Rattle.net_tree.specs.Tree.{Tree, Links, Part, Braces, leaf, indexed, parens, tuple, negated, braced, signed, reduced, chain, choice, net, none, link, absent, part, empty, filled}
-use Rattle.net_fault.specs.declared.error_code.ErrorCode.TheVariants.{KindMismatch, ValueTooLarge}
+use Rattle.net_base.specs.declared.error_code.ErrorCode.TheVariants.{KindMismatch, ValueTooLarge}
 use Rattle.net_expr.specs.declared.value.Value.{Value}
 use Rattle.net_expr.specs.declared.value.Value.TheVariants.{One, Several, Truth}
 use Rattle.net_expr.specs.declared.row.Place.{Place}
 use Rattle.net_expr.specs.declared.row.Row.{Row}
 use Rattle.net_expr.specs.declared.row.Keys.{Keys}
-use Rattle.net_fault.specs.Outcomes.{Outcome, and_then, rejected, each}
+use Rattle.net_base.specs.Outcomes.{Outcome, and_then, rejected, each}
 use Rattle.net_expr.specs.Worlds.{Name, World, Scope, bound, name_at}
 use Rattle.net_tree.specs.Operations.{operation, reduction, is_minus}
-use Rattle.net_expr.specs.Numbers.{number_in, number, sized, turned, range_of}
+use Rattle.net_expr.specs.Numbers.{number, sized, turned, range_of}
+use Rattle.net_tree.specs.Numerals.{number_in}
 use Rattle.net_expr.specs.Operators.{apply, decided, truth, tuple_of}
 use Rattle.net_expr.specs.Items.{is_in, has_in, any_in, begins_range, has_part, new_dummy, needed, chosen, tuples_of, walking, opened, open_with}
 use Rattle.net_expr.specs.Rows.{start, with_key, match_component, match_whole, if_fits, onward, finished, selected, no_keys, as_set, listed, reduce}
 use Rattle.net_expr.specs.Widths.{width_by_form}
 
+-- A numeral without a number does not occur: each numeral of a text has one
+-- (`numerals_have_numbers` of net_tree).
 abbrev pub number_value : Span → Option ℤ → Outcome Value
 number_value at None = rejected ValueTooLarge at
 number_value at (Some n) = Ok (One (member.Number n))

@@ -1,15 +1,15 @@
 -- The steps of the definition of values, one by one.
 use Rattle.std.specs.Prelude.{Bool, ◌||◌, List, [], ◌∷◌, Option, None, Some, if◌then◌else◌, Ok}
-use Rattle.net_fault.specs.declared.span.Span.{Span}
+use Rattle.net_base.specs.declared.diagnostic.Span.{Span}
 use Rattle.net_sets.specs.Sets.{Tuple}
 use Rattle.net_tree.specs.Spans.{span_of}
 use Rattle.net_tree.specs.Tree.{Tree, Links, Part}
-use Rattle.net_fault.specs.declared.error_code.ErrorCode.TheVariants.{KindMismatch}
+use Rattle.net_base.specs.declared.error_code.ErrorCode.TheVariants.{KindMismatch}
 use Rattle.net_tree.specs.declared.operator.BinOp.{BinOp}
 use Rattle.net_expr.specs.declared.value.Value.{Value}
 use Rattle.net_expr.specs.declared.row.Place.{Place}
 use Rattle.net_expr.specs.declared.row.Keys.{Keys}
-use Rattle.net_fault.specs.Outcomes.{Outcome, and_then, rejected, each}
+use Rattle.net_base.specs.Outcomes.{Outcome, and_then, rejected, each}
 use Rattle.net_expr.specs.Worlds.{World, Scope}
 use Rattle.net_expr.specs.Operators.{apply, decided}
 use Rattle.net_expr.specs.Items.{sides, any_in, has_part, new_dummy, needed, chosen, tuples_of, is_set}

@@ -1,17 +1,17 @@
 -- The number of members of the keys of an indexing expression by its form alone, if it has no keys.
 use Rattle.std.specs.Prelude.{ℕ, ◌+◌, min, Bool, true, false, ◌&&◌, ◌||◌, nat_le, Option, None, Some, is_some, if◌then◌else◌, Ok, pos}
-use Rattle.net_fault.specs.declared.span.Span.{Span}
+use Rattle.net_base.specs.declared.diagnostic.Span.{Span}
 use Rattle.net_sets.specs.declared.member.Member.{Member}
 use Rattle.net_sets.specs.declared.member.Member.TheVariants.{Number}
 use Rattle.net_sets.specs.Limits.{arity_limit}
 use Rattle.net_tree.specs.Tree.{Tree, Links, Braces, leaf, indexed, parens, tuple, negated, braced, signed, reduced, chain, choice, net, none, link, empty, filled}
-use Rattle.net_fault.specs.declared.error_code.ErrorCode.TheVariants.{KindMismatch, Arity}
+use Rattle.net_base.specs.declared.error_code.ErrorCode.TheVariants.{KindMismatch, Arity}
 use Rattle.net_tree.specs.declared.operator.BinOp.{BinOp}
 use Rattle.net_tree.specs.declared.operator.BinOp.TheVariants as op
 use Rattle.net_expr.specs.declared.width.Shape.{Shape}
 use Rattle.net_expr.specs.declared.world.Entry.{Entry}
 use Rattle.net_expr.specs.declared.world.Entry.TheVariants.{Set}
-use Rattle.net_fault.specs.Outcomes.{Outcome, rejected}
+use Rattle.net_base.specs.Outcomes.{Outcome, rejected}
 use Rattle.net_expr.specs.Worlds.{Name, World, Scope, bound, entry_of, with_dummy}
 use Rattle.net_tree.specs.Operations.{operation}
 use Rattle.net_expr.specs.Sets.{counted}

@@ -2,19 +2,19 @@
 -- scope.
 use Rattle.std.specs.Prelude.{ℕ, Bool, true, false, ◌||◌, List, [], ◌∷◌, length, nat_eq, Option, None, Some, is_some, if◌then◌else◌, Ok}
 use Rattle.std.specs.Str.{bytes_eq}
-use Rattle.net_fault.specs.declared.span.Span.{Span}
+use Rattle.net_base.specs.declared.diagnostic.Span.{Span}
 use Rattle.net_sets.specs.declared.member.Member.{Member}
 use Rattle.net_sets.specs.Names.{named}
 use Rattle.net_sets.specs.Sets.{Tuple, has, at_key}
-use Rattle.net_fault.specs.declared.error_code.ErrorCode.TheVariants.{NoValue, OutsideSet, KindMismatch, Arity}
-use Rattle.net_fault.specs.declared.detail.Detail.{Detail}
-use Rattle.net_fault.specs.declared.detail.Detail.TheVariants.{Reported}
+use Rattle.net_base.specs.declared.error_code.ErrorCode.TheVariants.{NoValue, OutsideSet, KindMismatch, Arity}
+use Rattle.net_base.specs.declared.diagnostic.Detail.{Detail}
+use Rattle.net_base.specs.declared.diagnostic.Detail.TheVariants.{Reported}
 use Rattle.net_expr.specs.declared.value.Value.{Value}
 use Rattle.net_expr.specs.declared.value.Value.TheVariants.{One, Many}
 use Rattle.net_expr.specs.declared.world.Entry.{Entry}
 use Rattle.net_expr.specs.declared.world.Entry.TheVariants.{Set, Parameter}
 use Rattle.net_expr.specs.declared.scope.Binding.{Binding}
-use Rattle.net_fault.specs.Outcomes.{Outcome, rejected, rejected_of}
+use Rattle.net_base.specs.Outcomes.{Outcome, rejected, rejected_of}
 use Rattle.net_expr.specs.References.{reference_text}
 
 abbrev pub Name : Type 0

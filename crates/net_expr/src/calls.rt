@@ -5,7 +5,7 @@ ghost use Rattle.net_tree.specs.Spans as trees;
 ghost use Rattle.net_tree.specs.View.{tree, braces_of};
 ghost use Rattle.net_expr.specs.Items as items;
 ghost use Rattle.net_expr.specs.Operators as operators;
-ghost use Rattle.net_fault.specs.Outcomes.{Refines, and_then};
+ghost use Rattle.net_base.specs.Outcomes.{Refines, and_then};
 ghost use Rattle.net_expr.specs.Values as values;
 
 use crate::eval::{evaluate, is_met};
@@ -15,7 +15,7 @@ use crate::operator::member_of;
 use crate::row::Keys;
 use crate::scope::Scope;
 use crate::world::Env;
-use net_fault::Fault;
+use net_base::Fault;
 use net_sets::{Cow, Member};
 use net_tree::{Braces, Expr, span_of};
 use std::alloc::Global;

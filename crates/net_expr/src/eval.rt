@@ -8,7 +8,7 @@ ghost use Rattle.net_expr.specs.Items as items;
 ghost use Rattle.net_expr.specs.Numbers as numbers;
 ghost use Rattle.net_tree.specs.Operations as operations;
 ghost use Rattle.net_expr.specs.Operators as operators;
-ghost use Rattle.net_fault.specs.Outcomes.{Refines, and_then};
+ghost use Rattle.net_base.specs.Outcomes.{Refines, and_then};
 ghost use Rattle.net_expr.specs.Rows as rows;
 ghost use Rattle.net_expr.specs.Values as values;
 ghost use Rattle.net_expr.specs.Walks as walks;
@@ -27,13 +27,12 @@ use crate::scope::Scope;
 use crate::subscripts::key_of;
 use crate::value::Value;
 use crate::world::Env;
-use net_fault::Fault;
+use net_base::{Boxed, Fault, Items};
 use net_lex::Token;
 use net_sets::Member;
 use net_tree::{
     Braces, Expr, Link, Operands, Part, Reducer, Reduction, Sign, braces_span, span_of,
 };
-use net_views::{Boxed, Items};
 use std::alloc::Global;
 
 /// Evaluates an expression. Returns the first error from left to right.
@@ -63,14 +62,14 @@ pub fn evaluate<'w, 's>(
         }
         Expr::Reduction(front, body) => reduced(alloc, env, scope, expr, front.get(), body.get()),
         Expr::Chain(_, operands) => chain(alloc, env, scope, expr, operands.get()),
-        Expr::If(condition, branch, otherwise) => choice(
-            alloc,
-            env,
-            scope,
-            expr,
-            &condition.get().value,
-            (&branch.get().value, otherwise),
-        ),
+        Expr::If(condition, branch, otherwise) => {
+            let condition = &condition.get().value;
+            let branches = Branches {
+                first: &branch.get().value,
+                otherwise,
+            };
+            choice(alloc, env, scope, expr, condition, branches)
+        }
         Expr::Net(_) => Ok(Value::One(Member::Number(0))),
     }
 }
@@ -148,7 +147,7 @@ fn braced<'w, 's>(
     ensures { Refines (and_then (values.index env.now scope.now (braces_of braces.now)) (rows.as_set (trees.braces_span (braces_of braces.now)))) result }
 {
     let keys = index(alloc, env, scope, braces)?;
-    as_value(alloc, braces_span(braces), &keys)
+    as_value(alloc, env, braces_span(braces), &keys)
 }
 
 #[cycle(eval)]
@@ -202,10 +201,22 @@ fn chain<'w, 's>(
     let value = evaluate(alloc, env, scope, &operands.first)?;
     let more = operands.more.as_slice();
     if begins_range(more) {
-        range_of(alloc, whole, evaluate_more(alloc, env, scope, value, more))
+        range_of(
+            alloc,
+            env,
+            whole,
+            evaluate_more(alloc, env, scope, value, more),
+        )
     } else {
         chained(alloc, env, scope, whole, more, value)
     }
+}
+
+/// The branches of an `if`.
+#[derive(Clone, Copy)]
+struct Branches<'a, 's> {
+    first: &'a Expr<'s>,
+    otherwise: &'a Option<Boxed<Part<'s>>>,
 }
 
 #[cycle(eval)]
@@ -215,17 +226,16 @@ fn choice<'w, 's>(
     scope: &Scope<'s>,
     whole: &Expr<'s>,
     condition: &Expr<'s>,
-    branches: (&Expr<'s>, &Option<Boxed<Part<'s>>>),
+    branches: Branches<'_, 's>,
 ) -> Result<Value<'w, 's>, Fault>
     ensures { Refines (and_then (and_then (values.value env.now scope.now (tree condition.now)) (operators.truth (trees.span_of (tree whole.now))))
-        (λ b. if b then values.value env.now scope.now (tree branches.entry.0.now)
-        else values.otherwise env.now scope.now (option_part branches.entry.1.now))) result }
+        (λ b. if b then values.value env.now scope.now (tree branches.entry.first.now)
+        else values.otherwise env.now scope.now (option_part branches.entry.otherwise.now))) result }
 {
-    let (branch, otherwise) = branches;
     if is_met(alloc, env, scope, whole, condition)? {
-        evaluate(alloc, env, scope, branch)
+        evaluate(alloc, env, scope, branches.first)
     } else {
-        other_branch(alloc, env, scope, otherwise)
+        other_branch(alloc, env, scope, branches.otherwise)
     }
 }
 

@@ -3,11 +3,11 @@
 ghost use Rattle.std.specs.Prelude.{◌≡◌};
 ghost use Rattle.net_tree.specs.Spans as trees;
 ghost use Rattle.net_tree.specs.View.{tree};
-ghost use Rattle.net_fault.specs.Outcomes.{bare};
-ghost use Rattle.net_fault.specs.declared.language.Language.TheVariants.{Model as InModel};
-ghost use Rattle.net_fault.specs.declared.fault.Fault.TheVariants.{At};
+ghost use Rattle.net_base.specs.Outcomes.{bare};
+ghost use Rattle.net_base.specs.declared.diagnostic.Language.TheVariants.{Model as InModel};
+ghost use Rattle.net_base.specs.declared.fault.Fault.TheVariants.{At};
 
-use net_fault::{ErrorCode, Fault};
+use net_base::{ErrorCode, Fault};
 use net_tree::{Expr, span_of};
 
 /// Builds an error at the span of a tree. The span is computed only here, not when there is no

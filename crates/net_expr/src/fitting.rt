@@ -5,7 +5,7 @@ ghost use Rattle.net_tree.specs.Spans as trees;
 ghost use Rattle.net_tree.specs.declared.expr.Operands.{out-Operands};
 ghost use Rattle.net_tree.specs.View.{tree, links_of};
 ghost use Rattle.net_expr.specs.Items as items;
-ghost use Rattle.net_fault.specs.Outcomes.{Refines};
+ghost use Rattle.net_base.specs.Outcomes.{Refines};
 ghost use Rattle.net_expr.specs.Rows as rows;
 ghost use Rattle.net_expr.specs.Values as values;
 ghost use Rattle.net_expr.specs.Walks as walks;
@@ -14,7 +14,7 @@ use crate::eval::evaluate;
 use crate::item::new_dummy;
 use crate::row::{Place, bind_first, matches_as_tuple, matches_member, stay, with_key};
 use crate::world::Env;
-use net_fault::Fault;
+use net_base::Fault;
 use net_sets::{Member, Tuple};
 use net_tree::{Expr, Link, Operands, sides_of};
 use std::alloc::Global;
@@ -102,8 +102,15 @@ fn components<'s>(
         [] => stay(alloc, place),
         [member, others @ ..] => {
             let here = place.copied(alloc)?;
-            let components = (&series.first, series.more.as_slice());
-            fit_all(alloc, env, whole, components, (member, others), here)
+            let components = ComponentList {
+                first: &series.first,
+                more: series.more.as_slice(),
+            };
+            let members = MemberList {
+                first: member,
+                more: others,
+            };
+            fit_all(alloc, env, whole, components, members, here)
         }
     }
 }
@@ -124,11 +131,32 @@ fn places<'s>(
         [link, rest @ ..] => match members {
             [] => Ok(Some(place)),
             [member, others @ ..] => {
-                let components = (&link.operand, rest);
-                fit_all(alloc, env, whole, components, (member, others), place)
+                let components = ComponentList {
+                    first: &link.operand,
+                    more: rest,
+                };
+                let members = MemberList {
+                    first: member,
+                    more: others,
+                };
+                fit_all(alloc, env, whole, components, members, place)
             }
         },
     }
+}
+
+/// A component of a tuple in an item, and those after it.
+#[derive(Clone, Copy)]
+struct ComponentList<'a, 's> {
+    first: &'a Expr<'s>,
+    more: &'a [Link<'s>],
+}
+
+/// A member of a key, and those after it.
+#[derive(Clone, Copy)]
+struct MemberList<'a, 's> {
+    first: &'a Member<'s>,
+    more: &'a [Member<'s>],
 }
 
 /// Matches a component, and those after it.
@@ -137,18 +165,16 @@ fn fit_all<'s>(
     alloc: Global,
     env: &Env<'_, 's>,
     whole: &Expr<'s>,
-    components: (&Expr<'s>, &[Link<'s>]),
-    members: (&Member<'s>, &[Member<'s>]),
+    components: ComponentList<'_, 's>,
+    members: MemberList<'_, 's>,
     place: Place<'s>,
 ) -> Result<Option<Place<'s>>, Fault>
-    ensures { Refines (walks.component_places (trees.span_of (tree whole.now)) env.now (tree components.entry.0.now) (links_of components.entry.1.now)
-        (members.entry.0.now ∷ members.entry.1.now) place.entry) result }
+    ensures { Refines (walks.component_places (trees.span_of (tree whole.now)) env.now (tree components.entry.first.now)
+        (links_of components.entry.more.now) (members.entry.first.now ∷ members.entry.more.now) place.entry) result }
 {
-    let (component, more) = components;
-    let (member, others) = members;
-    match fit(alloc, env, whole, component, member, place) {
+    match fit(alloc, env, whole, components.first, members.first, place) {
         Ok(None) => Ok(None),
-        Ok(Some(next)) => places(alloc, env, whole, more, others, next),
+        Ok(Some(next)) => places(alloc, env, whole, components.more, members.more, next),
         Err(fault) => Err(fault),
     }
 }

@@ -6,7 +6,7 @@ ghost use Rattle.net_tree.specs.Spans as trees;
 ghost use Rattle.net_tree.specs.View.{tree, links_of, option_part};
 ghost use Rattle.net_expr.specs.Items as items;
 ghost use Rattle.net_tree.specs.Operations as operations;
-ghost use Rattle.net_fault.specs.Outcomes.{Refines, Outcome, and_then, Yields};
+ghost use Rattle.net_base.specs.Outcomes.{Refines, Outcome, and_then, Yields};
 ghost use Rattle.net_expr.specs.declared.value.Value.{Value as Found};
 ghost use Rattle.net_expr.specs.declared.value.Value.TheVariants.{Many};
 ghost use Rattle.net_expr.specs.Worlds as worlds;
@@ -15,10 +15,9 @@ use crate::fault::reject_tree;
 use crate::scope::Scope;
 use crate::value::Value;
 use crate::world::Env;
-use net_fault::{ErrorCode, Fault, Span};
+use net_base::{Boxed, ErrorCode, Excerpt, Fault, Span};
 use net_sets::Cow;
 use net_tree::{BinOp, Expr, Link, Operator, Part, sides_of, single_name};
-use net_views::{Boxed, Excerpt};
 
 pub(crate) fn has_in(item: &Expr<'_>) -> bool
     ensures { result ≡ items.has_in (tree item.now) }

@@ -7,7 +7,7 @@ ghost use Rattle.net_tree.specs.View.{tree, braces_of, links_of, option_part};
 ghost use Rattle.net_tree.specs.Weights.{weights};
 ghost use Rattle.net_expr.specs.Frames as frames;
 ghost use Rattle.net_expr.specs.Items as items;
-ghost use Rattle.net_fault.specs.Outcomes.{Refines, Updates, and_then, each};
+ghost use Rattle.net_base.specs.Outcomes.{Refines, Updates, and_then, each};
 ghost use Rattle.net_expr.specs.Rows as rows;
 ghost use Rattle.net_expr.specs.Selecting as select;
 ghost use Rattle.net_expr.specs.Values as values;
@@ -15,8 +15,6 @@ ghost use Rattle.net_expr.specs.Walks as walks;
 
 use crate::eval::{evaluate, evaluate_more};
 use crate::fitting::place_at;
-use crate::frame::Frame;
-use crate::inside::Inside;
 use crate::item::{any_in, chosen, has_part, is_set, tuples_of};
 use crate::list::{listed, no_items};
 use crate::operator::truth_at;
@@ -26,10 +24,9 @@ use crate::selecting::selected;
 use crate::value::Value;
 use crate::width::width;
 use crate::world::Env;
-use net_fault::{Fault, Span};
-use net_sets::Cow;
+use net_base::{Boxed, Fault, Items, Span};
+use net_sets::{Cow, Cursor};
 use net_tree::{Braces, Expr, Link, Part, sides_of, span_between};
-use net_views::{Boxed, Items};
 use std::alloc::Global;
 
 /// Returns the keys of an indexing expression, each with the dummies in scope.
@@ -99,7 +96,14 @@ fn open<'w, 's>(
         select(alloc, env, scope, items, tuples)
     } else {
         let found = evaluate_more(alloc, env, scope, value, items.more);
-        listed(alloc, items.at, scope, has_part(items.condition), found)
+        listed(
+            alloc,
+            env,
+            items.at,
+            scope,
+            has_part(items.condition),
+            found,
+        )
     }
 }
 
@@ -311,5 +315,34 @@ fn holds<'s>(
     match condition {
         None => Ok(true),
         Some(part) => truth_at(at, evaluate(alloc, env, scope, &part.get().value)),
+    }
+}
+
+/// The items and the condition of an indexing expression, and its span.
+#[derive(Drop)]
+pub(crate) struct Inside<'a, 's> {
+    pub(crate) at: Span,
+    pub(crate) first: &'a Expr<'s>,
+    pub(crate) more: &'a [Link<'s>],
+    pub(crate) condition: &'a Option<Boxed<Part<'s>>>,
+}
+
+/// An item in a state, with the remaining tuples of its set and the items after it. Its drop is one
+/// call, to keep the proofs of functions with many exits small.
+pub(crate) struct Frame<'a, 'w, 's> {
+    pub(crate) item: &'a Expr<'s>,
+    pub(crate) more: &'a [Link<'s>],
+    pub(crate) place: Place<'s>,
+    pub(crate) left: Cursor<'w, 's>,
+}
+
+impl<'a, 'w, 's> Drop for Frame<'a, 'w, 's> {
+    fn drop(self) {
+        let Frame {
+            item: _item,
+            more: _more,
+            place: _place,
+            left: _left,
+        } = self;
     }
 }

@@ -1,7 +1,7 @@
 //! Theorems about values. The functions are empty: their contracts state theorems.
 
 ghost use Rattle.std.specs.Prelude.{ℕ};
-ghost use Rattle.net_fault.specs.Places.{Finds, IsInFiles, IsSpanIn};
+ghost use Rattle.net_base.specs.Places.{Finds, IsInFiles, IsSpanIn};
 ghost use Rattle.net_tree.specs.Standing.{Stands, BracesStand};
 ghost use Rattle.net_tree.specs.Tree.{Tree, Braces};
 ghost use Rattle.net_expr.specs.SetValues.{HaveDistinctKeys, KeepsSets};

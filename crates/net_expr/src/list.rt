@@ -3,17 +3,17 @@
 ghost use Rattle.std.specs.Prelude.{◌≡◌, ◌++◌, ◌∷◌, [], List, Ok, IfOk, length};
 ghost use Rattle.net_sets.specs.Made.{IsMade};
 ghost use Rattle.net_sets.specs.Operations.{union};
-ghost use Rattle.net_fault.specs.Outcomes.{Refines, Outcome, and_then, Yields};
+ghost use Rattle.net_base.specs.Outcomes.{Refines, Outcome, and_then, Yields};
 ghost use Rattle.net_expr.specs.declared.value.Value.{Value as Found};
 ghost use Rattle.net_expr.specs.Rows as rows;
 ghost use Rattle.net_expr.specs.Walks as walks;
 
-use crate::row::{Keys, Row};
+use crate::row::{Keys, Row, key_set};
 use crate::scope::Scope;
 use crate::value::Value;
-use net_fault::{ErrorCode, Fault, Span};
-use net_sets::{Cow, SetFault, Tuple, TupleSet};
-use net_views::Items;
+use crate::world::Env;
+use net_base::{ErrorCode, Fault, Items, Span};
+use net_sets::{Cow, HashKey, SetFault, Tuple, TupleSet};
 use std::alloc::{AllocError, Global};
 
 /// Returns a value as a tuple: a single member, or a tuple.
@@ -92,6 +92,7 @@ pub(crate) fn no_items<'s>(alloc: Global, at: Span, conditioned: bool) -> Result
 /// Returns the rows of tuples of equal length, each once.
 fn rows_once<'s>(
     alloc: Global,
+    key: HashKey,
     at: Span,
     scope: &Scope<'s>,
     first: &Tuple<'s>,
@@ -99,7 +100,7 @@ fn rows_once<'s>(
 ) -> Result<Keys<'s>, Fault>
     ensures { Refines (rows.keys_within at scope.now (length first.now) (union [] tuples.now)) result }
 {
-    match TupleSet::from_tuples(alloc, tuples) {
+    match TupleSet::from_tuples(alloc, key, tuples) {
         Ok(set) => Ok(Keys {
             width: Some(first.len() as u8),
             rows: rows_of(alloc, scope, set.as_slice())?,
@@ -111,6 +112,7 @@ fn rows_once<'s>(
 
 fn listed_as<'s>(
     alloc: Global,
+    key: HashKey,
     at: Span,
     scope: &Scope<'s>,
     tuples: &[Tuple<'s>],
@@ -121,7 +123,7 @@ fn listed_as<'s>(
         [] => Ok(no_keys(alloc)),
         [first, rest @ ..] => {
             if all_of(first.len(), rest) {
-                rows_once(alloc, at, scope, first, tuples)
+                rows_once(alloc, key, at, scope, first, tuples)
             } else {
                 Err(Fault::of_model(ErrorCode::Arity, at))
             }
@@ -132,6 +134,7 @@ fn listed_as<'s>(
 /// Returns the keys of braces that list members and tuples.
 pub(crate) fn listed<'s>(
     alloc: Global,
+    env: &Env<'_, 's>,
     at: Span,
     scope: &Scope<'s>,
     conditioned: bool,
@@ -144,30 +147,20 @@ pub(crate) fn listed<'s>(
         Err(Fault::of_model(ErrorCode::KindMismatch, at))
     } else {
         let tuples = tuples_in(alloc, at, values.as_slice())?;
-        listed_as(alloc, at, scope, tuples.as_slice())
+        listed_as(alloc, env.key(), at, scope, tuples.as_slice())
     }
-}
-
-fn keys_of<'s>(alloc: Global, found: &[Row<'s>]) -> Result<Items<Tuple<'s>>, AllocError>
-    ensures { IfOk result (λ all. all ≡ rows.keys_of found.now) }
-{
-    let mut all = Vec::new(alloc);
-    for row in found {
-        all.push(row.key.copied())?;
-    }
-    Ok(Items::new(all))
 }
 
 /// Returns the keys of an indexing expression as a set.
 pub(crate) fn as_value<'w, 's>(
     alloc: Global,
+    env: &Env<'_, 's>,
     at: Span,
     keys: &Keys<'s>,
 ) -> Result<Value<'w, 's>, Fault>
     ensures { Refines (rows.as_set at keys.now) result }
 {
-    let tuples = keys_of(alloc, keys.rows.as_slice())?;
-    match TupleSet::from_tuples(alloc, tuples.as_slice()) {
+    match key_set(alloc, env.key(), keys.rows.as_slice()) {
         Ok(set) => Ok(Value::Many(keys.width, Cow::owned(set))),
         Err(SetFault::TooMany) => Err(Fault::of_model(ErrorCode::TooMany, at)),
         Err(SetFault::OutOfMemory) => Err(Fault::OutOfMemory),

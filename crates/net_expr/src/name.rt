@@ -4,21 +4,19 @@ ghost use Rattle.std.specs.Prelude.{◌≡◌, []};
 ghost use Rattle.std.specs.Option.{option_copied};
 ghost use Rattle.net_sets.specs.Sets.{has, at_key};
 ghost use Rattle.net_tree.specs.Tree as trees;
-ghost use Rattle.net_expr.specs.Numbers.{number_in};
-ghost use Rattle.net_fault.specs.Outcomes.{Refines, Yields};
+ghost use Rattle.net_tree.specs.Numerals.{number_of};
+ghost use Rattle.net_base.specs.Outcomes.{Refines, Yields};
 ghost use Rattle.net_expr.specs.Values as values;
 ghost use Rattle.net_expr.specs.Worlds as worlds;
 
-use crate::limits::number_in;
 use crate::reference::reported_reference;
 use crate::scope::Scope;
 use crate::value::Value;
 use crate::world::{Entry, Env};
-use net_fault::{Detail, ErrorCode, Fault, Language, Span};
+use net_base::{Detail, ErrorCode, Excerpt, Fault, Language, Span};
 use net_lex::Token;
 use net_sets::{Cow, Member, Table, Text, Tuple, TupleSet};
-use net_tree::{Role, role_of};
-use net_views::Excerpt;
+use net_tree::{Leaf, Role, role_of};
 use std::alloc::Global;
 
 fn missing<'w, 's>(at: Span, detail: Detail, listed: bool) -> Result<Value<'w, 's>, Fault>
@@ -32,30 +30,23 @@ fn missing<'w, 's>(at: Span, detail: Detail, listed: bool) -> Result<Value<'w, '
     Err(Fault::of_text(Language::Model, error_code, at, detail))
 }
 
-/// Returns the value of a parameter at a key, from its index set and its table.
-fn value_at<'w, 's>(
+/// Builds the error for a key of a parameter that has no value.
+fn no_value<'w, 's>(
     alloc: Global,
     at: Span,
     name: &Excerpt<'s>,
     keys: Option<u8>,
-    values: (&TupleSet<'s>, &Table<'s>),
-    key: Tuple<'s>,
+    index: &TupleSet<'s>,
+    key: &Tuple<'s>,
 ) -> Result<Value<'w, 's>, Fault>
-    ensures { Refines (worlds.value_at at (worlds.reference name.now keys key.entry) (at_key values.entry.1.now key.entry)
-        (has values.entry.0.now key.entry)) result }
+    ensures { Refines (worlds.missing at (worlds.reference name.now keys key.now) (has index.now key.now)) result }
 {
-    let (index, table) = values;
-    match table.get(&key) {
-        Some(member) => Ok(Value::One(member.copied())),
-        None => {
-            let listed = index.contains(&key);
-            let detail = reported_reference(alloc, name, keys, &key)?;
-            missing(at, detail, listed)
-        }
-    }
+    let detail = reported_reference(alloc, name, keys, key)?;
+    missing(at, detail, index.contains(key))
 }
 
-fn key_count(keys: Option<u8>) -> usize
+/// Returns the number of members of a key; without indexing, keys are empty.
+pub fn key_count(keys: Option<u8>) -> usize
     ensures { result ≡ worlds.key_count keys }
 {
     match keys {
@@ -85,7 +76,10 @@ fn entry_at<'w, 's>(
         }
         Some(Entry::Parameter(keys, index, table)) => {
             if key.len() == key_count(*keys) {
-                value_at(alloc, at, name, *keys, (index.get(), table), key)
+                match table.get(&key) {
+                    Some(member) => Ok(Value::One(member.copied())),
+                    None => no_value(alloc, at, name, *keys, index.get(), &key),
+                }
             } else {
                 Err(Fault::of_model(ErrorCode::Arity, at))
             }
@@ -132,12 +126,32 @@ fn plain_name<'w, 's>(
     }
 }
 
-fn numeral<'w, 's>(token: &Token<'s>) -> Result<Value<'w, 's>, Fault>
-    ensures { Yields (values.number_value token.now.span (number_in token.now.text)) result }
+fn numeral<'w, 's>(token: &Token<'s>, number: Option<i64>) -> Result<Value<'w, 's>, Fault>
+    ensures { Yields (values.number_value token.now.span number) result }
 {
-    match number_in(&token.text) {
+    match number {
         None => Err(Fault::of_model(ErrorCode::ValueTooLarge, token.span)),
         Some(number) => Ok(Value::One(Member::Number(number))),
+    }
+}
+
+/// Returns the value of a token; `number` is that of a numeral.
+#[tactic(auto, unfolding(net_tree::specs::Numerals::number_of))]
+fn token_value<'w, 's>(
+    alloc: Global,
+    env: &Env<'w, 's>,
+    scope: &Scope<'s>,
+    token: &Token<'s>,
+    number: Option<i64>,
+) -> Result<Value<'w, 's>, Fault>
+    requires { number ≡ number_of token.now }
+    ensures { Refines (values.value env.now scope.now (trees.leaf token.now)) result }
+{
+    match role_of(token) {
+        Role::Number => numeral(token, number),
+        Role::Text => Ok(Value::One(Member::Name(Text::new(&token.text)))),
+        Role::Name => plain_name(alloc, token.span, env, scope, &token.text),
+        _ => Err(Fault::of_model(ErrorCode::KindMismatch, token.span)),
     }
 }
 
@@ -146,14 +160,9 @@ pub(crate) fn leaf<'w, 's>(
     alloc: Global,
     env: &Env<'w, 's>,
     scope: &Scope<'s>,
-    token: &Token<'s>,
+    leaf: &Leaf<'s>,
 ) -> Result<Value<'w, 's>, Fault>
-    ensures { Refines (values.value env.now scope.now (trees.leaf token.now)) result }
+    ensures { Refines (values.value env.now scope.now (trees.leaf leaf.now)) result }
 {
-    match role_of(token) {
-        Role::Number => numeral(token),
-        Role::Text => Ok(Value::One(Member::Name(Text::new(&token.text)))),
-        Role::Name => plain_name(alloc, token.span, env, scope, &token.text),
-        _ => Err(Fault::of_model(ErrorCode::KindMismatch, token.span)),
-    }
+    token_value(alloc, env, scope, leaf.token(), leaf.number())
 }

@@ -6,17 +6,17 @@ ghost use Rattle.net_tree.specs.View.{tree};
 ghost use Rattle.net_expr.specs.Limits.{is_small};
 ghost use Rattle.net_expr.specs.Numbers as numbers;
 ghost use Rattle.net_expr.specs.Operators as operators;
-ghost use Rattle.net_fault.specs.Outcomes.{Refines, Outcome, and_then, rejected, Yields};
-ghost use Rattle.net_fault.specs.declared.error_code.ErrorCode.TheVariants.{KindMismatch};
+ghost use Rattle.net_base.specs.Outcomes.{Refines, Outcome, and_then, rejected, Yields};
+ghost use Rattle.net_base.specs.declared.error_code.ErrorCode.TheVariants.{KindMismatch};
 ghost use Rattle.net_expr.specs.declared.value.Value.{Value as Found};
 ghost use Rattle.net_expr.specs.declared.value.Value.TheVariants.{Truth};
 ghost use Rattle.net_expr.specs.Rows as rows;
 ghost use Rattle.net_expr.specs.Values as values;
 
 use crate::fault::reject_tree;
-use crate::limits::is_small_wide;
 use crate::value::Value;
-use net_fault::{ErrorCode, Fault};
+use net_base::{ErrorCode, Fault};
+use net_lex::VALUE_LIMIT;
 use net_sets::Member;
 use net_tree::{BinOp, Expr, Reduction};
 
@@ -268,4 +268,20 @@ pub(crate) fn reduced_to<'w, 's>(
         None => nothing_reduced(whole, reduction),
         Some(number) => sized(whole, *number),
     }
+}
+
+/// Returns whether the absolute value of a number is at most 10^12.
+#[tactic(auto, unfolding(crate::specs::Limits::is_small))]
+pub fn is_small(number: &i64) -> bool
+    ensures { result ≡ is_small number.now }
+{
+    number.unsigned_abs() <= VALUE_LIMIT
+}
+
+/// Returns the same for a result of arithmetic, before it is stored in 64 bits.
+#[tactic(auto, unfolding(crate::specs::Limits::is_small))]
+pub fn is_small_wide(number: &i128) -> bool
+    ensures { result ≡ is_small number.now }
+{
+    number.unsigned_abs() <= u128::from(VALUE_LIMIT)
 }

@@ -4,14 +4,14 @@ ghost use Rattle.std.specs.Prelude.{◌∷◌, [], Bool};
 ghost use Rattle.net_tree.specs.Spans as trees;
 ghost use Rattle.net_tree.specs.View.{tree};
 ghost use Rattle.net_expr.specs.Operators as operators;
-ghost use Rattle.net_fault.specs.Outcomes.{Refines, Outcome, and_then, Yields};
+ghost use Rattle.net_base.specs.Outcomes.{Refines, Outcome, and_then, Yields};
 ghost use Rattle.net_expr.specs.declared.value.Value.{Value as Found};
 
 use crate::fault::reject_tree;
 use crate::number::of_numbers;
 use crate::set::{belongs, contained, cross_values, of_sets};
 use crate::value::Value;
-use net_fault::{ErrorCode, Fault, Span};
+use net_base::{ErrorCode, Fault, Span};
 use net_sets::Member;
 use net_tree::{BinOp, Expr};
 use std::alloc::Global;

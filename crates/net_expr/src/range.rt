@@ -5,24 +5,24 @@ ghost use Rattle.net_tree.specs.Spans as trees;
 ghost use Rattle.net_tree.specs.View.{tree};
 ghost use Rattle.net_expr.specs.Limits.{is_small};
 ghost use Rattle.net_expr.specs.Numbers as numbers;
-ghost use Rattle.net_fault.specs.Outcomes.{Refines, Outcome, and_then, Yields};
+ghost use Rattle.net_base.specs.Outcomes.{Refines, Outcome, and_then, Yields};
 ghost use Rattle.net_expr.specs.declared.value.Value.{Value as Found};
 
 use crate::fault::reject_tree;
-use crate::limits::is_small;
-use crate::number::number_of;
+use crate::number::{is_small, number_of};
 use crate::set::made;
 use crate::value::Value;
-use net_fault::{ErrorCode, Fault};
-use net_sets::Range;
+use crate::world::Env;
+use net_base::{ErrorCode, Fault, Items};
+use net_sets::{HashKey, Range};
 use net_tree::Expr;
-use net_views::Items;
 use std::alloc::Global;
 
 /// Returns the numbers of a range whose step is at least 1.
 #[tactic(auto, unfolding(crate::specs::Limits::is_small))]
 fn range_within<'w, 's>(
     alloc: Global,
+    key: HashKey,
     whole: &Expr<'_>,
     first: &i64,
     last: &i64,
@@ -37,7 +37,7 @@ fn range_within<'w, 's>(
         last: *last,
         by: *by,
     };
-    made(whole, 1, range.listed(alloc))
+    made(whole, 1, range.listed(alloc, key))
 }
 
 fn are_small(first: &i64, last: &i64, by: &i64) -> bool
@@ -77,6 +77,7 @@ fn check_size(whole: &Expr<'_>, first: &i64, last: &i64, by: &i64) -> Result<(),
 
 fn range<'w, 's>(
     alloc: Global,
+    key: HashKey,
     whole: &Expr<'_>,
     first: &i64,
     last: &i64,
@@ -86,11 +87,12 @@ fn range<'w, 's>(
 {
     check_step(whole, by)?;
     check_size(whole, first, last, by)?;
-    range_within(alloc, whole, first, last, by)
+    range_within(alloc, key, whole, first, last, by)
 }
 
 fn range_of_two<'w, 's>(
     alloc: Global,
+    key: HashKey,
     whole: &Expr<'_>,
     x: &Value<'_, 's>,
     y: &Value<'_, 's>,
@@ -99,11 +101,12 @@ fn range_of_two<'w, 's>(
 {
     let first = number_of(whole, x)?;
     let last = number_of(whole, y)?;
-    range(alloc, whole, &first, &last, &1)
+    range(alloc, key, whole, &first, &last, &1)
 }
 
 fn range_of_three<'w, 's>(
     alloc: Global,
+    key: HashKey,
     whole: &Expr<'_>,
     x: &Value<'_, 's>,
     y: &Value<'_, 's>,
@@ -114,19 +117,20 @@ fn range_of_three<'w, 's>(
     let first = number_of(whole, x)?;
     let last = number_of(whole, y)?;
     let by = number_of(whole, z)?;
-    range(alloc, whole, &first, &last, &by)
+    range(alloc, key, whole, &first, &last, &by)
 }
 
 fn range_between<'w, 's>(
     alloc: Global,
+    key: HashKey,
     whole: &Expr<'_>,
     values: &[Value<'_, 's>],
 ) -> Result<Value<'w, 's>, Fault>
     ensures { Refines (numbers.range_of (trees.span_of (tree whole.now)) values.now) result }
 {
     match values {
-        [x, y] => range_of_two(alloc, whole, x, y),
-        [x, y, z] => range_of_three(alloc, whole, x, y, z),
+        [x, y] => range_of_two(alloc, key, whole, x, y),
+        [x, y, z] => range_of_three(alloc, key, whole, x, y, z),
         [] | [_] => Err(reject_tree(ErrorCode::KindMismatch, whole)),
         [_, _, _, _, ..] => Err(reject_tree(ErrorCode::KindMismatch, whole)),
     }
@@ -135,6 +139,7 @@ fn range_between<'w, 's>(
 /// Returns the range of two bounds and an optional step.
 pub(crate) fn range_of<'w, 's>(
     alloc: Global,
+    env: &Env<'_, 's>,
     whole: &Expr<'_>,
     values: Result<Items<Value<'_, 's>>, Fault>,
 ) -> Result<Value<'w, 's>, Fault>
@@ -142,5 +147,5 @@ pub(crate) fn range_of<'w, 's>(
         → Refines (and_then wanted (numbers.range_of (trees.span_of (tree whole.now)))) result }
 {
     let values = values?;
-    range_between(alloc, whole, values.as_slice())
+    range_between(alloc, env.key(), whole, values.as_slice())
 }

@@ -4,12 +4,11 @@ ghost use Rattle.std.specs.Prelude.{◌≡◌, ◌++◌, OnOk, IfOk, string_byte
 ghost use Rattle.std.specs.Fmt.{signed_decimal};
 ghost use Rattle.net_expr.specs.References as texts;
 ghost use Rattle.net_expr.specs.Worlds as worlds;
-ghost use Rattle.net_fault.specs.declared.detail.Detail.TheVariants.{Reported};
+ghost use Rattle.net_base.specs.declared.diagnostic.Detail.TheVariants.{Reported};
 
 use itoa::Buffer;
-use net_fault::Detail;
+use net_base::{Detail, Excerpt, OwnedText};
 use net_sets::{Member, Text, Tuple};
-use net_views::{Excerpt, OwnedText};
 use std::alloc::{AllocError, Global};
 
 /// Appends a string with each single quote doubled. Fails only if memory runs out.

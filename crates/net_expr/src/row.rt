@@ -4,17 +4,19 @@ ghost use Rattle.std.specs.Prelude.{◌≡◌, ◌∷◌, [], Bool, Ok, Some, If
 ghost use Rattle.net_tree.specs.Spans as trees;
 ghost use Rattle.net_tree.specs.View.{tree};
 ghost use Rattle.net_expr.specs.Operators as operators;
+ghost use Rattle.net_sets.specs.Made.{IsMade};
+ghost use Rattle.net_sets.specs.Operations.{union};
 ghost use Rattle.net_expr.specs.Rows as rows;
-ghost use Rattle.net_fault.specs.Outcomes.{Refines, Updates, Outcome, and_then, Yields};
+ghost use Rattle.net_expr.specs.Rows.{keys_of};
+ghost use Rattle.net_base.specs.Outcomes.{Refines, Updates, Outcome, and_then, Yields};
 ghost use Rattle.net_expr.specs.declared.value.Value.{Value as Found};
 
 use crate::fault::reject_tree;
 use crate::scope::Scope;
 use crate::value::Value;
-use net_fault::{ErrorCode, Fault, Span};
-use net_sets::{Member, TUPLES_LIMIT, Tuple};
+use net_base::{ErrorCode, Excerpt, Fault, Items, Span};
+use net_sets::{HashKey, Member, SetFault, TUPLES_LIMIT, Tuple, TupleSet};
 use net_tree::Expr;
-use net_views::{Excerpt, Items};
 use std::alloc::{AllocError, Global};
 
 /// The state of an iteration over an indexing expression. Its drop is one call, to keep the proofs
@@ -47,6 +49,17 @@ pub struct Row<'s> {
 pub struct Keys<'s> {
     pub width: Option<u8>,
     pub rows: Items<Row<'s>>,
+}
+
+/// Returns the set of the keys of rows, under the key of the run. Returns `TooMany` if there are more than a set can have.
+pub fn key_set<'s>(alloc: Global, key: HashKey, rows: &[Row<'s>]) -> Result<TupleSet<'s>, SetFault>
+    ensures { IsMade (union [] (keys_of rows.now)) result }
+{
+    let mut keys = TupleSet::new(alloc, key);
+    for row in rows {
+        keys.add(row.key.copied())?;
+    }
+    Ok(keys)
 }
 
 /// Appends a row if the condition holds.

@@ -5,8 +5,8 @@ ghost use Rattle.std.specs.Option.{option_copied};
 ghost use Rattle.std.specs.Str.{bytes_eq};
 ghost use Rattle.net_expr.specs.Worlds.{bound, with_dummy};
 
+use net_base::{Excerpt, Items};
 use net_sets::Member;
-use net_views::{Excerpt, Items};
 use std::alloc::{AllocError, Global};
 use std::marker::Model;
 

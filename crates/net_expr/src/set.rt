@@ -4,16 +4,16 @@ ghost use Rattle.std.specs.Prelude.{◌≡◌, List, Ok};
 ghost use Rattle.net_sets.specs.Limits.{tuples_limit};
 ghost use Rattle.net_sets.specs.Made.{IsMade, IsCrossed};
 ghost use Rattle.net_sets.specs.Sets.{Tuple as Members};
-ghost use Rattle.net_fault.specs.declared.span.Span.{Span as Place};
+ghost use Rattle.net_base.specs.declared.diagnostic.Span.{Span as Place};
 ghost use Rattle.net_tree.specs.Spans as trees;
 ghost use Rattle.net_tree.specs.View.{tree};
 ghost use Rattle.net_expr.specs.Operators as operators;
-ghost use Rattle.net_fault.specs.Outcomes.{Refines, Yields};
+ghost use Rattle.net_base.specs.Outcomes.{Refines, Yields};
 ghost use Rattle.net_expr.specs.Sets as sets;
 
 use crate::fault::reject_tree;
 use crate::value::Value;
-use net_fault::{ErrorCode, Fault};
+use net_base::{ErrorCode, Fault};
 use net_sets::{
     Cow, SetFault, Tuple, TupleSet, cross, difference, intersection, is_within,
     symmetric_difference, union, widest,

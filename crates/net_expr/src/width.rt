@@ -6,20 +6,19 @@ ghost use Rattle.std.specs.Option.{option_copied, option_map};
 ghost use Rattle.net_tree.specs.View.{tree, braces_of, links_of};
 ghost use Rattle.net_expr.specs.Items as items;
 ghost use Rattle.net_tree.specs.Operations.{operation};
-ghost use Rattle.net_fault.specs.Outcomes.{Refines, Yields};
+ghost use Rattle.net_base.specs.Outcomes.{Refines, Yields};
 ghost use Rattle.net_expr.specs.Rows as rows;
 ghost use Rattle.net_expr.specs.Sets.{counted};
 ghost use Rattle.net_expr.specs.Widths as widths;
 
-use crate::inside::Inside;
 use crate::item::{any_in, bare, has_in, links_len, new_dummy};
+use crate::keys::Inside;
 use crate::row::Row;
 use crate::scope::Scope;
 use crate::world::{Entry, Env};
-use net_fault::{ErrorCode, Fault, Span};
+use net_base::{ErrorCode, Excerpt, Fault, Span};
 use net_sets::Member;
 use net_tree::{BinOp, Braces, Expr, Link, sides_of};
-use net_views::Excerpt;
 use std::alloc::{AllocError, Global};
 
 /// The form of items: the dummies in scope, the number of key members, whether all are sets.

@@ -4,9 +4,9 @@ ghost use Rattle.std.specs.Prelude.{◌≡◌, [], ◌∷◌, ◌++◌, None, ta
 ghost use Rattle.std.specs.Option.{option_copied};
 ghost use Rattle.net_expr.specs.Worlds.{entry_of};
 
-use net_sets::{HashKey, IndexedSet, KeyDigest, NameMap, SharedSet, Table};
-use net_tree::Decl;
-use net_views::Excerpt;
+use net_base::Excerpt;
+use net_sets::{HashKey, IndexedSet, NameMap, SharedSet, Table};
+use net_tree::{Braces, Expr, sides_of};
 use std::alloc::{AllocError, Global};
 use std::marker::Model;
 
@@ -18,22 +18,6 @@ pub enum Entry<'s> {
     /// A parameter: the number of its subscripts (`None` if it is not indexed), its index set, and
     /// its values.
     Parameter(Option<u8>, SharedSet<'s>, Table<'s>),
-}
-
-/// Derives the key for maps of the names that declarations declare.
-pub fn name_key(declarations: &[Decl<'_>]) -> HashKey {
-    let mut digest = KeyDigest::new();
-    for declaration in declarations {
-        match declaration {
-            Decl::Set(_, name, _, _) => digest.update_name(&name.text),
-            Decl::Param(_, name, _, _, _) => digest.update_name(&name.text),
-            Decl::Check(_, _, _, _, _) => {}
-            Decl::Node(_, name, _, _, _) => digest.update_name(&name.text),
-            Decl::Arc(_, name, _, _, _) => digest.update_name(&name.text),
-            Decl::Objective(_, name, _, _) => digest.update_name(&name.text),
-        }
-    }
-    digest.finish()
 }
 
 /// The declared sets and parameters, in order.
@@ -52,7 +36,12 @@ impl<'s> Model for World<'s> {
 }
 
 impl<'s> World<'s> {
-    /// Creates a world without declarations. The key has to come from all names that will be declared.
+    /// Returns the key of the run.
+    pub fn key(&self) -> HashKey {
+        self.entries.key()
+    }
+
+    /// Creates a world without declarations. The key has to be that of the run.
     pub fn new(alloc: Global, key: HashKey) -> World<'s>
         ensures { result ≡ [] }
     {
@@ -109,10 +98,42 @@ impl<'w, 's> Env<'w, 's> {
         Env { world, known }
     }
 
+    /// Returns the key of the run.
+    pub fn key(&self) -> HashKey {
+        self.world.key()
+    }
+
     /// Looks up a name.
     pub(crate) fn find(&self, name: &Excerpt<'s>) -> Option<&'w Entry<'s>>
         ensures { option_copied result ≡ entry_of self.now name.now }
     {
         self.world.find_among(self.known, name)
+    }
+}
+
+fn declared<'w, 's>(env: &Env<'w, 's>, expr: &Expr<'s>) -> Option<&'w IndexedSet<'s>> {
+    let Expr::Leaf(leaf) = expr else {
+        return None;
+    };
+    match env.find(&leaf.token().text) {
+        Some(Entry::Set(_, set)) => Some(set),
+        Some(Entry::Parameter(_, _, _)) => None,
+        None => None,
+    }
+}
+
+/// Returns the declared set whose tuples are the keys of `{S}`, `{i in S}` or `{(i,j) in S}`,
+/// judged by the form alone. The result is only a hint: callers that need certainty must compare
+/// the tuples.
+pub fn set_of_braces<'w, 's>(env: &Env<'w, 's>, braces: &Braces<'s>) -> Option<&'w IndexedSet<'s>> {
+    let Braces::Filled(_, series, None, _) = braces else {
+        return None;
+    };
+    if !series.more.as_slice().is_empty() {
+        return None;
+    }
+    match sides_of(&series.first) {
+        Some((_, set)) => declared(env, set),
+        None => declared(env, &series.first),
     }
 }

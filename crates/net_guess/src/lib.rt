@@ -18,7 +18,6 @@ mod pivoting;
 mod places;
 mod preflow;
 mod prices;
-mod pricing;
 mod simplex;
 mod simplex_arc;
 mod starting;

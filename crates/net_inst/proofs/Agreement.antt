@@ -1,7 +1,7 @@
 -- Whichever objective is chosen, the declarations come to the same nodes and arcs.
 use Rattle.std.specs.Prelude.{◌≡◌, ◌+◌, ℕ, suc, Bool, true, false, List, [], ◌∷◌, ◌++◌, length, map, take, nat_lt, Option, None, Some, if◌then◌else◌, Ok}
 use Rattle.std.proofs.Common.{refl, ap, sym, ◌∙◌, subst}
-use Rattle.net_fault.specs.declared.span.Span.{Span}
+use Rattle.net_base.specs.declared.diagnostic.Span.{Span}
 use Rattle.net_lex.specs.declared.token.Token.{Token}
 use Rattle.net_tree.specs.Tree.{Braces, Phrase, Part, Declaration, set, param, check, node, arc, objective}
 use Rattle.net_normal.specs.Limits.{arc_limit}
@@ -10,18 +10,18 @@ use Rattle.net_expr.specs.Worlds.{Name, World}
 use Rattle.net_linear.specs.Forms.{Products}
 use Rattle.net_linear.specs.Forms as forms
 use Rattle.net_inst.specs.declared.arc.Built.{Built}
-use Rattle.net_fault.specs.declared.error_code.ErrorCode.TheVariants.{TooManyArcs}
-use Rattle.net_inst.specs.declared.goal.ChosenObjective.{ChosenObjective}
+use Rattle.net_base.specs.declared.error_code.ErrorCode.TheVariants.{TooManyArcs}
+use Rattle.net_inst.specs.declared.draft.ChosenObjective.{ChosenObjective}
 use Rattle.net_inst.specs.declared.group.Group.{Group}
-use Rattle.net_inst.specs.declared.indexing.Indexing.{Indexing}
-use Rattle.net_inst.specs.Arcs.{BuiltArcs, built, prices_in, next_arc, arcs_at, arcs_by, with_arcs, named_arcs}
+use Rattle.net_expr.specs.declared.indexing.Indexing.{Indexing}
+use Rattle.net_inst.specs.Arcs.{BuiltArcs, built, prices_in, next_arc, arcs_at, arcs_by, with_arcs, named_arcs, arc_env, arc_text}
 use Rattle.net_inst.specs.Drafts.{Drawing, nothing, env, part_form, aimed, passed, is_chosen, with_goal, with_objective, known_more, nodes_more, arcs_more, declare, draw}
 use Rattle.net_inst.specs.Groups.{group_with}
-use Rattle.net_inst.specs.Indexings.{indexing_in}
+use Rattle.net_expr.specs.Indexings.{indexing_in}
 use Rattle.net_inst.specs.Instances.{Network, with_coefficients, network_of, without_goal, finished, end_of, point, network}
 use Rattle.net_inst.specs.Laws.{shape_of, AreOneNetwork}
 use Rattle.net_inst.specs.Nodes.{BuiltNodes, with_nodes}
-use Rattle.net_fault.specs.Outcomes.{Outcome, and_then}
+use Rattle.net_base.specs.Outcomes.{Outcome, and_then}
 use Rattle.net_inst.specs.Rejections.{rejected_name}
 use Rattle.net_inst.specs.Phrases.{Parts, parts_of}
 use Rattle.net_inst.proofs.Zips.{ok_then, ok_is}
@@ -34,7 +34,7 @@ pub record IsNextArc (g : Option ChosenObjective) (ns : BuiltNodes) (w : World) 
   pub arcs : new.arcs ≡ d.arcs ++ arc ∷ []
   pub group : new.group ≡ d.group
 
-pub next_arc_is : (g : Option ChosenObjective) (ns : BuiltNodes) (w : World) (n : Token) (k : Option ℕ) (p : Parts) (ps : List Phrase) (row : Row) (d new : BuiltArcs) → next_arc g ns w n k p ps row d ≡ Ok new → IsNextArc g ns w n k p ps row d new
+pub next_arc_is : (g : Option ChosenObjective) (ns : BuiltNodes) (w : World) (n : Token) (k : Option ℕ) (p : Parts) (ps : List Phrase) (row : Row) (d new : BuiltArcs) → next_arc (arc_env g ns w) (arc_text n p ps) k row d ≡ Ok new → IsNextArc g ns w n k p ps row d new
 next_arc_is g ns w n k p ps row d new e = go (nat_lt (length d.arcs) arc_limit) e
   where
     rest : Built → Outcome BuiltArcs
@@ -60,7 +60,7 @@ abbrev AreAlike : BuiltArcs → BuiltArcs → Type 0
 AreAlike d e = (d.arcs ≡ e.arcs) × (d.group ≡ e.group)
 
 next_alike : (g h : Option ChosenObjective) (ns : BuiltNodes) (w : World) (n : Token) (k : Option ℕ) (p : Parts) (ps : List Phrase) (row : Row) (d e new other : BuiltArcs) → AreAlike d e
-    → next_arc g ns w n k p ps row d ≡ Ok new → next_arc h ns w n k p ps row e ≡ Ok other → AreAlike new other
+    → next_arc (arc_env g ns w) (arc_text n p ps) k row d ≡ Ok new → next_arc (arc_env h ns w) (arc_text n p ps) k row e ≡ Ok other → AreAlike new other
 next_alike g h ns w n k p ps row d e new other same i j =
     let first = next_arc_is g ns w n k p ps row d new i in
     let second = next_arc_is h ns w n k p ps row e other j in
@@ -70,14 +70,14 @@ next_alike g h ns w n k p ps row d e new other same i j =
     )
 
 arcs_alike : (g h : Option ChosenObjective) (ns : BuiltNodes) (w : World) (n : Token) (k : Option ℕ) (p : Parts) (ps : List Phrase) (rows : List Row) (d e new other : BuiltArcs) → AreAlike d e
-    → arcs_at g ns w n k p ps rows d ≡ Ok new → arcs_at h ns w n k p ps rows e ≡ Ok other → AreAlike new other
+    → arcs_at (arc_env g ns w) (arc_text n p ps) k rows d ≡ Ok new → arcs_at (arc_env h ns w) (arc_text n p ps) k rows e ≡ Ok other → AreAlike new other
 arcs_alike g h ns w n k p ps [] d e new other same i j =
     let one = ok_is d new i in
     let two = ok_is e other j in
     (ap (λ (z : BuiltArcs). z.arcs) (sym one) ∙ same.0 ∙ ap (λ (z : BuiltArcs). z.arcs) two, ap (λ (z : BuiltArcs). z.group) (sym one) ∙ same.1 ∙ ap (λ (z : BuiltArcs). z.group) two)
 arcs_alike g h ns w n k p ps (row ∷ rows) d e new other same i j =
-    ok_then (next_arc g ns w n k p ps row d) (arcs_at g ns w n k p ps rows) new i (λ d1 a b.
-    ok_then (next_arc h ns w n k p ps row e) (arcs_at h ns w n k p ps rows) other j (λ e1 c f.
+    ok_then (next_arc (arc_env g ns w) (arc_text n p ps) k row d) (arcs_at (arc_env g ns w) (arc_text n p ps) k rows) new i (λ d1 a b.
+    ok_then (next_arc (arc_env h ns w) (arc_text n p ps) k row e) (arcs_at (arc_env h ns w) (arc_text n p ps) k rows) other j (λ e1 c f.
     arcs_alike g h ns w n k p ps rows d1 e1 new other (next_alike g h ns w n k p ps row d e d1 e1 same a c) b f))
 
 -- the arcs of a declaration, by its parts and keys
@@ -87,25 +87,25 @@ pub record AreArcsBy (g : Option ChosenObjective) (ns : BuiltNodes) (w : World) 
   pub indexing : Indexing
   pub keys : indexing_in w b ≡ Ok indexing
   pub found : BuiltArcs
-  pub are_found : arcs_at g ns w n indexing.count parts ps indexing.rows d ≡ Ok found
+  pub are_found : arcs_at (arc_env g ns w) (arc_text n parts ps) indexing.count indexing.rows d ≡ Ok found
   pub is_named : named_arcs n.text (length d.arcs) indexing found ≡ new
 
-pub with_arcs_is : (g : Option ChosenObjective) (ns : BuiltNodes) (w : World) (n : Token) (b : Option Braces) (ps : List Phrase) (d new : BuiltArcs) → with_arcs g ns w n b ps d ≡ Ok new → AreArcsBy g ns w n b ps d new
+pub with_arcs_is : (g : Option ChosenObjective) (ns : BuiltNodes) (w : World) (n : Token) (b : Option Braces) (ps : List Phrase) (d new : BuiltArcs) → with_arcs (arc_env g ns w) n b ps d ≡ Ok new → AreArcsBy g ns w n b ps d new
 with_arcs_is g ns w n b ps d new e =
-    ok_then (parts_of n ps) (λ p. and_then (indexing_in w b) (arcs_by g ns w n ps d p)) new e (λ p h i.
-    ok_then (indexing_in w b) (arcs_by g ns w n ps d p) new i (λ x j k.
-    ok_then (arcs_at g ns w n x.count p ps x.rows d) (λ found. Ok (named_arcs n.text (length d.arcs) x found)) new k (λ found l m.
+    ok_then (parts_of n ps) (λ p. and_then (indexing_in w b) (arcs_by (arc_env g ns w) (arc_text n p ps) d)) new e (λ p h i.
+    ok_then (indexing_in w b) (arcs_by (arc_env g ns w) (arc_text n p ps) d) new i (λ x j k.
+    ok_then (arcs_at (arc_env g ns w) (arc_text n p ps) x.count x.rows d) (λ found. Ok (named_arcs n.text (length d.arcs) x found)) new k (λ found l m.
     record { parts = p; says = h; indexing = x; keys = j; found = found; are_found = l; is_named = ok_is (named_arcs n.text (length d.arcs) x found) new m })))
 
 with_arcs_alike : (g h : Option ChosenObjective) (ns : BuiltNodes) (w : World) (n : Token) (b : Option Braces) (ps : List Phrase) (d e new other : BuiltArcs) → AreAlike d e
-    → with_arcs g ns w n b ps d ≡ Ok new → with_arcs h ns w n b ps e ≡ Ok other → AreAlike new other
+    → with_arcs (arc_env g ns w) n b ps d ≡ Ok new → with_arcs (arc_env h ns w) n b ps e ≡ Ok other → AreAlike new other
 with_arcs_alike g h ns w n b ps d e new other same i j =
     let one = with_arcs_is g ns w n b ps d new i in
     let two = with_arcs_is h ns w n b ps e other j in
     let parts : two.parts ≡ one.parts = ok_is two.parts one.parts (sym two.says ∙ one.says) in
     let keys : two.indexing ≡ one.indexing = ok_is two.indexing one.indexing (sym two.keys ∙ one.keys) in
-    let copied : arcs_at h ns w n one.indexing.count one.parts ps one.indexing.rows e ≡ Ok two.found =
-    subst (λ (x : Indexing). arcs_at h ns w n x.count one.parts ps x.rows e ≡ Ok two.found) keys (subst (λ (p : Parts). arcs_at h ns w n two.indexing.count p ps two.indexing.rows e ≡ Ok two.found) parts two.are_found) in
+    let copied : arcs_at (arc_env h ns w) (arc_text n one.parts ps) one.indexing.count one.indexing.rows e ≡ Ok two.found =
+    subst (λ (x : Indexing). arcs_at (arc_env h ns w) (arc_text n one.parts ps) x.count x.rows e ≡ Ok two.found) keys (subst (λ (p : Parts). arcs_at (arc_env h ns w) (arc_text n p ps) two.indexing.count two.indexing.rows e ≡ Ok two.found) parts two.are_found) in
     let found = arcs_alike g h ns w n one.indexing.count one.parts ps one.indexing.rows d e one.found two.found same one.are_found copied in
     let counted : length d.arcs ≡ length e.arcs = ap (λ (xs : List Built). length xs) same.0 in (
       sym (ap (λ (z : BuiltArcs). z.arcs) one.is_named) ∙ found.0 ∙ ap (λ (z : BuiltArcs). z.arcs) two.is_named,
@@ -160,10 +160,10 @@ declared_one a b w (node t n q c z) d e new other h i j =
     joined new (nodes_more d ns) other (same_drawing new (nodes_more d ns) (sym (ok_is (nodes_more d ns) new l)))
     (joined (nodes_more d ns) (nodes_more e ms) other (record { known = h.known; nodes = one; arcs = h.arcs }) (same_drawing (nodes_more e ms) other (ok_is (nodes_more e ms) other m)))))
 declared_one a b w (arc t n q ps z) d e new other h i j =
-    ok_then (with_arcs d.goal d.nodes (env w d) n q ps d.arcs) (λ xs. Ok (arcs_more d xs)) new i (λ xs k l.
-    ok_then (with_arcs e.goal e.nodes (env w e) n q ps e.arcs) (λ xs. Ok (arcs_more e xs)) other j (λ ys f m.
-    let copied : with_arcs e.goal d.nodes (env w d) n q ps e.arcs ≡ Ok ys =
-    ap (λ (y : ℕ). with_arcs e.goal d.nodes (take y w) n q ps e.arcs) h.known ∙ ap (λ (y : BuiltNodes). with_arcs e.goal y (take e.known w) n q ps e.arcs) h.nodes ∙ f in
+    ok_then (with_arcs (arc_env d.goal d.nodes (env w d)) n q ps d.arcs) (λ xs. Ok (arcs_more d xs)) new i (λ xs k l.
+    ok_then (with_arcs (arc_env e.goal e.nodes (env w e)) n q ps e.arcs) (λ xs. Ok (arcs_more e xs)) other j (λ ys f m.
+    let copied : with_arcs (arc_env e.goal d.nodes (env w d)) n q ps e.arcs ≡ Ok ys =
+    ap (λ (y : ℕ). with_arcs (arc_env e.goal d.nodes (take y w)) n q ps e.arcs) h.known ∙ ap (λ (y : BuiltNodes). with_arcs (arc_env e.goal y (take e.known w)) n q ps e.arcs) h.nodes ∙ f in
     let one : AreAlike xs ys = with_arcs_alike d.goal e.goal d.nodes (env w d) n q ps d.arcs e.arcs xs ys h.arcs k copied in
     joined new (arcs_more d xs) other (same_drawing new (arcs_more d xs) (sym (ok_is (arcs_more d xs) new l)))
     (joined (arcs_more d xs) (arcs_more e ys) other (record { known = h.known; nodes = h.nodes; arcs = one }) (same_drawing (arcs_more e ys) other (ok_is (arcs_more e ys) other m)))))

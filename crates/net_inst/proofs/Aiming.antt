@@ -10,9 +10,9 @@ use Rattle.net_tree.specs.Tree.{Declaration, set, param, check, node, arc, objec
 use Rattle.net_expr.specs.SetValues.{HasSets}
 use Rattle.net_expr.specs.Worlds.{Name, World}
 use Rattle.net_linear.specs.Forms.{Linear, form_at, all_apart}
-use Rattle.net_inst.specs.declared.goal.ChosenObjective.{ChosenObjective}
+use Rattle.net_inst.specs.declared.draft.ChosenObjective.{ChosenObjective}
 use Rattle.net_inst.specs.declared.names.Declared.{Declared}
-use Rattle.net_inst.specs.Arcs.{with_arcs}
+use Rattle.net_inst.specs.Arcs.{with_arcs, arc_env}
 use Rattle.net_inst.specs.AsWritten.{Arc, arcs_of, nodes, arcs, known_after, in_order, arc_declared, same_label, Assignment, number_on, numbers_on}
 use Rattle.net_inst.specs.Drafts.{Drawing, nothing, env, sense_of, part_form, aimed, passed, is_chosen, with_goal, known_more, nodes_more, arcs_more, declare, draw}
 use Rattle.net_inst.specs.Instances.{Network, network}
@@ -119,7 +119,7 @@ step wanted w all m (node t n b c z) d next new os rest h whole e k =
     let same = ok_is (nodes_more d ns) next j in
     same_aim all (chosen wanted os) rest d next new (ap (λ (y : Drawing). y.goal) (sym same)) (ap (λ (y : Drawing). y.arcs.form) (sym same)) k)
 step wanted w all m (arc t n b ps z) d next new os rest h whole e k =
-    ok_then (with_arcs d.goal d.nodes (env w d) n b ps d.arcs) (λ xs. Ok (arcs_more d xs)) next e (λ xs i j.
+    ok_then (with_arcs (arc_env d.goal d.nodes (env w d)) n b ps d.arcs) (λ xs. Ok (arcs_more d xs)) next e (λ xs i j.
     let same = ok_is (arcs_more d xs) next j in
     let adds = arcs_add all d.goal d.nodes (env w d) n b ps d.arcs xs m.arcs rest (zip_long (IsBuiltAs (node_labels m.nodes)) m.arcs d.arcs.arcs h.arcs.built) whole i in
     arcs_aim all (chosen wanted os) (arcs_of (env w d) (arc t n b ps z)) rest d next new (ap (λ (y : Drawing). y.goal) (sym same))

@@ -1,12 +1,12 @@
 -- In the forms of objectives no arc stands twice.
 use Rattle.std.specs.Prelude.{◌≡◌, ℕ, Bool, true, false, not, ◌&&◌, ◌||◌, List, [], ◌∷◌, Option, None, Some, if◌then◌else◌, Ok, Err, ℤ, pos, int_div, int_rem}
 use Rattle.std.proofs.Common.{refl, ap, sym, ◌∙◌, subst}
-use Rattle.net_fault.specs.declared.span.Span.{Span}
+use Rattle.net_base.specs.declared.diagnostic.Span.{Span}
 use Rattle.net_sets.specs.Sets.{Tuple}
 use Rattle.net_tree.specs.Spans.{span_of}
 use Rattle.net_tree.specs.Tree.{Tree, Links, Part, leaf, indexed, parens, tuple, negated, braced, signed, reduced, chain, choice, net, none, link, absent, part}
 use Rattle.net_expr.specs.declared.row.Row.{Row}
-use Rattle.net_fault.specs.declared.error_code.ErrorCode.TheVariants.{ValueTooLarge, NotLinear}
+use Rattle.net_base.specs.declared.error_code.ErrorCode.TheVariants.{ValueTooLarge, NotLinear}
 use Rattle.net_expr.specs.Limits.{is_small}
 use Rattle.net_expr.specs.Numbers.{divides}
 use Rattle.net_tree.specs.Operations.{reduction, is_minus, operation}
@@ -17,7 +17,7 @@ use Rattle.net_tree.specs.declared.operator.BinOp.TheVariants.{Plus, Minus, Time
 use Rattle.net_linear.specs.Arcs.{Arcs, declared, is_arc, arc_at}
 use Rattle.net_linear.specs.Forms.{Linear, Term, all_apart, just, one_arc, combined, is_number, is_sized, within, sized, minus_one, divided, joined, join, turn, gathered, gathered_over, total, as_form, or_too_large, priced}
 use Rattle.net_linear.specs.Objectives.{names_arc, any_arc, braces_arc, is_sum, is_linear, key_of, condition, plain_term, mixed, linear, arc_term, objective, otherwise, chained, objective_form}
-use Rattle.net_fault.specs.Outcomes.{Outcome, and_then, rejected}
+use Rattle.net_base.specs.Outcomes.{Outcome, and_then, rejected}
 use Rattle.net_linear.specs.Amounts.{number_or_none}
 use Rattle.net_linear.proofs.Coefficients.{apart_with}
 use Rattle.net_linear.proofs.Ranges.{ok_then}

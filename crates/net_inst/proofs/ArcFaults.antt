@@ -1,7 +1,7 @@
 -- What arcs of declarations are refused for stands at the name or at one of the phrases.
 use Rattle.std.specs.Prelude.{ℕ, Bool, true, false, List, [], ◌∷◌, length, nat_lt, Option, None, Some, if◌then◌else◌, ℤ, int_lt, ⊤}
-use Rattle.net_fault.specs.declared.span.Span.{Span}
-use Rattle.net_fault.specs.declared.language.Language.TheVariants.{Model}
+use Rattle.net_base.specs.declared.diagnostic.Span.{Span}
+use Rattle.net_base.specs.declared.diagnostic.Language.TheVariants.{Model}
 use Rattle.net_lex.specs.declared.token.Token.{Token}
 use Rattle.net_tree.specs.Role.{role_of}
 use Rattle.net_tree.specs.Spans.{span_of}
@@ -9,17 +9,18 @@ use Rattle.net_tree.specs.Tree.{Tree, Braces, Body, plain, valued, priced, Phras
 use Rattle.net_expr.specs.declared.row.Row.{Row}
 use Rattle.net_expr.specs.Worlds.{World, Scope}
 use Rattle.net_linear.specs.Forms as forms
-use Rattle.net_inst.specs.declared.phrases.ArcWord.{ArcWord}
-use Rattle.net_inst.specs.declared.phrases.ArcWord.TheVariants.{AtLeast, AtMost, From, To}
-use Rattle.net_inst.specs.Arcs.{BuiltArcs, end_at, with_ends, built, is_goal, priced_by, price_in, prices_in, next_arc, arcs_at, arcs_by, with_arcs}
+use Rattle.net_tree.specs.declared.role.Role.{Role}
+use Rattle.net_tree.specs.Phrases.{is_at_least, is_at_most, is_from, is_to}
+use Rattle.net_tree.specs.PhraseValues.{expression_of, phrase_value}
+use Rattle.net_inst.specs.Arcs.{BuiltArcs, end_at, with_ends, built, is_goal, priced_by, price_in, prices_in, next_arc, arcs_at, arcs_by, with_arcs, arc_env, arc_text}
 use Rattle.net_inst.specs.Drafts.{Drawing}
-use Rattle.net_inst.specs.Indexings.{indexing_in}
+use Rattle.net_expr.specs.Indexings.{indexing_in}
 use Rattle.net_inst.specs.Nodes.{BuiltNodes, node_named}
 use Rattle.net_inst.specs.Numbers.{number}
-use Rattle.net_inst.specs.Phrases.{is_word, value_in, phrase_expression, Parts, parts_from, parts_of}
-use Rattle.net_fault.specs.Places.{Places, Finds}
+use Rattle.net_inst.specs.Phrases.{Parts, parts_from, parts_of}
+use Rattle.net_base.specs.Places.{Places, Finds}
 use Rattle.net_tree.specs.Standing.{Stands, IndexingHasSpans, BodyHasSpans, PhrasesHaveSpans}
-use Rattle.net_fault.proofs.Found.{Gives, finds_then, finds_if, finds_after}
+use Rattle.net_base.proofs.Found.{Gives, finds_then, finds_if, finds_after}
 use Rattle.net_linear.proofs.FormFaults.{finds_priced}
 use Rattle.net_inst.proofs.NodeFaults.{finds_indexing_in, finds_number, finds_node_named}
 use Rattle.net_expr.proofs.ValueFaults.{whole_stands}
@@ -39,14 +40,14 @@ module _ (P : Span → Type 0) where
   said_stands o true u h k = h
   said_stands o false u h k = k
 
-  value_in_stands : (b : Body) → BodyHasSpans P b → SaidStands P (value_in b)
+  value_in_stands : (b : Body) → BodyHasSpans P b → SaidStands P (expression_of b)
   value_in_stands plain h = tt
   value_in_stands (valued x) h = h
   value_in_stands (priced n x) h = tt
 
-  phrase_stands : (a : ArcWord) (ps : List Phrase) → PhrasesHaveSpans P ps → SaidStands P (phrase_expression a ps)
-  phrase_stands a [] h = tt
-  phrase_stands a (p ∷ ps) (h, j, k) = said_stands (value_in p.body) (is_word a (role_of p.word)) (phrase_expression a ps) (value_in_stands p.body j) (phrase_stands a ps k)
+  phrase_stands : (test : Role → Bool) (ps : List Phrase) → PhrasesHaveSpans P ps → SaidStands P (phrase_value test ps)
+  phrase_stands test [] h = tt
+  phrase_stands test (p ∷ ps) (h, j, k) = said_stands (expression_of p.body) (test (role_of p.word)) (phrase_value test ps) (value_in_stands p.body j) (phrase_stands test ps k)
 
 module _ (P : Places) (n : Token) (h : P Model n.span) where
   gives_parts_from : (l u t e : Option Tree) → SaidStands (P Model) l → SaidStands (P Model) u → SaidStands (P Model) t → SaidStands (P Model) e
@@ -59,8 +60,8 @@ module _ (P : Places) (n : Token) (h : P Model n.span) where
 
   gives_parts_of : (ps : List Phrase) → PhrasesHaveSpans (P Model) ps → Gives P (PartsStand (P Model)) (parts_of n ps)
   gives_parts_of ps k =
-      gives_parts_from (phrase_expression AtLeast ps) (phrase_expression AtMost ps) (phrase_expression From ps) (phrase_expression To ps) (phrase_stands (P Model) AtLeast ps k) (phrase_stands (P Model) AtMost ps k)
-      (phrase_stands (P Model) From ps k) (phrase_stands (P Model) To ps k)
+      gives_parts_from (phrase_value is_at_least ps) (phrase_value is_at_most ps) (phrase_value is_from ps) (phrase_value is_to ps) (phrase_stands (P Model) is_at_least ps k) (phrase_stands (P Model) is_at_most ps k)
+      (phrase_stands (P Model) is_from ps k) (phrase_stands (P Model) is_to ps k)
 
 module _ (P : Places) (w : World) where
   finds_end_at : (ns : BuiltNodes) (s : Scope) (t : Option Tree) → SaidStands (P Model) t → Finds P (end_at ns w s t)
@@ -90,21 +91,21 @@ module _ (P : Places) (w : World) where
       finds_then P (price_in g w s a p.body f) (prices_in g w s a ps) (finds_price_in g s a p.body j f) (finds_prices_in g s a ps k)
 
 module _ (P : Places) (w : World) (e : Drawing) (n : Token) (h : P Model n.span) (ps : List Phrase) (i : PhrasesHaveSpans (P Model) ps) where
-  finds_next_arc : (k : Option ℕ) (p : Parts) → PartsStand (P Model) p → (row : Row) (d : BuiltArcs) → Finds P (next_arc e.goal e.nodes w n k p ps row d)
+  finds_next_arc : (k : Option ℕ) (p : Parts) → PartsStand (P Model) p → (row : Row) (d : BuiltArcs) → Finds P (next_arc (arc_env e.goal e.nodes w) (arc_text n p ps) k row d)
   finds_next_arc k p j row d =
       finds_if P (nat_lt (length d.arcs) _) _ _
       (finds_then P (built e.nodes w n k p row) _ (finds_built P w e.nodes n h k p j row) (λ x.
       finds_then P (prices_in e.goal w row.scope (length d.arcs) ps d.form) _ (finds_prices_in P w e.goal row.scope (length d.arcs) ps i d.form) (λ f. tt))) h
 
-  finds_arcs_at : (k : Option ℕ) (p : Parts) → PartsStand (P Model) p → (rows : List Row) (d : BuiltArcs) → Finds P (arcs_at e.goal e.nodes w n k p ps rows d)
+  finds_arcs_at : (k : Option ℕ) (p : Parts) → PartsStand (P Model) p → (rows : List Row) (d : BuiltArcs) → Finds P (arcs_at (arc_env e.goal e.nodes w) (arc_text n p ps) k rows d)
   finds_arcs_at k p j [] d = tt
   finds_arcs_at k p j (row ∷ rows) d =
-      finds_then P (next_arc e.goal e.nodes w n k p ps row d) (arcs_at e.goal e.nodes w n k p ps rows) (finds_next_arc k p j row d) (finds_arcs_at k p j rows)
+      finds_then P (next_arc (arc_env e.goal e.nodes w) (arc_text n p ps) k row d) (arcs_at (arc_env e.goal e.nodes w) (arc_text n p ps) k rows) (finds_next_arc k p j row d) (finds_arcs_at k p j rows)
 
-  finds_arcs_by : (d : BuiltArcs) (p : Parts) → PartsStand (P Model) p → (x : _) → Finds P (arcs_by e.goal e.nodes w n ps d p x)
-  finds_arcs_by d p j x = finds_then P (arcs_at e.goal e.nodes w n x.count p ps x.rows d) _ (finds_arcs_at x.count p j x.rows d) (λ found. tt)
+  finds_arcs_by : (d : BuiltArcs) (p : Parts) → PartsStand (P Model) p → (x : _) → Finds P (arcs_by (arc_env e.goal e.nodes w) (arc_text n p ps) d x)
+  finds_arcs_by d p j x = finds_then P (arcs_at (arc_env e.goal e.nodes w) (arc_text n p ps) x.count x.rows d) _ (finds_arcs_at x.count p j x.rows d) (λ found. tt)
 
-  pub finds_with_arcs : (b : Option Braces) → IndexingHasSpans (P Model) b → (d : BuiltArcs) → Finds P (with_arcs e.goal e.nodes w n b ps d)
+  pub finds_with_arcs : (b : Option Braces) → IndexingHasSpans (P Model) b → (d : BuiltArcs) → Finds P (with_arcs (arc_env e.goal e.nodes w) n b ps d)
   finds_with_arcs b k d =
       finds_after P (PartsStand (P Model)) (parts_of n ps) _ (gives_parts_of P n h ps i) (λ p j.
-      finds_then P (indexing_in w b) (arcs_by e.goal e.nodes w n ps d p) (finds_indexing_in P w b k) (finds_arcs_by d p j))
+      finds_then P (indexing_in w b) (arcs_by (arc_env e.goal e.nodes w) (arc_text n p ps) d) (finds_indexing_in P w b k) (finds_arcs_by d p j))

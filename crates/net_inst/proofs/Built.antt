@@ -14,18 +14,18 @@ use Rattle.net_expr.specs.Worlds.{World, reference}
 use Rattle.net_linear.specs.declared.condition.Sides.{Sides}
 use Rattle.net_linear.specs.Conditions.{range_in}
 use Rattle.net_inst.specs.declared.arc.Built.{Built}
-use Rattle.net_fault.specs.declared.error_code.ErrorCode.TheVariants.{TooManyNodes}
-use Rattle.net_inst.specs.declared.goal.ChosenObjective.{ChosenObjective}
+use Rattle.net_base.specs.declared.error_code.ErrorCode.TheVariants.{TooManyNodes}
+use Rattle.net_inst.specs.declared.draft.ChosenObjective.{ChosenObjective}
 use Rattle.net_inst.specs.declared.group.Group.{Group}
-use Rattle.net_inst.specs.declared.indexing.Indexing.{Indexing}
+use Rattle.net_expr.specs.declared.indexing.Indexing.{Indexing}
 use Rattle.net_inst.specs.declared.names.Declared.{Declared}
-use Rattle.net_inst.specs.Arcs.{BuiltArcs, built, arcs_at, next_arc, with_arcs, named_arcs}
+use Rattle.net_inst.specs.Arcs.{BuiltArcs, built, arcs_at, next_arc, with_arcs, named_arcs, arc_env, arc_text}
 use Rattle.net_inst.specs.AsWritten.{Label, Node, Arc, rows_of, label_at, node_at_row, arc_at_row, arcs_with, same_label, from_end, to_end}
 use Rattle.net_inst.specs.Groups.{group_with}
-use Rattle.net_inst.specs.Indexings.{indexing_in}
+use Rattle.net_expr.specs.Indexings.{indexing_in}
 use Rattle.net_inst.specs.Laws.{IsPlaceOf}
 use Rattle.net_inst.specs.Nodes.{BuiltNodes, of_node, next_range, ranges_at, nodes_by, with_nodes, node_sides}
-use Rattle.net_fault.specs.Outcomes.{and_then, Outcome}
+use Rattle.net_base.specs.Outcomes.{and_then, Outcome}
 use Rattle.net_inst.specs.Rejections.{rejected_name}
 use Rattle.net_inst.specs.Phrases.{Parts, parts_of}
 use Rattle.net_inst.proofs.Agreement.{next_arc_is, AreArcsBy, with_arcs_is}
@@ -147,12 +147,12 @@ one_arc ns names dn h w n b k p ps row x e =
     }
 
 arcs_are : (ns : List Node) (names : List Declared) (dn : BuiltNodes) → AreNodes ns names dn → (g : Option ChosenObjective) (w : World) (n : Token) (b : Option Braces) (k : Option ℕ) (p : Parts) (ps : List Phrase) (rows : List Row) (d new : BuiltArcs)
-    → arcs_at g dn w n k p ps rows d ≡ Ok new → AreMoreArcs (node_labels ns) (map (arc_at_row w n b ps p) rows) d new
+    → arcs_at (arc_env g dn w) (arc_text n p ps) k rows d ≡ Ok new → AreMoreArcs (node_labels ns) (map (arc_at_row w n b ps p) rows) d new
 arcs_are ns names dn h g w n b k p ps [] d new e =
     let same = ok_is d new e in
     record { more = []; whole = ap (λ (z : BuiltArcs). z.arcs) (sym same) ∙ sym (append-nil d.arcs); built = tt; group = ap (λ (z : BuiltArcs). z.group) (sym same) }
 arcs_are ns names dn h g w n b k p ps (row ∷ rows) d new e =
-    ok_then (next_arc g dn w n k p ps row d) (arcs_at g dn w n k p ps rows) new e (λ next i j.
+    ok_then (next_arc (arc_env g dn w) (arc_text n p ps) k row d) (arcs_at (arc_env g dn w) (arc_text n p ps) k rows) new e (λ next i j.
     let one = next_arc_is g dn w n k p ps row d next i in
     let rest = arcs_are ns names dn h g w n b k p ps rows next new j in
     record {
@@ -163,7 +163,7 @@ arcs_are ns names dn h g w n b k p ps (row ∷ rows) d new e =
     })
 
 pub arcs_more_are : (ns : List Node) (node_names : List Declared) (dn : BuiltNodes) → AreNodes ns node_names dn → (g : Option ChosenObjective) (w : World) (n : Token) (b : Option Braces) (ps : List Phrase) (all : List Arc) (names : List Declared) (d new : BuiltArcs)
-    → AreArcs (node_labels ns) all names d → with_arcs g dn w n b ps d ≡ Ok new → AreArcs (node_labels ns) (all ++ arcs_with w n b ps (parts_of n ps)) (names ++ (record { name = n.text; indexed = is_some b }) ∷ []) new
+    → AreArcs (node_labels ns) all names d → with_arcs (arc_env g dn w) n b ps d ≡ Ok new → AreArcs (node_labels ns) (all ++ arcs_with w n b ps (parts_of n ps)) (names ++ (record { name = n.text; indexed = is_some b }) ∷ []) new
 arcs_more_are ns node_names dn hn g w n b ps all names d new h e =
     subst (AreArcs (node_labels ns) (all ++ arcs_with w n b ps (parts_of n ps)) more_names) by.is_named
     (subst (λ (xs : List Arc). AreArcs (node_labels ns) (all ++ xs) more_names (named_arcs n.text (length d.arcs) by.indexing by.found)) (sym written)

@@ -6,7 +6,7 @@ use Rattle.std.proofs.Common.{refl, sym, subst, arith, length-append}
 use Rattle.std.proofs.lemmas.Bool.Decides.{nat_tests}
 use Rattle.std.proofs.lemmas.Int.{ints}
 use Rattle.std.proofs.lemmas.List.Elements.{All-nil, All-push, All-weaker, recursion_from_All, All-from_recursion}
-use Rattle.net_fault.specs.declared.span.Span.{Span}
+use Rattle.net_base.specs.declared.diagnostic.Span.{Span}
 use Rattle.net_lex.specs.declared.token.Token.{Token}
 use Rattle.net_sets.specs.declared.member.Member.{Member}
 use Rattle.net_sets.specs.declared.member.Member.TheVariants.{Number, Name as Text}
@@ -15,36 +15,35 @@ use Rattle.net_tree.specs.Spans.{span_of}
 use Rattle.net_tree.specs.Tree.{Tree, Links, Braces, Condition, Phrase, Declaration, set, param, check, node, arc, objective}
 use Rattle.net_normal.specs.declared.instance.InstArc.{InstArc}
 use Rattle.net_normal.specs.Limits.{IsArcOf, arc_limit, node_limit}
-use Rattle.net_fault.specs.declared.detail.Detail.{Detail}
-use Rattle.net_fault.specs.declared.error_code.ErrorCode.TheVariants.{Arity, ValueTooLarge, NoSuchNode, ArcCrossed, TooManyArcs, TooManyNodes}
+use Rattle.net_base.specs.declared.diagnostic.Detail.{Detail}
+use Rattle.net_base.specs.declared.error_code.ErrorCode.TheVariants.{Arity, ValueTooLarge, NoSuchNode, ArcCrossed, TooManyArcs, TooManyNodes}
 use Rattle.net_expr.specs.declared.row.Row.{Row}
 use Rattle.net_expr.specs.Limits.{is_small}
 use Rattle.net_expr.specs.Operators.{member}
 use Rattle.net_expr.specs.Values.{value}
 use Rattle.net_expr.specs.Worlds.{Name, World, Scope, key_count, reference}
-use Rattle.net_linear.specs.declared.arc.ArcKeys.{ArcKeys}
+use Rattle.net_linear.specs.declared.key_numbers.KeyNumbers.{KeyNumbers}
 use Rattle.net_linear.specs.declared.condition.Sides.{Sides}
-use Rattle.net_fault.specs.declared.error_code.ErrorCode.TheVariants as error_codes
 use Rattle.net_linear.specs.Arcs.{declared}
-use Rattle.net_linear.specs.Conditions.{range_in}
 use Rattle.net_linear.specs.Forms.{Products, Linear}
 use Rattle.net_linear.specs.Objectives.{key_of}
 use Rattle.net_linear.proofs.FormSizes.{is_sized_number}
 use Rattle.net_inst.specs.declared.arc.Built.{Built}
-use Rattle.net_inst.specs.declared.goal.ChosenObjective.{ChosenObjective}
-use Rattle.net_inst.specs.declared.indexing.Indexing.{Indexing}
-use Rattle.net_inst.specs.declared.phrases.ArcWord.TheVariants.{AtLeast, AtMost, From, To}
-use Rattle.net_inst.specs.Arcs.{BuiltArcs, end_at, with_ends, built, prices_in, next_arc, arcs_at, arcs_by, named_arcs, with_arcs}
+use Rattle.net_inst.specs.declared.draft.ChosenObjective.{ChosenObjective}
+use Rattle.net_expr.specs.declared.indexing.Indexing.{Indexing}
+use Rattle.net_tree.specs.Phrases.{is_at_least, is_at_most, is_from, is_to}
+use Rattle.net_tree.specs.PhraseValues.{phrase_value}
+use Rattle.net_inst.specs.Arcs.{BuiltArcs, end_at, with_ends, built, prices_in, next_arc, arcs_at, arcs_by, named_arcs, with_arcs, arc_env, arc_text}
 use Rattle.net_inst.specs.Drafts.{Drawing, nothing, env, is_chosen, part_form, passed, aimed, with_goal, known_more, nodes_more, arcs_more, declare, draw}
 use Rattle.net_inst.specs.Fitting.{IsBuiltOf, IsPriced}
 use Rattle.net_inst.specs.Groups.{group_with}
-use Rattle.net_inst.specs.Indexings.{indexing_in}
+use Rattle.net_expr.specs.Indexings.{indexing_in}
 use Rattle.net_inst.specs.Instances.{with_coefficients}
 use Rattle.net_inst.specs.Nodes.{BuiltNodes, next_range, ranges_at, nodes_by, with_nodes, index_within, numbered, node_at, name_in, node_of, node_by, node_named, node_sides}
 use Rattle.net_inst.specs.Numbers.{number_in, number}
-use Rattle.net_fault.specs.Outcomes.{Outcome, and_then, rejected_of, rejected}
+use Rattle.net_base.specs.Outcomes.{Outcome, and_then, rejected_of, rejected}
 use Rattle.net_inst.specs.Rejections.{rejected_name}
-use Rattle.net_inst.specs.Phrases.{Parts, phrase_expression, parts_from, parts_of}
+use Rattle.net_inst.specs.Phrases.{Parts, parts_from, parts_of}
 
 -- where the second step comes out, the first does
 both : {A B : Type 0} (o : Outcome A) (f : A → Outcome B) (b : B) (C : Type 0) → and_then o f ≡ Ok b → ((a : A) → o ≡ Ok a → f a ≡ Ok b → C) → C
@@ -79,7 +78,7 @@ numbered_below : (count : ℕ) (at : Span) (d : Detail) (first : ℕ) (p : Optio
 numbered_below count at d first None n h = cc
 numbered_below count at d first (Some p) n h = among_below count at d (first + p) n h
 
-node_at_below : (count : ℕ) (at : Span) (name : Name) (k : Option ArcKeys) (key : Tuple) (n : ℕ) → node_at count at name k key ≡ Ok n → n < count
+node_at_below : (count : ℕ) (at : Span) (name : Name) (k : Option KeyNumbers) (key : Tuple) (n : ℕ) → node_at count at name k key ≡ Ok n → n < count
 node_at_below count at name None key n h = cc
 node_at_below count at name (Some k) key n h = step (nat_eq (length key) (key_count k.keys)) h
   where
@@ -111,7 +110,7 @@ end_fits ns w s (Some t) v h =
     there m l n e = let same : m ≡ n = cc in omega (arith, l, same)
 
 has_end : (n : Token) (ps : List Phrase) (p : Parts) → parts_of n ps ≡ Ok p → (is_some p.tail || is_some p.head) ≡ true
-has_end n ps p h = from (phrase_expression AtLeast ps) (phrase_expression AtMost ps) (phrase_expression From ps) (phrase_expression To ps) h
+has_end n ps p h = from (phrase_value is_at_least ps) (phrase_value is_at_most ps) (phrase_value is_from ps) (phrase_value is_to ps) h
   where
     from : (l u t e : Option Tree) → parts_from n l u t e ≡ Ok p → (is_some p.tail || is_some p.head) ≡ true
     from None u t e h = cc
@@ -149,7 +148,7 @@ built_fits ns w n k p row x e h =
 
 -- arcs, key by key
 next_fits : (g : Option ChosenObjective) (ns : BuiltNodes) (w : World) (n : Token) (k : Option ℕ) (p : Parts) (ps : List Phrase) (row : Row) (d new : BuiltArcs) → (is_some p.tail || is_some p.head) ≡ true
-    → All (IsBuiltOf (length ns.ranges)) d.arcs → next_arc g ns w n k p ps row d ≡ Ok new → All (IsBuiltOf (length ns.ranges)) new.arcs
+    → All (IsBuiltOf (length ns.ranges)) d.arcs → next_arc (arc_env g ns w) (arc_text n p ps) k row d ≡ Ok new → All (IsBuiltOf (length ns.ranges)) new.arcs
 next_fits g ns w n k p ps row d new e all h = step (nat_lt (length d.arcs) arc_limit) h
   where
     more : Built → Linear → BuiltArcs
@@ -163,18 +162,18 @@ next_fits g ns w n k p ps row d new e all h = step (nat_lt (length d.arcs) arc_l
     step false h = cc
 
 rows_fit : (g : Option ChosenObjective) (ns : BuiltNodes) (w : World) (n : Token) (k : Option ℕ) (p : Parts) (ps : List Phrase) (rows : List Row) (d new : BuiltArcs) → (is_some p.tail || is_some p.head) ≡ true
-    → All (IsBuiltOf (length ns.ranges)) d.arcs → arcs_at g ns w n k p ps rows d ≡ Ok new → All (IsBuiltOf (length ns.ranges)) new.arcs
+    → All (IsBuiltOf (length ns.ranges)) d.arcs → arcs_at (arc_env g ns w) (arc_text n p ps) k rows d ≡ Ok new → All (IsBuiltOf (length ns.ranges)) new.arcs
 rows_fit g ns w n k p ps [] d new e all h = same_out (λ q. All (IsBuiltOf (length ns.ranges)) q.arcs) d new (Ok d) refl h all
 rows_fit g ns w n k p ps (row ∷ rows) d new e all h =
-    both (next_arc g ns w n k p ps row d) (arcs_at g ns w n k p ps rows) new (All (IsBuiltOf (length ns.ranges)) new.arcs) h
+    both (next_arc (arc_env g ns w) (arc_text n p ps) k row d) (arcs_at (arc_env g ns w) (arc_text n p ps) k rows) new (All (IsBuiltOf (length ns.ranges)) new.arcs) h
     (λ m em km. rows_fit g ns w n k p ps rows m new e (next_fits g ns w n k p ps row d m e all em) km)
 
 arcs_fit : (g : Option ChosenObjective) (ns : BuiltNodes) (w : World) (n : Token) (b : Option Braces) (ps : List Phrase) (d new : BuiltArcs) → All (IsBuiltOf (length ns.ranges)) d.arcs
-    → with_arcs g ns w n b ps d ≡ Ok new → All (IsBuiltOf (length ns.ranges)) new.arcs
+    → with_arcs (arc_env g ns w) n b ps d ≡ Ok new → All (IsBuiltOf (length ns.ranges)) new.arcs
 arcs_fit g ns w n b ps d new all h =
-    both (parts_of n ps) (λ p. and_then (indexing_in w b) (arcs_by g ns w n ps d p)) new (All (IsBuiltOf (length ns.ranges)) new.arcs) h (λ p ep kp.
-    both (indexing_in w b) (arcs_by g ns w n ps d p) new (All (IsBuiltOf (length ns.ranges)) new.arcs) kp (λ i ei ki.
-    both (arcs_at g ns w n i.count p ps i.rows d) (λ found. Ok (named_arcs n.text (length d.arcs) i found)) new (All (IsBuiltOf (length ns.ranges)) new.arcs) ki (λ found ef kf.
+    both (parts_of n ps) (λ p. and_then (indexing_in w b) (arcs_by (arc_env g ns w) (arc_text n p ps) d)) new (All (IsBuiltOf (length ns.ranges)) new.arcs) h (λ p ep kp.
+    both (indexing_in w b) (arcs_by (arc_env g ns w) (arc_text n p ps) d) new (All (IsBuiltOf (length ns.ranges)) new.arcs) kp (λ i ei ki.
+    both (arcs_at (arc_env g ns w) (arc_text n p ps) i.count i.rows d) (λ found. Ok (named_arcs n.text (length d.arcs) i found)) new (All (IsBuiltOf (length ns.ranges)) new.arcs) ki (λ found ef kf.
     same_out (λ q. All (IsBuiltOf (length ns.ranges)) q.arcs) (named_arcs n.text (length d.arcs) i found) new (Ok (named_arcs n.text (length d.arcs) i found)) refl kf
     (rows_fit g ns w n i.count p ps i.rows d found (has_end n ps p ep) all ef))))
 
@@ -222,7 +221,7 @@ declare_fits wanted w (node t n b c e) d new f h =
     same_out Fits (nodes_more d ns) new (Ok (nodes_more d ns)) refl kn
     (All-weaker (IsBuiltOf (length d.nodes.ranges)) (IsBuiltOf (length ns.ranges)) (wider (length d.nodes.ranges) (length ns.ranges) (nodes_grow (env w d) n b c d.nodes ns en)) d.arcs.arcs f))
 declare_fits wanted w (arc t n b ps e) d new f h =
-    both (with_arcs d.goal d.nodes (env w d) n b ps d.arcs) (λ xs. Ok (arcs_more d xs)) new (Fits new) h (λ xs ex kx.
+    both (with_arcs (arc_env d.goal d.nodes (env w d)) n b ps d.arcs) (λ xs. Ok (arcs_more d xs)) new (Fits new) h (λ xs ex kx.
     same_out Fits (arcs_more d xs) new (Ok (arcs_more d xs)) refl kx (arcs_fit d.goal d.nodes (env w d) n b ps d.arcs xs f ex))
 declare_fits wanted w (objective t n p e) d new f h =
     both (is_chosen wanted d.goal n) (λ b. if b then with_goal (env w d) t n p d else Ok (passed d)) new (Fits new) h (λ b eb kb. chosen b kb)

@@ -11,15 +11,14 @@ use Rattle.net_tree.specs.Role.{role_of, marks, keys}
 use Rattle.net_tree.specs.Spans.{span_of, span_between, braces_span}
 use Rattle.net_tree.specs.Tree.{Tree, leaf, indexed, chain, net, none, link, Braces, filled, absent, Phrase, valued, priced, Condition, unsaid, between, Declaration, node, arc, objective}
 use Rattle.net_normal.specs.declared.instance.Sense.TheVariants.{Minimise, Maximise}
-use Rattle.net_fault.specs.declared.language.Language.TheVariants as languages
-use Rattle.net_fault.specs.declared.detail.Detail.TheVariants.{Nothing, Reported}
+use Rattle.net_base.specs.declared.diagnostic.Language.TheVariants as languages
+use Rattle.net_base.specs.declared.diagnostic.Detail.TheVariants.{Nothing, Reported}
 use Rattle.net_expr.specs.Limits.{is_small}
-use Rattle.net_expr.specs.Numbers.{number_in}
+use Rattle.net_tree.specs.Numerals.{number_in}
 use Rattle.net_expr.specs.References.{reference_text}
-use Rattle.net_tree.specs.Operations.{operations, operation, reduction, is_minus}
-use Rattle.net_fault.specs.declared.error_code.ErrorCode.TheVariants.{NodeCrossed, NoSuchNode, NoLower, NoObjective, TwoObjectives, NoSuchObjective}
-use Rattle.net_linear.specs.NetTerms.{is_outflow}
-use Rattle.net_inst.specs.Arcs.{no_arcs, with_arcs}
+use Rattle.net_tree.specs.Operations.{operations, operation, reduction, is_minus, is_outflow}
+use Rattle.net_base.specs.declared.error_code.ErrorCode.TheVariants.{NodeCrossed, NoSuchNode, NoLower, NoObjective, TwoObjectives, NoSuchObjective}
+use Rattle.net_inst.specs.Arcs.{no_arcs, with_arcs, arc_env}
 use Rattle.net_inst.specs.Drafts.{sense_of}
 use Rattle.net_inst.specs.Instances.{network}
 use Rattle.net_inst.specs.Nodes.{BuiltNodes, no_nodes, with_nodes}
@@ -104,7 +103,7 @@ unfolding role_of marks keys operations operation reduction is_minus is_small nu
 crossed_node = refl
 
 -- arc X >= 0, <= 3, from N[2];    without a chosen objective a price says nothing
-one_arc : with_arcs None two [] (name (codes "X") 36 37) None (least ∷ most ∷ from_node ∷ price (codes "4") ∷ []) no_arcs
+one_arc : with_arcs (arc_env None two []) (name (codes "X") 36 37) None (least ∷ most ∷ from_node ∷ price (codes "4") ∷ []) no_arcs
     ≡ Ok (record {
       arcs = (record { lower = pos 0; upper = pos 3; tail = Some 1; head = None }) ∷ [];
       form = record { constant = pos 0; products = [] };
@@ -114,12 +113,12 @@ unfolding role_of marks keys operations operation reduction is_minus is_small nu
 one_arc = refl
 
 -- arc X <= 3, from N[2];
-no_lower : with_arcs None two [] (name (codes "X") 36 37) None (most ∷ from_node ∷ []) no_arcs ≡ Err (record { error_code = NoLower; text = languages.Model; at = record { start = 36; end = 37 }; detail = Reported (codes "X") })
+no_lower : with_arcs (arc_env None two []) (name (codes "X") 36 37) None (most ∷ from_node ∷ []) no_arcs ≡ Err (record { error_code = NoLower; text = languages.Model; at = record { start = 36; end = 37 }; detail = Reported (codes "X") })
 unfolding role_of marks keys operations operation reduction is_minus is_small number_in numeral_at mantissa_at power_at whole_value span_of span_between braces_span is_outflow sense_of
 no_lower = refl
 
 -- arc X >= 0, <= 3, to N;    no node N is declared
-no_node : with_arcs None no_nodes [] (name (codes "X") 36 37) None (least ∷ most ∷ to_node ∷ []) no_arcs ≡ Err (record { error_code = NoSuchNode; text = languages.Model; at = record { start = 55; end = 56 }; detail = Reported (codes "N") })
+no_node : with_arcs (arc_env None no_nodes []) (name (codes "X") 36 37) None (least ∷ most ∷ to_node ∷ []) no_arcs ≡ Err (record { error_code = NoSuchNode; text = languages.Model; at = record { start = 55; end = 56 }; detail = Reported (codes "N") })
 unfolding role_of marks keys operations operation reduction is_minus is_small number_in numeral_at mantissa_at power_at whole_value span_of span_between braces_span is_outflow sense_of
 no_node = refl
 

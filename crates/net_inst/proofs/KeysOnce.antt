@@ -15,9 +15,10 @@ use Rattle.net_expr.specs.Worlds.{Name, World, entry_of}
 use Rattle.net_expr.proofs.KeysOnce.{have_distinct_keys}
 use Rattle.net_expr.proofs.SetsGiven.{keeps_sets}
 use Rattle.net_inst.specs.AsWritten.{rows_of, known_after}
-use Rattle.net_inst.specs.Indexings.{by_keys, indexing_in, tuples_of}
+use Rattle.net_expr.specs.Indexings.{by_keys, indexing_in}
+use Rattle.net_expr.specs.Rows.{keys_of}
 use Rattle.net_inst.specs.Laws.{keys_by, HaveKeysOnce, AreDistinctInSets}
-use Rattle.net_fault.specs.Outcomes.{and_then, Outcome}
+use Rattle.net_base.specs.Outcomes.{and_then, Outcome}
 use Rattle.net_inst.proofs.Once.{are_distinct_as_declared}
 
 none_tuples : IsDistinct same_tuple []
@@ -40,11 +41,11 @@ front_has k w h = λ n d ts e. h n d ts (first_is k w n (Set d ts) e)
 one_key : IsDistinct same_tuple ([] ∷ [])
 one_key = IsDistinct-cons same_tuple [] [] tt none_tuples
 
-indexed_once : (w : World) (b : Option Braces) → HasSets w → IsDistinct same_tuple (tuples_of (rows_of (indexing_in w b)))
+indexed_once : (w : World) (b : Option Braces) → HasSets w → IsDistinct same_tuple (keys_of (rows_of (indexing_in w b)))
 indexed_once w None h = one_key
 indexed_once w (Some b) h = go (index w [] b) refl
   where
-    go : (o : Outcome Keys) → index w [] b ≡ o → IsDistinct same_tuple (tuples_of (rows_of (and_then o (λ k. Ok (by_keys k)))))
+    go : (o : Outcome Keys) → index w [] b ≡ o → IsDistinct same_tuple (keys_of (rows_of (and_then o (λ k. Ok (by_keys k)))))
     go (Ok k) e = have_distinct_keys w [] b k (keeps_sets w h) e
     go (Err r) e = none_tuples
 

@@ -13,15 +13,16 @@ use Rattle.net_tree.specs.Tree.{Braces}
 use Rattle.net_expr.specs.declared.row.Row.{Row}
 use Rattle.net_expr.specs.Values.{index}
 use Rattle.net_expr.specs.Worlds.{Name, World}
-use Rattle.net_linear.specs.declared.arc.ArcKeys.{ArcKeys}
+use Rattle.net_linear.specs.declared.key_numbers.KeyNumbers.{KeyNumbers}
 use Rattle.net_linear.specs.Arcs.{declared, is_arc}
 use Rattle.net_inst.specs.declared.group.Group.{Group}
-use Rattle.net_inst.specs.declared.indexing.Indexing.{Indexing}
+use Rattle.net_expr.specs.declared.indexing.Indexing.{Indexing}
 use Rattle.net_inst.specs.declared.names.Declared.{Declared}
 use Rattle.net_inst.specs.declared.names.Key.{Key}
 use Rattle.net_inst.specs.AsWritten.{Label, label_at, same_label}
 use Rattle.net_inst.specs.Groups.{Numbers, unless_known, numbers_with, group_with}
-use Rattle.net_inst.specs.Indexings.{alone, by_keys, indexing_in, tuples_of}
+use Rattle.net_expr.specs.Indexings.{alone, by_keys, indexing_in}
+use Rattle.net_expr.specs.Rows.{keys_of}
 use Rattle.net_inst.specs.Laws.{IsKeyOf}
 use Rattle.net_inst.specs.Lists.{keyed, AreInOrder}
 use Rattle.net_inst.specs.Readings.{name_alone}
@@ -31,7 +32,7 @@ abbrev pub label_of : Name → Bool → Tuple → Label
 label_of name flag key = record { name = name; indexed = flag; key = key }
 
 -- the keys of a declared name have their labels together
-pub record IsRun (labels : List Label) (name : Name) (k : ArcKeys) : Type 0 where
+pub record IsRun (labels : List Label) (name : Name) (k : KeyNumbers) : Type 0 where
   pub before : List Label
   pub flag : Bool
   pub keys : List Tuple
@@ -41,9 +42,9 @@ pub record IsRun (labels : List Label) (name : Name) (k : ArcKeys) : Type 0 wher
   pub index : k.index ≡ union [] keys
 
 pub record Finds (labels : List Label) (numbers : Numbers) : Type 0 where
-  pub runs : (name : Name) (k : ArcKeys) → declared numbers name ≡ Some k → IsRun labels name k
+  pub runs : (name : Name) (k : KeyNumbers) → declared numbers name ≡ Some k → IsRun labels name k
 
-longer : (labels more : List Label) (name : Name) (k : ArcKeys) → IsRun labels name k → IsRun (labels ++ more) name k
+longer : (labels more : List Label) (name : Name) (k : KeyNumbers) → IsRun labels name k → IsRun (labels ++ more) name k
 longer labels more name k r = record {
   before = r.before;
   flag = r.flag;
@@ -57,7 +58,7 @@ longer labels more name k r = record {
   index = r.index;
 }
 
-declared_last : (a : Numbers) (name : Name) (k : ArcKeys) (q : Name) (j : ArcKeys) → declared (a ++ (name, k) ∷ []) q ≡ Some j → (declared a q ≡ Some j) ⊎ ((name ≡ q) × (k ≡ j))
+declared_last : (a : Numbers) (name : Name) (k : KeyNumbers) (q : Name) (j : KeyNumbers) → declared (a ++ (name, k) ∷ []) q ≡ Some j → (declared a q ≡ Some j) ⊎ ((name ≡ q) × (k ≡ j))
 declared_last [] name k q j e = go (bytes_eq name q) refl e
   where
     go : (b : Bool) → bytes_eq name q ≡ b → (if b then Some k else None) ≡ Some j → (declared [] q ≡ Some j) ⊎ ((name ≡ q) × (k ≡ j))
@@ -70,31 +71,31 @@ declared_last (x ∷ a) name k q j e = go (bytes_eq x.0 q) e (declared_last a na
     go true h more = inl h
     go false h more = more h
 
-finds_more : (labels : List Label) (a : Numbers) (name : Name) (flag : Bool) (first : ℕ) (i : Indexing) → Finds labels a → first ≡ length labels → Finds (labels ++ map (label_of name flag) (tuples_of i.rows)) (numbers_with a name first i)
+finds_more : (labels : List Label) (a : Numbers) (name : Name) (flag : Bool) (first : ℕ) (i : Indexing) → Finds labels a → first ≡ length labels → Finds (labels ++ map (label_of name flag) (keys_of i.rows)) (numbers_with a name first i)
 finds_more labels a name flag first i finds at = record { runs = λ q k e. go q k (is_arc a name) e }
   where
-    new : ArcKeys
-    new = record { keys = i.count; first = first; index = union [] (tuples_of i.rows) }
+    new : KeyNumbers
+    new = record { keys = i.count; first = first; index = union [] (keys_of i.rows) }
 
     run : List Label
-    run = map (label_of name flag) (tuples_of i.rows)
+    run = map (label_of name flag) (keys_of i.rows)
 
     one : IsRun (labels ++ run) name new
     one = record {
       before = labels;
       flag = flag;
-      keys = tuples_of i.rows;
+      keys = keys_of i.rows;
       after = [];
       whole = ap (λ (l : List Label). labels ++ l) (sym (append-nil run));
       first = at;
       index = refl;
     }
 
-    either : (q : Name) (k : ArcKeys) → (declared a q ≡ Some k) ⊎ ((name ≡ q) × (new ≡ k)) → IsRun (labels ++ run) q k
+    either : (q : Name) (k : KeyNumbers) → (declared a q ≡ Some k) ⊎ ((name ≡ q) × (new ≡ k)) → IsRun (labels ++ run) q k
     either q k (inl h) = longer labels run q k (finds.runs q k h)
     either q k (inr h) = subst (λ (n : Name). IsRun (labels ++ run) n k) h.0 (subst (IsRun (labels ++ run) name) h.1 one)
 
-    go : (q : Name) (k : ArcKeys) (b : Bool) → declared (unless_known b a (a ++ (name, new) ∷ [])) q ≡ Some k → IsRun (labels ++ run) q k
+    go : (q : Name) (k : KeyNumbers) (b : Bool) → declared (unless_known b a (a ++ (name, new) ∷ [])) q ≡ Some k → IsRun (labels ++ run) q k
     go q k true e = longer labels run q k (finds.runs q k e)
     go q k false e = either q k (declared_last a name new q k e)
 
@@ -127,7 +128,7 @@ keys_distinct name flag keys h = distinct_of same_tuple same_label (label_of nam
     both x y e = rw ((bytes_eq-Decides name name).1 refl) e
 
 -- a number that is found is the place of the label
-pub found_label : (labels : List Label) (numbers : Numbers) (name : Name) (k : ArcKeys) (key : Tuple) (p v : ℕ) → Finds labels numbers → IsDistinct same_label labels → declared numbers name ≡ Some k → place_of k.index key ≡ Some p → v ≡ k.first + p
+pub found_label : (labels : List Label) (numbers : Numbers) (name : Name) (k : KeyNumbers) (key : Tuple) (p v : ℕ) → Finds labels numbers → IsDistinct same_label labels → declared numbers name ≡ Some k → place_of k.index key ≡ Some p → v ≡ k.first + p
     → (l : Label) × (slice_get labels v ≡ Some l) × (l.name ≡ name) × (l.key ≡ key)
 found_label labels numbers name k key p v finds distinct e at same = (label_of name r.flag key, there, refl, refl)
   where
@@ -167,8 +168,8 @@ known_join (x ∷ a) b n = go (bytes_eq x.0 n) (known_join a b n)
 known_more : (a : Numbers) (ds : List Declared) (d : Declared) (first : ℕ) (i : Indexing) → NameAlike a (map name_alone ds) → NameAlike (numbers_with a d.name first i) (map name_alone (ds ++ d ∷ []))
 known_more a ds d first i h = record { alike = λ q. go q (is_arc a d.name) refl ∙ sym (all q) }
   where
-    new : ArcKeys
-    new = record { keys = i.count; first = first; index = union [] (tuples_of i.rows) }
+    new : KeyNumbers
+    new = record { keys = i.count; first = first; index = union [] (keys_of i.rows) }
 
     all : (q : Name) → is_arc (map name_alone (ds ++ d ∷ [])) q ≡ (is_arc a q || is_arc (name_alone d ∷ []) q)
     all q = ap (λ (l : Numbers). is_arc l q) (map_join name_alone ds (d ∷ [])) ∙ known_join (map name_alone ds) (name_alone d ∷ []) q ∙ ap (λ (t : Bool). t || is_arc (name_alone d ∷ []) q) (sym (h.alike q))

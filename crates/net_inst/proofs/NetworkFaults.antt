@@ -1,18 +1,18 @@
 -- What a model is refused for, when its network is made, stands at one of its parts.
 use Rattle.std.specs.Prelude.{ℕ, Bool, true, false, List, [], ◌∷◌, Option, None, Some}
-use Rattle.net_fault.specs.declared.span.Span.{Span}
-use Rattle.net_fault.specs.declared.language.Language.TheVariants.{Model}
+use Rattle.net_base.specs.declared.diagnostic.Span.{Span}
+use Rattle.net_base.specs.declared.diagnostic.Language.TheVariants.{Model}
 use Rattle.net_lex.specs.declared.token.Token.{Token}
 use Rattle.net_tree.specs.Tree.{Tree, Braces, Condition, Phrase, Part, absent, part, Declaration, set, param, check, node, arc, objective}
 use Rattle.net_expr.specs.Worlds.{Name, World}
-use Rattle.net_inst.specs.Arcs.{with_arcs}
+use Rattle.net_inst.specs.Arcs.{with_arcs, arc_env}
 use Rattle.net_inst.specs.Drafts.{Drawing, nothing, env, is_chosen, tree_form, part_form, with_goal, with_objective, with_node_declaration, with_arc_declaration, declare, draw}
 use Rattle.net_inst.specs.Groups.{Numbers}
 use Rattle.net_inst.specs.Instances.{Network, point, end_of, without_goal, finished, network}
 use Rattle.net_inst.specs.Nodes.{with_nodes}
-use Rattle.net_fault.specs.Places.{Places, Finds}
+use Rattle.net_base.specs.Places.{Places, Finds}
 use Rattle.net_tree.specs.Standing.{Stands, PartStands, IndexingHasSpans, ConditionHasSpans, PhrasesHaveSpans, DeclarationHasSpans, DeclarationsHaveSpans, ModelHasSpans}
-use Rattle.net_fault.proofs.Found.{finds_then, finds_if}
+use Rattle.net_base.proofs.Found.{finds_then, finds_if}
 use Rattle.net_linear.proofs.ObjectiveFaults.{finds_objective_form}
 use Rattle.net_inst.proofs.NodeFaults.{finds_with_nodes}
 use Rattle.net_inst.proofs.ArcFaults.{finds_with_arcs}
@@ -43,7 +43,7 @@ module _ (P : Places) where
 
   finds_with_arc_declaration : (w : World) (n : Token) → P Model n.span → (b : Option Braces) → IndexingHasSpans (P Model) b → (ps : List Phrase) → PhrasesHaveSpans (P Model) ps → (d : Drawing)
       → Finds P (with_arc_declaration w n b ps d)
-  finds_with_arc_declaration w n h b j ps k d = finds_then P (with_arcs d.goal d.nodes w n b ps d.arcs) _ (finds_with_arcs P w d n h ps k b j d.arcs) (λ xs. tt)
+  finds_with_arc_declaration w n h b j ps k d = finds_then P (with_arcs (arc_env d.goal d.nodes w) n b ps d.arcs) _ (finds_with_arcs P w d n h ps k b j d.arcs) (λ xs. tt)
 
   pub finds_declare : (wanted : Option Name) (w : World) (x : Declaration) → DeclarationHasSpans (P Model) x → (d : Drawing) → Finds P (declare wanted w x d)
   finds_declare wanted w (set t n ps e) h d = tt

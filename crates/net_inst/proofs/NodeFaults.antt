@@ -1,9 +1,9 @@
 -- What nodes of declarations, and ends of arcs, are refused for stands at the name or at one of the parts.
 use Rattle.std.specs.Prelude.{ℕ, ◌+◌, List, [], ◌∷◌, length, nat_eq, nat_lt, Option, None, Some}
-use Rattle.net_fault.specs.declared.span.Span.{Span}
-use Rattle.net_fault.specs.declared.detail.Detail.{Detail}
-use Rattle.net_fault.specs.declared.language.Language.TheVariants.{Model}
-use Rattle.net_fault.specs.Outcomes.{and_then}
+use Rattle.net_base.specs.declared.diagnostic.Span.{Span}
+use Rattle.net_base.specs.declared.diagnostic.Detail.{Detail}
+use Rattle.net_base.specs.declared.diagnostic.Language.TheVariants.{Model}
+use Rattle.net_base.specs.Outcomes.{and_then}
 use Rattle.net_lex.specs.declared.token.Token.{Token}
 use Rattle.net_sets.specs.Sets.{Tuple, place_of}
 use Rattle.net_sets.specs.declared.member.Member.{Member}
@@ -15,17 +15,17 @@ use Rattle.net_expr.specs.Limits.{is_small}
 use Rattle.net_expr.specs.Operators as operators
 use Rattle.net_expr.specs.Values.{value, index}
 use Rattle.net_expr.specs.Worlds.{Name, World, Scope, key_count, reference}
-use Rattle.net_linear.specs.declared.arc.ArcKeys.{ArcKeys}
+use Rattle.net_linear.specs.declared.key_numbers.KeyNumbers.{KeyNumbers}
 use Rattle.net_linear.specs.declared.condition.Sides.{Sides}
 use Rattle.net_linear.specs.Arcs.{declared}
 use Rattle.net_linear.specs.Conditions.{range_in}
 use Rattle.net_linear.specs.Objectives.{key_of}
-use Rattle.net_inst.specs.Indexings.{indexing_in}
+use Rattle.net_expr.specs.Indexings.{indexing_in}
 use Rattle.net_inst.specs.Nodes.{BuiltNodes, of_node, node_sides, next_range, ranges_at, nodes_by, with_nodes, index_within, numbered, node_at, indexed_node, node_named}
 use Rattle.net_inst.specs.Numbers.{number_in, number}
-use Rattle.net_fault.specs.Places.{Places, Finds}
+use Rattle.net_base.specs.Places.{Places, Finds}
 use Rattle.net_tree.specs.Standing.{Stands, LinksStand, ConditionHasSpans, IndexingHasSpans}
-use Rattle.net_fault.proofs.Found.{finds_then, finds_if}
+use Rattle.net_base.proofs.Found.{finds_then, finds_if}
 use Rattle.net_expr.proofs.OperatorFaults.{finds_member}
 use Rattle.net_expr.proofs.ValueFaults.{whole_stands, finds_value, finds_index}
 use Rattle.net_linear.proofs.ConditionFaults.{finds_range_in}
@@ -47,7 +47,7 @@ module _ (P : Places) (at : Span) (h : P Model at) where
   finds_numbered count d first None = h
   finds_numbered count d first (Some place) = finds_among count d (first + place)
 
-  finds_node_at : (count : ℕ) (name : Name) (k : Option ArcKeys) (key : Tuple) → Finds P (node_at count at name k key)
+  finds_node_at : (count : ℕ) (name : Name) (k : Option KeyNumbers) (key : Tuple) → Finds P (node_at count at name k key)
   finds_node_at count name None key = h
   finds_node_at count name (Some k) key =
       finds_if P (nat_eq (length key) (key_count k.keys)) _ _ (finds_numbered count (reference name k.keys key) k.first (place_of k.index key)) h

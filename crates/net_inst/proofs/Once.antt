@@ -12,9 +12,10 @@ use Rattle.net_expr.specs.declared.row.Row.{Row}
 use Rattle.net_expr.specs.Worlds.{Name, World}
 use Rattle.net_inst.specs.declared.names.Declared.{Declared}
 use Rattle.net_inst.specs.AsWritten.{Label, Node, Arc, rows_of, label_at, node_at_row, arc_at_row, nodes_of, arcs_with, arcs_of, known_after, in_order, node_declared, arc_declared, same_label}
-use Rattle.net_inst.specs.Indexings.{indexing_in, tuples_of}
+use Rattle.net_expr.specs.Indexings.{indexing_in}
+use Rattle.net_expr.specs.Rows.{keys_of}
 use Rattle.net_inst.specs.Laws.{keys_by, HaveKeysOnce, same_name, AreDistinctAsDeclared}
-use Rattle.net_fault.specs.Outcomes.{Outcome}
+use Rattle.net_base.specs.Outcomes.{Outcome}
 use Rattle.net_inst.specs.Phrases.{Parts, parts_of}
 use Rattle.net_inst.proofs.Zips.{map_map, map_join, distinct_after}
 
@@ -115,16 +116,16 @@ rows_named : (n : Token) (b : Option Braces) (rows : List Row) (d : Declared) �
 rows_named n b [] d e = tt
 rows_named n b (row ∷ rows) d e = (ap (λ (t : Bool). t || false) (ap (λ (z : Name). bytes_eq z n.text) e ∙ (bytes_eq-Decides n.text n.text).1 refl), rows_named n b rows d e)
 
-rows_once : (n : Token) (b : Option Braces) (rows : List Row) → IsDistinct same_tuple (tuples_of rows) → IsDistinct same_label (map (label_at n b) rows)
+rows_once : (n : Token) (b : Option Braces) (rows : List Row) → IsDistinct same_tuple (keys_of rows) → IsDistinct same_label (map (label_at n b) rows)
 rows_once n b [] h = none_once
 rows_once n b (row ∷ rows) h =
-    IsDistinct-cons same_label (label_at n b row) (map (label_at n b) rows) (go rows (IsDistinct-head same_tuple row.key (tuples_of rows) h)) (rows_once n b rows (IsDistinct-tail same_tuple row.key (tuples_of rows) h))
+    IsDistinct-cons same_label (label_at n b row) (map (label_at n b) rows) (go rows (IsDistinct-head same_tuple row.key (keys_of rows) h)) (rows_once n b rows (IsDistinct-tail same_tuple row.key (keys_of rows) h))
   where
     none : (b : Bool) → (b && false) ≡ false
     none true = refl
     none false = refl
 
-    go : (more : List Row) → AllByRecursion (λ (t : Tuple). same_tuple row.key t ≡ false) (tuples_of more) → AllByRecursion (λ (l : Label). same_label (label_at n b row) l ≡ false) (map (label_at n b) more)
+    go : (more : List Row) → AllByRecursion (λ (t : Tuple). same_tuple row.key t ≡ false) (keys_of more) → AllByRecursion (λ (l : Label). same_label (label_at n b row) l ≡ false) (map (label_at n b) more)
     go [] i = tt
     go (r ∷ more) i = (ap (λ (t : Bool). bytes_eq n.text n.text && t) i.0 ∙ none (bytes_eq n.text n.text), go more i.1)
 
@@ -171,7 +172,7 @@ arcs_labelled = record { named = named; once = once }
     named w (arc t n b ps e) = named_with w n b ps (record { name = n.text; indexed = is_some b }) refl (parts_of n ps)
     named w (objective t n p e) = tt
 
-    once_with : (w : World) (n : Token) (b : Option Braces) (ps : List Phrase) (o : Outcome Parts) → IsDistinct same_tuple (tuples_of (rows_of (indexing_in w b))) → IsDistinct same_label (map (λ (v : Arc). v.label) (arcs_with w n b ps o))
+    once_with : (w : World) (n : Token) (b : Option Braces) (ps : List Phrase) (o : Outcome Parts) → IsDistinct same_tuple (keys_of (rows_of (indexing_in w b))) → IsDistinct same_label (map (λ (v : Arc). v.label) (arcs_with w n b ps o))
     once_with w n b ps (Ok p) h = subst (IsDistinct same_label) (by_parts w n b ps p) (rows_once n b (rows_of (indexing_in w b)) h)
     once_with w n b ps (Err r) h = none_once
 

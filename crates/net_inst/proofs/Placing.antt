@@ -2,14 +2,14 @@
 use Rattle.std.specs.Prelude.{◌≡◌, ◌+◌, ℕ, Bool, true, false, List, [], ◌++◌, length, slice_get, nat_eq, nat_lt, int_lt, Option, None, Some, if◌then◌else◌, Ok, Err, ℤ}
 use Rattle.std.specs.List.{IsDistinct}
 use Rattle.std.proofs.Common.{refl, ap, sym, subst}
-use Rattle.net_fault.specs.declared.span.Span.{Span}
+use Rattle.net_base.specs.declared.diagnostic.Span.{Span}
 use Rattle.net_lex.specs.declared.token.Token.{Token}
 use Rattle.net_sets.specs.declared.member.Member.TheVariants.{Number, Name as Text}
 use Rattle.net_sets.specs.Sets.{Tuple, place_of}
 use Rattle.net_tree.specs.Spans.{span_of}
 use Rattle.net_tree.specs.Tree.{Tree, leaf, indexed, parens, tuple, negated, braced, signed, reduced, chain, choice, net}
-use Rattle.net_fault.specs.declared.detail.Detail.{Detail}
-use Rattle.net_fault.specs.declared.error_code.ErrorCode.TheVariants.{ValueTooLarge, Arity, NoSuchNode, ArcCrossed}
+use Rattle.net_base.specs.declared.diagnostic.Detail.{Detail}
+use Rattle.net_base.specs.declared.error_code.ErrorCode.TheVariants.{ValueTooLarge, Arity, NoSuchNode, ArcCrossed}
 use Rattle.net_expr.specs.declared.row.Row.{Row}
 use Rattle.net_expr.specs.declared.value.Value.{Value}
 use Rattle.net_expr.specs.declared.value.Value.TheVariants.{One, Several, Many, Truth}
@@ -17,8 +17,7 @@ use Rattle.net_expr.specs.Limits.{is_small}
 use Rattle.net_expr.specs.Operators.{member}
 use Rattle.net_expr.specs.Values.{value}
 use Rattle.net_expr.specs.Worlds.{Name, World, Scope, key_count, reference}
-use Rattle.net_linear.specs.declared.arc.ArcKeys.{ArcKeys}
-use Rattle.net_fault.specs.declared.error_code.ErrorCode.TheVariants as error_codes
+use Rattle.net_linear.specs.declared.key_numbers.KeyNumbers.{KeyNumbers}
 use Rattle.net_linear.specs.Arcs.{declared}
 use Rattle.net_linear.specs.Objectives.{key_of}
 use Rattle.net_inst.specs.declared.arc.Built.{Built}
@@ -28,7 +27,7 @@ use Rattle.net_inst.specs.Groups.{Numbers}
 use Rattle.net_inst.specs.Laws.{IsPlaceOf}
 use Rattle.net_inst.specs.Nodes.{BuiltNodes, numbered, node_at, node_named}
 use Rattle.net_inst.specs.Numbers.{number_in, number}
-use Rattle.net_fault.specs.Outcomes.{Outcome, and_then, rejected_of, rejected}
+use Rattle.net_base.specs.Outcomes.{Outcome, and_then, rejected_of, rejected}
 use Rattle.net_inst.specs.Phrases.{Parts}
 use Rattle.net_inst.proofs.Labels.{Finds, found_label}
 use Rattle.net_inst.proofs.Zips.{ok_then, ok_is, get_front}
@@ -44,7 +43,7 @@ place_is : (labels : List Label) (numbers : Numbers) (name : Name) (key : Tuple)
     → node_at count at name (declared numbers name) key ≡ Ok v → Stands labels name key v
 place_is labels numbers name key v count at finds distinct e = by_keys (declared numbers name) refl e
   where
-    by_place : (k : ArcKeys) → declared numbers name ≡ Some k → (o : Option ℕ) → place_of k.index key ≡ o → (d : Detail) → numbered count at d k.first o ≡ Ok v → Stands labels name key v
+    by_place : (k : KeyNumbers) → declared numbers name ≡ Some k → (o : Option ℕ) → place_of k.index key ≡ o → (d : Detail) → numbered count at d k.first o ≡ Ok v → Stands labels name key v
     by_place k h None i d j = cc
     by_place k h (Some p) i d j = go (nat_lt (k.first + p) count) j
       where
@@ -54,7 +53,7 @@ place_is labels numbers name key v count at finds distinct e = by_keys (declared
             record { label = found.0; at = found.1; name_is = found.2; key_is = found.3 }
         go false f = cc
 
-    by_keys : (o : Option ArcKeys) → declared numbers name ≡ o → node_at count at name o key ≡ Ok v → Stands labels name key v
+    by_keys : (o : Option KeyNumbers) → declared numbers name ≡ o → node_at count at name o key ≡ Ok v → Stands labels name key v
     by_keys None h i = cc
     by_keys (Some k) h i = go (nat_eq (length key) (key_count k.keys)) i
       where

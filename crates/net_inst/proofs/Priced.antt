@@ -5,9 +5,9 @@ use Rattle.net_lex.specs.declared.token.Token.{Token}
 use Rattle.net_tree.specs.Tree.{Tree, Body, priced}
 use Rattle.net_expr.specs.Worlds.{World, Scope}
 use Rattle.net_linear.specs.Forms.{Linear}
-use Rattle.net_fault.specs.declared.fault.Fault.{Fault}
-use Rattle.net_fault.specs.Outcomes.{Updates}
-use Rattle.net_inst.specs.declared.goal.ChosenObjective.{ChosenObjective}
+use Rattle.net_base.specs.declared.fault.Fault.{Fault}
+use Rattle.net_base.specs.Outcomes.{Updates}
+use Rattle.net_inst.specs.declared.draft.ChosenObjective.{ChosenObjective}
 use Rattle.net_inst.specs.Arcs.{is_goal, priced_by, price_in}
 
 pub price_taken : (g : Option ChosenObjective) (w : World) (s : Scope) (a : ℕ) (b : Body) (n : Token) (x : Tree) (f new : Linear) (r : Result (Unit {0}) Fault) → b ≡ priced n x → is_goal g n.text ≡ true

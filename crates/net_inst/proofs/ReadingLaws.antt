@@ -1,7 +1,7 @@
 -- What an objective's form comes to is the reading of its expression.
 use Rattle.std.specs.Prelude.{◌≡◌, ℕ, Bool, false, not, ◌&&◌, ◌||◌, [], None, Some, Ok, Err, ℤ, pos}
 use Rattle.std.proofs.Common.{refl, ap, sym, ◌∙◌}
-use Rattle.net_fault.specs.declared.span.Span.{Span}
+use Rattle.net_base.specs.declared.diagnostic.Span.{Span}
 use Rattle.net_sets.specs.Sets.{Tuple}
 use Rattle.net_tree.specs.Spans.{span_of}
 use Rattle.net_tree.specs.Tree.{Tree, Links, Part, Braces, leaf, indexed, parens, tuple, negated, braced, signed, reduced, chain, choice, net, none, link, absent, part, empty, filled}
@@ -12,7 +12,7 @@ use Rattle.net_expr.specs.Worlds.{Name, World, Scope}
 use Rattle.net_linear.specs.Arcs.{Arcs, declared, is_arc, arc_at}
 use Rattle.net_linear.specs.Forms.{Linear, Term, just, one_arc, join, turn, as_form, form_at}
 use Rattle.net_linear.specs.Objectives.{names_arc, any_arc, part_arc, braces_arc, is_sum, is_linear, key_of, condition, arc_term, objective, otherwise, chained, objective_form}
-use Rattle.net_fault.specs.Outcomes.{Outcome}
+use Rattle.net_base.specs.Outcomes.{Outcome}
 use Rattle.net_linear.specs.ObjectiveValues.{combine}
 use Rattle.net_linear.proofs.FormLaws.{term_at, same_term, form_just, form_arc, join_ok, turn_ok, total_ok, mixed_ok, no_arcs, linear_ok, choose_ok}
 use Rattle.net_linear.proofs.Ranges.{ok_then}

@@ -4,18 +4,13 @@ use Rattle.std.specs.List.{AllByRecursion, AllZip}
 use Rattle.std.specs.Str.{bytes_eq}
 use Rattle.std.proofs.Common.{refl, ap, sym, ◌∙◌, subst, arith, inl, inr, append_assoc, append-nil}
 use Rattle.std.proofs.lemmas.Int.{ints}
-use Rattle.net_fault.specs.declared.error_code.ErrorCode.TheVariants.{ArcCrossed}
-use Rattle.net_fault.specs.Outcomes.{Outcome, and_then, rejected_of}
+use Rattle.net_base.specs.declared.error_code.ErrorCode.TheVariants.{ArcCrossed}
+use Rattle.net_base.specs.Outcomes.{Outcome, and_then, rejected_of}
 use Rattle.net_lex.specs.declared.token.Token.{Token}
 use Rattle.net_sets.specs.declared.member.Member.TheVariants as member
 use Rattle.net_sets.specs.Sets.{Tuple}
-use Rattle.net_tree.specs.declared.role.Begins.TheVariants as begins
-use Rattle.net_tree.specs.declared.role.Relation.TheVariants as relations
-use Rattle.net_tree.specs.declared.role.Role.{Role}
-use Rattle.net_tree.specs.declared.role.Role.TheVariants as roles
 use Rattle.net_tree.specs.Erasure.{expression, expressions, indexing}
 use Rattle.net_tree.specs.Phrases.{is_at_least, is_at_most, is_from, is_to}
-use Rattle.net_tree.specs.Role.{role_of}
 use Rattle.net_tree.specs.Spans.{span_of}
 use Rattle.net_tree.specs.Syntax.{Expression}
 use Rattle.net_tree.specs.Tree.{Tree, Braces, Part, Phrase, Body, plain, valued, priced, leaf, indexed, parens, tuple, negated, braced, signed, reduced, chain, choice, net, Declaration, set, param, check, node, arc, objective}
@@ -28,28 +23,25 @@ use Rattle.net_linear.specs.Arcs.{declared}
 use Rattle.net_linear.specs.Forms as forms
 use Rattle.net_linear.specs.Forms.{Linear}
 use Rattle.net_linear.specs.Objectives.{key_of}
+use Rattle.net_tree.specs.PhraseValues.{phrase_value}
 use Rattle.net_meaning.specs.OfTrees.{IsEnd, HasNumber, IsArc, IsCoefficient, IsCoefficientIn, IsCoefficientFor, IsValue, AreKeys, AreValues, AreIndexed}
 use Rattle.net_meaning.specs.Network as meaning
 use Rattle.net_meaning.specs.Network.{absent_end, name, name_and_key}
 use Rattle.net_meaning.specs.Operators as values
 use Rattle.net_meaning.specs.Values.{Env, Key, env_of, AreMembers}
-use Rattle.net_meaning.specs.OfTrees as trees
 use Rattle.net_meaning.proofs.Erased.{phrase_value_is, indexed_is, some_kept}
 use Rattle.net_meaning.proofs.Meaning.{evaluation_is_sound, keys_are_sound, key_is_sound, netless, all_netless}
 use Rattle.net_inst.specs.declared.arc.Built.{Built}
-use Rattle.net_inst.specs.declared.goal.ChosenObjective.{ChosenObjective}
-use Rattle.net_inst.specs.declared.indexing.Indexing.{Indexing}
-use Rattle.net_inst.specs.declared.phrases.ArcWord.{ArcWord}
-use Rattle.net_inst.specs.declared.phrases.ArcWord.TheVariants as words
-use Rattle.net_inst.specs.Arcs.{BuiltArcs, built, end_at, with_ends, is_goal, priced_by, price_in, prices_in, next_arc, arcs_at}
+use Rattle.net_inst.specs.declared.draft.ChosenObjective.{ChosenObjective}
+use Rattle.net_expr.specs.declared.indexing.Indexing.{Indexing}
+use Rattle.net_inst.specs.Arcs.{BuiltArcs, built, end_at, with_ends, is_goal, priced_by, price_in, prices_in, next_arc, arcs_at, arc_env, arc_text}
 use Rattle.net_inst.specs.AsWritten as written
 use Rattle.net_inst.specs.AsWritten.{amount, arc_at_row}
 use Rattle.net_inst.specs.Drafts.{Drawing, part_form, aimed, passed, is_chosen, with_goal, with_objective}
-use Rattle.net_inst.specs.Indexings.{alone, by_keys, indexing_in}
+use Rattle.net_expr.specs.Indexings.{alone, by_keys, indexing_in}
 use Rattle.net_inst.specs.Nodes as nodes
 use Rattle.net_inst.specs.Nodes.{BuiltNodes}
 use Rattle.net_inst.specs.Numbers.{number}
-use Rattle.net_inst.specs.Phrases as phrases
 use Rattle.net_inst.specs.Phrases.{Parts, parts_of, parts_from}
 use Rattle.net_inst.specs.Readings.{price_of}
 use Rattle.net_inst.specs.Readings.{price_in as price_in_goal}
@@ -59,51 +51,6 @@ use Rattle.net_inst.proofs.Placing as placing
 use Rattle.net_inst.proofs.SoundEnds.{HasEnd}
 use Rattle.net_inst.proofs.Valued.{amount_is}
 use Rattle.net_inst.proofs.Zips.{ok_then, ok_is}
-
--- ---- phrases
-
-said_same : (test : Role → Bool) (a : ArcWord) → ((r : Role) → phrases.is_word a r ≡ test r) → (ps : List Phrase) → phrases.phrase_expression a ps ≡ trees.phrase_value test ps
-said_same test a h [] = refl
-said_same test a h (p ∷ ps) = go (phrases.is_word a (role_of p.word)) (test (role_of p.word)) (h (role_of p.word)) (said_same test a h ps)
-  where
-    body : (b : Body) → phrases.value_in b ≡ trees.expression_of b
-    body plain = refl
-    body (valued x) = refl
-    body (priced n x) = refl
-
-    go : (b c : Bool) → b ≡ c → phrases.phrase_expression a ps ≡ trees.phrase_value test ps → (if b then phrases.value_in p.body else phrases.phrase_expression a ps) ≡ (if c then trees.expression_of p.body else trees.phrase_value test ps)
-    go true true e more = body p.body
-    go false false e more = more
-    go true false e more = cc
-    go false true e more = cc
-
-from_said : (ps : List Phrase) → phrases.phrase_expression words.From ps ≡ trees.phrase_value is_from ps
-from_said ps = said_same is_from words.From same ps
-  where
-    same : (r : Role) → phrases.is_word words.From r ≡ is_from r
-    same (roles.Phrase begins.From) = refl
-    same _ = refl
-
-to_said : (ps : List Phrase) → phrases.phrase_expression words.To ps ≡ trees.phrase_value is_to ps
-to_said ps = said_same is_to words.To same ps
-  where
-    same : (r : Role) → phrases.is_word words.To r ≡ is_to r
-    same (roles.Phrase begins.To) = refl
-    same _ = refl
-
-least_said : (ps : List Phrase) → phrases.phrase_expression words.AtLeast ps ≡ trees.phrase_value is_at_least ps
-least_said ps = said_same is_at_least words.AtLeast same ps
-  where
-    same : (r : Role) → phrases.is_word words.AtLeast r ≡ is_at_least r
-    same (roles.Relation relations.AtLeast) = refl
-    same _ = refl
-
-most_said : (ps : List Phrase) → phrases.phrase_expression words.AtMost ps ≡ trees.phrase_value is_at_most ps
-most_said ps = said_same is_at_most words.AtMost same ps
-  where
-    same : (r : Role) → phrases.is_word words.AtMost r ≡ is_at_most r
-    same (roles.Relation relations.AtMost) = refl
-    same _ = refl
 
 -- ---- numbers, ends and coefficients
 
@@ -188,23 +135,23 @@ parts_are n (Some l) (Some u) (Some t) h p e = subst (AreParts (Some l) (Some u)
 
 -- what the code computes of an arc is what its phrases mean
 record IsRow (w : World) (s : Scope) (ps : List Phrase) (p : Parts) (x : Built) : Type 0 where
-  lower : HasNumber (env_of w s) (trees.phrase_value is_at_least ps) x.lower
-  upper : HasNumber (env_of w s) (trees.phrase_value is_at_most ps) x.upper
+  lower : HasNumber (env_of w s) (phrase_value is_at_least ps) x.lower
+  upper : HasNumber (env_of w s) (phrase_value is_at_most ps) x.upper
   ordered : x.lower ≤ℤ x.upper
-  from : IsEnd (env_of w s) (trees.phrase_value is_from ps) (written.end_of w s p.tail)
-  to : IsEnd (env_of w s) (trees.phrase_value is_to ps) (written.end_of w s p.head)
+  from : IsEnd (env_of w s) (phrase_value is_from ps) (written.end_of w s p.tail)
+  to : IsEnd (env_of w s) (phrase_value is_to ps) (written.end_of w s p.head)
   ended : IsTrue (is_some (written.end_of w s p.tail) || is_some (written.end_of w s p.head))
 
-ends_are : (ns : BuiltNodes) (w : World) → HasSets w → (s : Scope) (ps : List Phrase) (p : Parts) (l u : ℤ) (x : Built) → AreParts (phrases.phrase_expression words.AtLeast ps) (phrases.phrase_expression words.AtMost ps) (phrases.phrase_expression words.From ps) (phrases.phrase_expression words.To ps) p
+ends_are : (ns : BuiltNodes) (w : World) → HasSets w → (s : Scope) (ps : List Phrase) (p : Parts) (l u : ℤ) (x : Built) → AreParts (phrase_value is_at_least ps) (phrase_value is_at_most ps) (phrase_value is_from ps) (phrase_value is_to ps) p
     → number w s p.lower ≡ Ok l → number w s p.upper ≡ Ok u → l ≤ℤ u → with_ends ns w s p l u ≡ Ok x → IsRow w s ps p x
 ends_are ns w sets s ps p l u x are low high ordered e =
     ok_then (end_at ns w s p.tail) _ x e (λ t h i. ok_then (end_at ns w s p.head) _ x i (λ z j k.
     subst (IsRow w s ps p) (ok_is (record { lower = l; upper = u; tail = t; head = z }) x k) (record {
-      lower = subst (λ o. HasNumber (env_of w s) o l) (sym are.lower ∙ least_said ps) (number_is w sets s p.lower l low);
-      upper = subst (λ o. HasNumber (env_of w s) o u) (sym are.upper ∙ most_said ps) (number_is w sets s p.upper u high);
+      lower = subst (λ o. HasNumber (env_of w s) o l) (sym are.lower) (number_is w sets s p.lower l low);
+      upper = subst (λ o. HasNumber (env_of w s) o u) (sym are.upper) (number_is w sets s p.upper u high);
       ordered = ordered;
-      from = subst (λ o. IsEnd (env_of w s) o (written.end_of w s p.tail)) (are.tail ∙ from_said ps) (end_is ns w sets s p.tail t h);
-      to = subst (λ o. IsEnd (env_of w s) o (written.end_of w s p.head)) (are.head ∙ to_said ps) (end_is ns w sets s p.head z j);
+      from = subst (λ o. IsEnd (env_of w s) o (written.end_of w s p.tail)) (are.tail) (end_is ns w sets s p.tail t h);
+      to = subst (λ o. IsEnd (env_of w s) o (written.end_of w s p.head)) (are.head) (end_is ns w sets s p.head z j);
       ended =
           ap (λ (b : Bool). b || is_some (written.end_of w s p.head)) (end_present (env_of w s) p.tail (written.end_of w s p.tail) (end_is ns w sets s p.tail t h))
           ∙ ap (λ (b : Bool). is_some p.tail || b) (end_present (env_of w s) p.head (written.end_of w s p.head) (end_is ns w sets s p.head z j))
@@ -221,7 +168,7 @@ row_is ns w sets n k ps p row x parts e =
     go : (l u : ℤ) → number w row.scope p.lower ≡ Ok l → number w row.scope p.upper ≡ Ok u → (b : Bool) → int_lt u l ≡ b
         → (if b then rejected_of ArcCrossed n.span (reference n.text k row.key) else with_ends ns w row.scope p l u) ≡ Ok x → IsRow w row.scope ps p x
     go l u h j true f m = cc
-    go l u h j false f m = ends_are ns w sets row.scope ps p l u x (parts_are n (phrases.phrase_expression words.AtLeast ps) (phrases.phrase_expression words.AtMost ps) (phrases.phrase_expression words.From ps) (phrases.phrase_expression words.To ps) p parts) h j (search (arith, ints, f)) m
+    go l u h j false f m = ends_are ns w sets row.scope ps p l u x (parts_are n (phrase_value is_at_least ps) (phrase_value is_at_most ps) (phrase_value is_from ps) (phrase_value is_to ps) p parts) h j (search (arith, ints, f)) m
 
 abbrev pub as_key : World → Row → Key
 as_key w row = record { key = row.key; env = env_of w row.scope }
@@ -267,11 +214,11 @@ pub record AreRows (goal : Name) (w : World) (n : Token) (b : Option Braces) (ps
   pub bounds : AllZip HasBuiltBounds arcs more
 
 pub rows_are : (goal : Name) (g : Option ChosenObjective) (ns : BuiltNodes) (w : World) → HasSets w → (n : Token) (b : Option Braces) (k : Option ℕ) (p : Parts) (ps : List Phrase) (rows : List Row) (d new : BuiltArcs) → AgreesOnAll g goal ps → parts_of n ps ≡ Ok p
-    → arcs_at g ns w n k p ps rows d ≡ Ok new → AreRows goal w n b ps p rows d new
+    → arcs_at (arc_env g ns w) (arc_text n p ps) k rows d ≡ Ok new → AreRows goal w n b ps p rows d new
 rows_are goal g ns w sets n b k p ps [] d new h parts e =
     record { arcs = []; are = tt; same = tt; ended = tt; prices = tt; more = []; whole = ap (λ (z : BuiltArcs). z.arcs) (sym (ok_is d new e)) ∙ sym (append-nil d.arcs); bounds = tt }
 rows_are goal g ns w sets n b k p ps (row ∷ rows) d new h parts e =
-    ok_then (next_arc g ns w n k p ps row d) (arcs_at g ns w n k p ps rows) new e (λ next i j.
+    ok_then (next_arc (arc_env g ns w) (arc_text n p ps) k row d) (arcs_at (arc_env g ns w) (arc_text n p ps) k rows) new e (λ next i j.
     let one = next_arc_is g ns w n k p ps row d next i in
     let rest = rows_are goal g ns w sets n b k p ps rows next new h parts j in
     let by = row_is ns w sets n k ps p row one.arc parts one.is_built in

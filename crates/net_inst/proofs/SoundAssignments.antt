@@ -25,7 +25,7 @@ use Rattle.net_meaning.specs.Values.{Env, env_of}
 use Rattle.net_meaning.proofs.Unique.{values_are_unique, number_same}
 use Rattle.net_inst.specs.AsWritten as written
 use Rattle.net_inst.specs.AsWritten.{is_named, from_end, to_end, number_on, IsWithin, IsMet, in_order, nodes_of, rows_of, node_at_row}
-use Rattle.net_inst.specs.Indexings.{indexing_in}
+use Rattle.net_expr.specs.Indexings.{indexing_in}
 use Rattle.net_inst.specs.Laws.{IsBoundedAs, IsRangeOf}
 use Rattle.net_inst.specs.Nodes.{sides_of}
 use Rattle.net_inst.specs.Instances.{seen_as}

@@ -7,8 +7,8 @@ use Rattle.std.proofs.lemmas.Slice.Eq.{bytes_eq-Decides}
 use Rattle.net_lex.specs.declared.token.Token.{Token}
 use Rattle.net_tree.specs.Tree.{Phrase, Body, plain, valued, priced, Declaration, set, param, check, node, arc, objective}
 use Rattle.net_expr.specs.Worlds.{Name, World}
-use Rattle.net_inst.specs.declared.goal.ChosenObjective.{ChosenObjective}
-use Rattle.net_inst.specs.Arcs.{with_arcs}
+use Rattle.net_inst.specs.declared.draft.ChosenObjective.{ChosenObjective}
+use Rattle.net_inst.specs.Arcs.{with_arcs, arc_env}
 use Rattle.net_inst.specs.Drafts.{Drawing, env, known_more, nodes_more, arcs_more, declare, draw}
 use Rattle.net_inst.specs.Nodes.{with_nodes}
 use Rattle.net_inst.specs.Soundness.{IsListed, NamesObjective}
@@ -22,7 +22,7 @@ next_goal wanted w (check t b m x z) d new e = ap (λ (y : Drawing). y.goal) (sy
 next_goal wanted w (node t n b c z) d new e =
     ok_then (with_nodes (env w d) n b c d.nodes) (λ ns. Ok (nodes_more d ns)) new e (λ ns i j. ap (λ (y : Drawing). y.goal) (sym (ok_is (nodes_more d ns) new j)))
 next_goal wanted w (arc t n b ps z) d new e =
-    ok_then (with_arcs d.goal d.nodes (env w d) n b ps d.arcs) (λ xs. Ok (arcs_more d xs)) new e (λ xs i j. ap (λ (y : Drawing). y.goal) (sym (ok_is (arcs_more d xs) new j)))
+    ok_then (with_arcs (arc_env d.goal d.nodes (env w d)) n b ps d.arcs) (λ xs. Ok (arcs_more d xs)) new e (λ xs i j. ap (λ (y : Drawing). y.goal) (sym (ok_is (arcs_more d xs) new j)))
 next_goal wanted w (objective t n p z) d new e = goal_after wanted (env w d) t n p d new e
 
 pub some_is : {A : Type 0} (a b : A) → Some a ≡ Some b → a ≡ b

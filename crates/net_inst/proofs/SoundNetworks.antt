@@ -2,7 +2,7 @@
 use Rattle.std.specs.Prelude.{◌≡◌, ℕ, suc, List, [], ◌∷◌, ◌++◌, map, Option, None, Some, Ok, ⊤}
 use Rattle.std.specs.List.{AllByRecursion, AllZip}
 use Rattle.std.proofs.Common.{refl, ap, sym, ◌∙◌, subst, append_assoc, append-nil}
-use Rattle.net_fault.specs.Outcomes.{Outcome}
+use Rattle.net_base.specs.Outcomes.{Outcome}
 use Rattle.net_lex.specs.declared.token.Token.{Token}
 use Rattle.net_tree.specs.Erasure.{indexing, condition, declarations}
 use Rattle.net_tree.specs.Tree.{Braces, Condition, Declaration, set, param, check, node, arc, objective}
@@ -16,13 +16,13 @@ use Rattle.net_meaning.specs.Network.{InOrder}
 use Rattle.net_meaning.specs.Values.{env_of}
 use Rattle.net_meaning.proofs.Erased.{indexed_is}
 use Rattle.net_inst.specs.declared.arc.Built.{Built}
-use Rattle.net_inst.specs.declared.goal.ChosenObjective.{ChosenObjective}
-use Rattle.net_inst.specs.declared.indexing.Indexing.{Indexing}
-use Rattle.net_inst.specs.Arcs.{BuiltArcs, with_arcs}
+use Rattle.net_inst.specs.declared.draft.ChosenObjective.{ChosenObjective}
+use Rattle.net_expr.specs.declared.indexing.Indexing.{Indexing}
+use Rattle.net_inst.specs.Arcs.{BuiltArcs, with_arcs, arc_env}
 use Rattle.net_inst.specs.AsWritten as written
 use Rattle.net_inst.specs.AsWritten.{known_after, in_order, nodes_of, arcs_of, rows_of, node_at_row, arc_at_row, arcs_with}
 use Rattle.net_inst.specs.Drafts.{Drawing, nothing, env, known_more, nodes_more, arcs_more, declare, draw}
-use Rattle.net_inst.specs.Indexings.{indexing_in}
+use Rattle.net_expr.specs.Indexings.{indexing_in}
 use Rattle.net_inst.specs.Instances.{Network, with_coefficients, network}
 use Rattle.net_inst.specs.Nodes.{nodes_by, with_nodes}
 use Rattle.net_inst.specs.Phrases.{parts_of}
@@ -117,7 +117,7 @@ step wanted goal w sets (node t n b c z) d new h e =
       known = ap (λ (y : Drawing). y.known) same;
     }))
 step wanted goal w sets (arc t n b ps z) d new h e =
-    ok_then (with_arcs d.goal d.nodes (env w d) n b ps d.arcs) (λ xs. Ok (arcs_more d xs)) new e (λ xs i j.
+    ok_then (with_arcs (arc_env d.goal d.nodes (env w d)) n b ps d.arcs) (λ xs. Ok (arcs_more d xs)) new e (λ xs i j.
     let by = with_arcs_is d.goal d.nodes (env w d) n b ps d.arcs xs i in
     let rows = rows_are goal d.goal d.nodes (env w d) (front_has d.known w sets) n b by.indexing.count by.parts ps by.indexing.rows d.arcs by.found h by.says by.are_found in
     let same = sym (ok_is (arcs_more d xs) new j) in

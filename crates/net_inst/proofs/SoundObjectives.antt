@@ -3,13 +3,14 @@ use Rattle.std.specs.Prelude.{◌≡◌, ◌+◌, ℕ, Bool, true, false, cond, 
 use Rattle.std.specs.List.{AllByRecursion, IsDistinct}
 use Rattle.std.specs.Str.{bytes_eq}
 use Rattle.std.proofs.Common.{refl, ap, sym, ◌∙◌, subst, append-nil}
-use Rattle.net_tree.specs.Erasure.{clause, is_minimize}
+use Rattle.net_tree.specs.Erasure.{clause}
+use Rattle.net_tree.specs.Operations.{is_minimize}
 use Rattle.net_tree.specs.Tree.{Declaration, set, param, check, node, arc, objective}
 use Rattle.net_expr.specs.Worlds.{Name, World}
 use Rattle.net_meaning.specs.OfTrees.{objectives as objectives_in, IsObjective}
 use Rattle.net_meaning.specs.Network as meaning
 use Rattle.net_meaning.specs.Network.{is_eligible}
-use Rattle.net_inst.specs.declared.goal.ChosenObjective.{ChosenObjective}
+use Rattle.net_inst.specs.declared.draft.ChosenObjective.{ChosenObjective}
 use Rattle.net_inst.specs.declared.names.Declared.{Declared}
 use Rattle.net_inst.specs.AsWritten.{Arc, in_order, arcs_of, known_after, arc_declared}
 use Rattle.net_inst.specs.Drafts.{Drawing, nothing, sense_of, declare, draw}

@@ -5,7 +5,8 @@ use Rattle.std.specs.Str.{bytes_eq}
 use Rattle.std.proofs.Common.{refl, ap, inl, inr}
 use Rattle.std.proofs.lemmas.Slice.Eq.{bytes_eq-Decides}
 use Rattle.net_normal.specs.declared.instance.Sense.TheVariants.{Minimise, Maximise}
-use Rattle.net_tree.specs.Erasure.{body, clause, phrase, is_minimize, declarations}
+use Rattle.net_tree.specs.Erasure.{body, clause, phrase, declarations}
+use Rattle.net_tree.specs.Operations.{is_minimize}
 use Rattle.net_tree.specs.Syntax as forms
 use Rattle.net_tree.specs.Tree.{Body, plain, valued, priced, Phrase, Declaration, set, param, check, node, arc, objective}
 use Rattle.net_expr.specs.Worlds.{Name, World}

@@ -6,7 +6,7 @@ use Rattle.std.proofs.Common.{refl, ap, sym, ◌∙◌, subst, arith, inl, inr}
 use Rattle.std.proofs.lemmas.Int.{ints}
 use Rattle.std.proofs.lemmas.Slice.Eq.{bytes_eq-Decides}
 use lib.IntN.{zero-*ℤ}
-use Rattle.net_fault.specs.Outcomes.{Outcome}
+use Rattle.net_base.specs.Outcomes.{Outcome}
 use Rattle.net_lex.specs.declared.token.Token.{Token}
 use Rattle.net_tree.specs.Tree.{Braces, Phrase, Body, plain, valued, priced, Declaration, set, param, check, node, arc, objective}
 use Rattle.net_expr.specs.declared.row.Row.{Row}
@@ -15,7 +15,7 @@ use Rattle.net_meaning.specs.Network as meaning
 use Rattle.net_inst.specs.declared.names.Declared.{Declared}
 use Rattle.net_inst.specs.AsWritten.{Arc, arcs_of, arcs_with, arc_at_row, rows_of, in_order, arc_declared, Assignment, number_on, amount}
 use Rattle.net_inst.specs.Drafts.{sense_of}
-use Rattle.net_inst.specs.Indexings.{indexing_in}
+use Rattle.net_expr.specs.Indexings.{indexing_in}
 use Rattle.net_inst.specs.Phrases.{Parts, parts_of}
 use Rattle.net_inst.specs.Readings.{Objective, price_in, price_of, prices, objectives_from, is_wanted, or_else, chosen}
 use Rattle.net_inst.specs.Soundness.{IsListed, NamesObjective, NameObjectives, IsSameArc}

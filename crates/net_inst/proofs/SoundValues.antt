@@ -3,12 +3,12 @@ use Rattle.std.specs.Prelude.{◌≡◌, ◌||◌, ℕ, Bool, true, false, List,
 use Rattle.std.specs.List.{IsDistinct, list_any}
 use Rattle.std.specs.Str.{bytes_eq}
 use Rattle.std.proofs.Common.{refl, ap, sym, ◌∙◌, subst}
-use Rattle.net_fault.specs.declared.span.Span.{Span}
+use Rattle.net_base.specs.declared.diagnostic.Span.{Span}
 use Rattle.net_sets.specs.Sets.{Tuple}
 use Rattle.net_tree.specs.Tree.{Part, absent, part}
 use Rattle.net_expr.specs.SetValues.{HasSets}
 use Rattle.net_expr.specs.Worlds.{Name, World}
-use Rattle.net_linear.specs.declared.arc.ArcKeys.{ArcKeys}
+use Rattle.net_linear.specs.declared.key_numbers.KeyNumbers.{KeyNumbers}
 use Rattle.net_linear.specs.Arcs.{declared, is_arc, arc_at}
 use Rattle.net_linear.specs.Forms.{Linear}
 use Rattle.net_linear.specs.Soundness.{ReadsArcs}
@@ -55,7 +55,7 @@ listed_back (d ∷ ds) ns n = listed_back ds (d.name ∷ ns) n ∙ go (bytes_eq 
 listed_is : (a : Numbers) (ds : List Declared) (n : Name) → NameAlike a (map name_alone ds) → is_listed (names_back ds []) n ≡ is_arc a n
 listed_is a ds n alike = listed_back ds [] n ∙ or_false (is_arc (map name_alone ds) n) ∙ sym (alike.alike n)
 
-present : (at : Span) (n : Name) (key : Tuple) (i : ℕ) (o : Option ArcKeys) → arc_at at n o key ≡ Ok i → is_some o ≡ true
+present : (at : Span) (n : Name) (key : Tuple) (i : ℕ) (o : Option KeyNumbers) → arc_at at n o key ≡ Ok i → is_some o ≡ true
 present at n key i None e = cc
 present at n key i (Some k) e = refl
 

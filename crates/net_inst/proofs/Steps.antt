@@ -14,14 +14,14 @@ use Rattle.net_expr.specs.declared.row.Row.{Row}
 use Rattle.net_expr.specs.Worlds.{Name, World, Scope}
 use Rattle.net_linear.specs.Forms.{Linear}
 use Rattle.net_linear.specs.declared.condition.Sides.{Sides}
-use Rattle.net_fault.specs.declared.fault.Fault.{Fault}
-use Rattle.net_fault.specs.declared.fault.Fault.TheVariants.{OutOfMemory, At}
-use Rattle.net_inst.specs.declared.goal.ChosenObjective.{ChosenObjective}
-use Rattle.net_inst.specs.Arcs.{BuiltArcs, price_in, prices_in, next_arc, arcs_at}
+use Rattle.net_base.specs.declared.fault.Fault.{Fault}
+use Rattle.net_base.specs.declared.fault.Fault.TheVariants.{OutOfMemory, At}
+use Rattle.net_inst.specs.declared.draft.ChosenObjective.{ChosenObjective}
+use Rattle.net_inst.specs.Arcs.{BuiltArcs, price_in, prices_in, next_arc, arcs_at, arc_env, arc_text}
 use Rattle.net_inst.specs.Drafts.{Drawing, declare, draw}
 use Rattle.net_inst.specs.Nodes.{BuiltNodes, next_range, ranges_at}
 use Rattle.net_inst.specs.Phrases.{Parts}
-use Rattle.net_fault.specs.Outcomes.{Outcome, Updates, and_then}
+use Rattle.net_base.specs.Outcomes.{Outcome, Updates, and_then}
 
 -- a fault of the first step is a fault of all
 pub halts : {A B : Type 0} (o : Outcome A) (f : A → Outcome B) (wanted : Outcome B) (e : Fault) (x : A) (y : B) → wanted ≡ and_then o f → Updates o (Err e) x → Updates wanted (Err e) y
@@ -60,8 +60,8 @@ place_below ts t j e = omega (arith, below (same_tuple t) 0 j ts (sym e))
 pub prices-left : (g : Option ChosenObjective) (w : World) (s : Scope) (a : ℕ) (ps : List PhraseOfCode) (i : ℕ) (p : PhraseOfCode) (f : Linear) (wanted : Outcome Linear) → i < length ps → p ≡ get_or ps i p → prices_in g w s a (map phrase_of (drop i ps)) f ≡ wanted → wanted ≡ and_then (price_in g w s a (phrase_of p).body f) (prices_in g w s a (map phrase_of (drop (i + 1) ps)))
 prices-left g w s a ps i p f wanted h e inv = sym inv ∙ ap (λ l. prices_in g w s a l f) (next_phrase ps i p h e)
 
-pub arcs-left : (g : Option ChosenObjective) (ns : BuiltNodes) (w : World) (n : Token) (k : Option ℕ) (p : Parts) (ps : List Phrase) (rows : List Row) (i : ℕ) (row : Row) (d : BuiltArcs) (wanted : Outcome BuiltArcs) → i < length rows → row ≡ get_or rows i row → arcs_at g ns w n k p ps (drop i rows) d ≡ wanted → wanted ≡ and_then (next_arc g ns w n k p ps row d) (arcs_at g ns w n k p ps (drop (i + 1) rows))
-arcs-left g ns w n k p ps rows i row d wanted h e inv = sym inv ∙ ap (λ (l : List Row). arcs_at g ns w n k p ps l d) (left_at rows i row h e)
+pub arcs-left : (g : Option ChosenObjective) (ns : BuiltNodes) (w : World) (n : Token) (k : Option ℕ) (p : Parts) (ps : List Phrase) (rows : List Row) (i : ℕ) (row : Row) (d : BuiltArcs) (wanted : Outcome BuiltArcs) → i < length rows → row ≡ get_or rows i row → arcs_at (arc_env g ns w) (arc_text n p ps) k (drop i rows) d ≡ wanted → wanted ≡ and_then (next_arc (arc_env g ns w) (arc_text n p ps) k row d) (arcs_at (arc_env g ns w) (arc_text n p ps) k (drop (i + 1) rows))
+arcs-left g ns w n k p ps rows i row d wanted h e inv = sym inv ∙ ap (λ (l : List Row). arcs_at (arc_env g ns w) (arc_text n p ps) k l d) (left_at rows i row h e)
 
 pub draw-left : (n : Option Name) (w : World) (ds : List Decl) (i : ℕ) (x : Decl) (d : Drawing) (wanted : Outcome Drawing) → i < length ds → x ≡ get_or ds i x → draw n w (map declaration_of (drop i ds)) d ≡ wanted → wanted ≡ and_then (declare n w (declaration_of x) d) (draw n w (map declaration_of (drop (i + 1) ds)))
 draw-left n w ds i x d wanted h e inv = sym inv ∙ ap (λ l. draw n w l d) (next_declaration ds i x h e)

@@ -1,42 +1,41 @@
 -- The objective of a network is the chosen one, and its sum is the value as it is written.
-use Rattle.std.specs.Prelude.{◌≡◌, ◌+◌, ℕ, Bool, true, false, List, [], ◌∷◌, ◌++◌, length, map, slice_get, nat_eq, Option, None, Some, if◌then◌else◌, Ok, Err, ℤ, pos, ◌+ℤ◌, ◌*ℤ◌}
+use Rattle.std.specs.Prelude.{◌≡◌, ◌+◌, ℕ, Bool, true, false, List, [], ◌∷◌, ◌++◌, length, map, slice_get, nat_eq, Option, None, Some, if◌then◌else◌, Ok, ℤ, pos, ◌+ℤ◌, ◌*ℤ◌}
 use Rattle.std.specs.List.{IsDistinct}
 use Rattle.std.specs.Str.{bytes_eq}
 use Rattle.std.proofs.Common.{refl, ap, sym, ◌∙◌, subst, arith, append_assoc}
 use Rattle.std.proofs.lemmas.Int.{ints}
 use lib.IntN.{zero-*ℤ}
 use Rattle.std.proofs.lemmas.List.{length-append}
-use Rattle.net_fault.specs.declared.span.Span.{Span}
+use Rattle.net_base.specs.declared.diagnostic.Span.{Span}
 use Rattle.net_lex.specs.declared.token.Token.{Token}
 use Rattle.net_sets.specs.Sets.{Tuple, place_of}
 use Rattle.net_tree.specs.Spans.{span_of}
 use Rattle.net_tree.specs.Tree.{Tree, Braces, Part, absent, part, Body, plain, valued, priced, Phrase}
-use Rattle.net_fault.specs.declared.detail.Detail.{Detail}
-use Rattle.net_fault.specs.declared.error_code.ErrorCode.TheVariants.{Arity}
+use Rattle.net_base.specs.declared.diagnostic.Detail.{Detail}
+use Rattle.net_base.specs.declared.error_code.ErrorCode.TheVariants.{Arity}
 use Rattle.net_expr.specs.declared.row.Row.{Row}
 use Rattle.net_expr.specs.declared.value.Value.{Value}
 use Rattle.net_expr.specs.Worlds.{Name, World, Scope, key_count, reference}
-use Rattle.net_linear.specs.declared.arc.ArcKeys.{ArcKeys}
+use Rattle.net_linear.specs.declared.key_numbers.KeyNumbers.{KeyNumbers}
 use Rattle.net_linear.specs.Arcs.{declared, arc_at, numbered}
 use Rattle.net_linear.specs.Conditions.{number_of}
-use Rattle.net_linear.specs.Forms.{Linear, just, form_at, all_apart, products_at}
+use Rattle.net_linear.specs.Forms.{Linear, just, form_at, all_apart}
 use Rattle.net_linear.specs.Forms as forms
-use Rattle.net_linear.specs.Objectives.{objective_form}
 use Rattle.net_linear.specs.Amounts.{as_number}
 use Rattle.net_linear.proofs.FormLaws.{form_just, priced_worth}
 use Rattle.net_linear.proofs.Rings.{add-mul}
 use Rattle.net_inst.specs.declared.arc.Built.{Built}
-use Rattle.net_inst.specs.declared.goal.ChosenObjective.{ChosenObjective}
+use Rattle.net_inst.specs.declared.draft.ChosenObjective.{ChosenObjective}
 use Rattle.net_inst.specs.declared.names.Declared.{Declared}
-use Rattle.net_inst.specs.Arcs.{BuiltArcs, priced_by, price_in, prices_in, next_arc, arcs_at, with_arcs}
+use Rattle.net_inst.specs.Arcs.{BuiltArcs, priced_by, price_in, prices_in, next_arc, arcs_at, with_arcs, arc_env, arc_text}
 use Rattle.net_inst.specs.AsWritten.{Label, Arc, rows_of, arc_at_row, arcs_with, same_label, Assignment, number_on, numbers_on, amount}
 use Rattle.net_inst.specs.Drafts.{part_form}
 use Rattle.net_inst.specs.Groups.{Numbers}
 use Rattle.net_inst.specs.Nodes.{BuiltNodes}
 use Rattle.net_inst.specs.Numbers.{number}
-use Rattle.net_fault.specs.Outcomes.{Outcome, and_then, rejected}
+use Rattle.net_base.specs.Outcomes.{Outcome, and_then, rejected}
 use Rattle.net_inst.specs.Phrases.{Parts, parts_of}
-use Rattle.net_inst.specs.Readings.{reading, name_alone, stands_in, price_of, prices, part_value, value_of, Objective}
+use Rattle.net_inst.specs.Readings.{reading, name_alone, price_of, prices, part_value}
 use Rattle.net_inst.specs.Readings as written
 use Rattle.net_inst.proofs.Agreement.{IsNextArc, next_arc_is, AreArcsBy, with_arcs_is}
 use Rattle.net_inst.proofs.Apart.{objective_apart, price_apart}
@@ -138,12 +137,12 @@ row_adds all g dn w n b k p ps row d next new front later after l whole by rest 
     one = arc_at_row w n b ps p row
 
 rows_add : (all : List Arc) (g : Option ChosenObjective) (dn : BuiltNodes) (w : World) (n : Token) (b : Option Braces) (k : Option ℕ) (p : Parts) (ps : List Phrase) (rows : List Row) (d new : BuiltArcs) (front after : List Arc)
-    → length d.arcs ≡ length front → all ≡ front ++ (map (arc_at_row w n b ps p) rows ++ after) → arcs_at g dn w n k p ps rows d ≡ Ok new → Adds all g (map (arc_at_row w n b ps p) rows) d.form new.form
+    → length d.arcs ≡ length front → all ≡ front ++ (map (arc_at_row w n b ps p) rows ++ after) → arcs_at (arc_env g dn w) (arc_text n p ps) k rows d ≡ Ok new → Adds all g (map (arc_at_row w n b ps p) rows) d.form new.form
 rows_add all g dn w n b k p ps [] d new front after l whole e =
     let same = ap (λ (z : BuiltArcs). z.form) (ok_is d new e) in
     record { apart = λ h. ap (λ (z : Linear). all_apart z.products) (sym same) ∙ h; sum = λ x. ap (form_at (by_place all x)) (sym same) ∙ nothing_more g (form_at (by_place all x) d.form) x }
 rows_add all g dn w n b k p ps (row ∷ rows) d new front after l whole e =
-    ok_then (next_arc g dn w n k p ps row d) (arcs_at g dn w n k p ps rows) new e (λ next i j.
+    ok_then (next_arc (arc_env g dn w) (arc_text n p ps) k row d) (arcs_at (arc_env g dn w) (arc_text n p ps) k rows) new e (λ next i j.
     let by = next_arc_is g dn w n k p ps row d next i in
     let one = arc_at_row w n b ps p row in
     let later = map (arc_at_row w n b ps p) rows in
@@ -152,7 +151,7 @@ rows_add all g dn w n b k p ps (row ∷ rows) d new front after l whole e =
     (rows_add all g dn w n b k p ps rows next new (front ++ one ∷ []) after counted (whole ∙ sym (append_assoc front (one ∷ []) (later ++ after))) j))
 
 pub arcs_add : (all : List Arc) (g : Option ChosenObjective) (dn : BuiltNodes) (w : World) (n : Token) (b : Option Braces) (ps : List Phrase) (d new : BuiltArcs) (front after : List Arc)
-    → length d.arcs ≡ length front → all ≡ front ++ (arcs_with w n b ps (parts_of n ps) ++ after) → with_arcs g dn w n b ps d ≡ Ok new → Adds all g (arcs_with w n b ps (parts_of n ps)) d.form new.form
+    → length d.arcs ≡ length front → all ≡ front ++ (arcs_with w n b ps (parts_of n ps) ++ after) → with_arcs (arc_env g dn w) n b ps d ≡ Ok new → Adds all g (arcs_with w n b ps (parts_of n ps)) d.form new.form
 arcs_add all g dn w n b ps d new front after l whole e =
     subst (λ (here : List Arc). Adds all g here d.form new.form) (sym here_is)
     (subst (λ (z : BuiltArcs). Adds all g here d.form z.form) by.is_named (rows_add all g dn w n b by.indexing.count by.parts ps by.indexing.rows d by.found front after l (whole ∙ ap (λ (xs : List Arc). front ++ (xs ++ after)) here_is) by.are_found))
@@ -172,17 +171,17 @@ arcs_add all g dn w n b ps d new front after l whole e =
 pub read_alike : (all front after : List Arc) (x : Assignment) (a : Numbers) → Finds (map (λ v. v.label) front) a → IsDistinct same_label (map (λ v. v.label) front) → all ≡ front ++ after → ReadAlike a (by_place all x) x
 read_alike all front after x a finds distinct whole = record { alike = λ at n key v e. by_keys at n key v (declared a n) refl e }
   where
-    placed : (n : Name) (key : Tuple) (v : ℕ) (k : ArcKeys) (p : ℕ) → declared a n ≡ Some k → place_of k.index key ≡ Some p → v ≡ k.first + p → by_place all x v ≡ x n key
+    placed : (n : Name) (key : Tuple) (v : ℕ) (k : KeyNumbers) (p : ℕ) → declared a n ≡ Some k → place_of k.index key ≡ Some p → v ≡ k.first + p → by_place all x v ≡ x n key
     placed n key v k p e i j =
         let found = found_label (map (λ v. v.label) front) a n k key p v finds distinct e i j in
         let there : slice_get (map (λ u. u.label) all) v ≡ Some found.0 = ap (λ (l : List Arc). slice_get (map (λ u. u.label) l) v) whole ∙ ap (λ (l : List Label). slice_get l v) (map_join (λ (u : Arc). u.label) front after) ∙ get_front (map (λ u. u.label) front) (map (λ u. u.label) after) v found.0 found.1 in
         number_of_label x all v found.0 there ∙ ap (λ (m : Name). x m found.0.key) found.2 ∙ ap (x n) found.3
 
-    by_number : (at : Span) (n : Name) (key : Tuple) (v : ℕ) (k : ArcKeys) → declared a n ≡ Some k → (o : Option ℕ) → place_of k.index key ≡ o → (r : Detail) → numbered at r k.first o ≡ Ok v → by_place all x v ≡ x n key
+    by_number : (at : Span) (n : Name) (key : Tuple) (v : ℕ) (k : KeyNumbers) → declared a n ≡ Some k → (o : Option ℕ) → place_of k.index key ≡ o → (r : Detail) → numbered at r k.first o ≡ Ok v → by_place all x v ≡ x n key
     by_number at n key v k e None i r j = cc
     by_number at n key v k e (Some p) i r j = placed n key v k p e i (let same : k.first + p ≡ v = cc in sym same)
 
-    by_keys : (at : Span) (n : Name) (key : Tuple) (v : ℕ) (o : Option ArcKeys) → declared a n ≡ o → arc_at at n o key ≡ Ok v → by_place all x v ≡ x n key
+    by_keys : (at : Span) (n : Name) (key : Tuple) (v : ℕ) (o : Option KeyNumbers) → declared a n ≡ o → arc_at at n o key ≡ Ok v → by_place all x v ≡ x n key
     by_keys at n key v None e i = cc
     by_keys at n key v (Some k) e i = go (nat_eq (length key) (key_count k.keys)) i
       where

@@ -12,7 +12,7 @@ use Rattle.net_linear.proofs.Ranges.{IsWithin, range_exact}
 use Rattle.net_inst.specs.declared.arc.Built.{Built}
 use Rattle.net_inst.specs.declared.group.Group.{Group}
 use Rattle.net_inst.specs.declared.names.Declared.{Declared}
-use Rattle.net_inst.specs.Arcs.{with_arcs}
+use Rattle.net_inst.specs.Arcs.{with_arcs, arc_env}
 use Rattle.net_inst.specs.AsWritten.{Label, Node, Arc, nodes_of, arcs_of, nodes, arcs, known_after, in_order, node_declared, arc_declared, same_label}
 use Rattle.net_inst.specs.Drafts.{Drawing, nothing, env, part_form, aimed, passed, is_chosen, with_goal, with_objective, known_more, nodes_more, arcs_more, declare, draw}
 use Rattle.net_inst.specs.Instances.{Network, with_coefficients}
@@ -121,7 +121,7 @@ next_is wanted w m (node t n b c z) d new h e =
       };
     }))
 next_is wanted w m (arc t n b ps z) d new h e =
-    ok_then (with_arcs d.goal d.nodes (env w d) n b ps d.arcs) (λ xs. Ok (arcs_more d xs)) new e (λ xs i j.
+    ok_then (with_arcs (arc_env d.goal d.nodes (env w d)) n b ps d.arcs) (λ xs. Ok (arcs_more d xs)) new e (λ xs i j.
     subst (IsNext m w (arc t n b ps z) d) (ok_is (arcs_more d xs) new j) (record {
       known = refl;
       is_written = record {

@@ -17,7 +17,7 @@ use Rattle.net_tree.specs.Spans.{span_of, span_between, braces_span}
 use Rattle.net_tree.specs.Tree.{Tree, leaf, indexed, braced, chain, net, none, link, absent, part, Braces, filled, Phrase, valued, priced, one, Declaration, node, arc, objective}
 use Rattle.net_expr.specs.Limits.{is_small}
 use Rattle.net_tree.specs.Operations.{operations, operation, reduction, is_minus}
-use Rattle.net_expr.specs.Numbers.{number_in}
+use Rattle.net_tree.specs.Numerals.{number_in}
 use Rattle.net_expr.specs.Worlds.{Name}
 use Rattle.net_inst.specs.AsWritten.{Label, nodes, arcs, numbers_on, Assignment, by_label, from_end, to_end, net_inflow}
 use Rattle.net_inst.specs.Drafts.{sense_of}

@@ -9,15 +9,15 @@ use Rattle.net_expr.specs.declared.row.Row.{Row}
 use Rattle.net_expr.specs.Worlds.{Name, World, Scope, reference}
 use Rattle.net_linear.specs.Forms as forms
 use Rattle.net_inst.specs.declared.arc.Built.{Built}
-use Rattle.net_fault.specs.declared.error_code.ErrorCode.TheVariants.{ArcCrossed, TooManyArcs}
-use Rattle.net_inst.specs.declared.goal.ChosenObjective.{ChosenObjective}
+use Rattle.net_base.specs.declared.error_code.ErrorCode.TheVariants.{ArcCrossed, TooManyArcs}
+use Rattle.net_inst.specs.declared.draft.ChosenObjective.{ChosenObjective}
 use Rattle.net_inst.specs.declared.group.Group.{Group}
-use Rattle.net_inst.specs.declared.indexing.Indexing.{Indexing}
+use Rattle.net_expr.specs.declared.indexing.Indexing.{Indexing}
 use Rattle.net_inst.specs.Groups.{no_group, group_with}
-use Rattle.net_inst.specs.Indexings.{indexing_in}
+use Rattle.net_expr.specs.Indexings.{indexing_in}
 use Rattle.net_inst.specs.Nodes.{BuiltNodes, node_named}
 use Rattle.net_inst.specs.Numbers.{number}
-use Rattle.net_fault.specs.Outcomes.{Outcome, and_then, rejected_of}
+use Rattle.net_base.specs.Outcomes.{Outcome, and_then, rejected_of}
 use Rattle.net_inst.specs.Rejections.{rejected_name}
 use Rattle.net_inst.specs.Phrases.{Parts, parts_of}
 
@@ -61,17 +61,35 @@ abbrev pub prices_in : Option ChosenObjective → World → Scope → ℕ → Li
 prices_in g w s a [] f = Ok f
 prices_in g w s a (p ∷ ps) f = and_then (price_in g w s a p.body f) (prices_in g w s a ps)
 
+-- with what an arc is built: the chosen objective, the nodes so far, the sets and parameters
+pub record ArcEnv : Type 0 where
+  pub goal : Option ChosenObjective
+  pub nodes : BuiltNodes
+  pub world : World
+
+abbrev pub arc_env : Option ChosenObjective → BuiltNodes → World → ArcEnv
+arc_env g ns w = record { goal = g; nodes = ns; world = w }
+
+-- an arc's declaration: its name, the expressions of its bounds and ends, and its phrases
+pub record ArcText : Type 0 where
+  pub name : Token
+  pub parts : Parts
+  pub phrases : List Phrase
+
+abbrev pub arc_text : Token → Parts → List Phrase → ArcText
+arc_text n p ps = record { name = n; parts = p; phrases = ps }
+
 -- adds the arc at a key
-abbrev pub next_arc : Option ChosenObjective → BuiltNodes → World → Token → Option ℕ → Parts → List Phrase → Row → BuiltArcs → Outcome BuiltArcs
-next_arc g ns w n k p ps row d =
+abbrev pub next_arc : ArcEnv → ArcText → Option ℕ → Row → BuiltArcs → Outcome BuiltArcs
+next_arc v x k row d =
     if nat_lt (length d.arcs) arc_limit then
-    and_then (built ns w n k p row) (λ x. and_then (prices_in g w row.scope (length d.arcs) ps d.form) (λ f. Ok (record { arcs = d.arcs ++ x ∷ []; form = f; group = d.group })))
-    else rejected_name TooManyArcs n
+    and_then (built v.nodes v.world x.name k x.parts row) (λ a. and_then (prices_in v.goal v.world row.scope (length d.arcs) x.phrases d.form) (λ f. Ok (record { arcs = d.arcs ++ a ∷ []; form = f; group = d.group })))
+    else rejected_name TooManyArcs x.name
 
 -- adds an arc for each key
-abbrev pub arcs_at : Option ChosenObjective → BuiltNodes → World → Token → Option ℕ → Parts → List Phrase → List Row → BuiltArcs → Outcome BuiltArcs
-arcs_at g ns w n k p ps [] d = Ok d
-arcs_at g ns w n k p ps (row ∷ rows) d = and_then (next_arc g ns w n k p ps row d) (arcs_at g ns w n k p ps rows)
+abbrev pub arcs_at : ArcEnv → ArcText → Option ℕ → List Row → BuiltArcs → Outcome BuiltArcs
+arcs_at v x k [] d = Ok d
+arcs_at v x k (row ∷ rows) d = and_then (next_arc v x k row d) (arcs_at v x k rows)
 
 -- replaces the linear form of the objective
 abbrev pub formed : BuiltArcs → forms.Linear → BuiltArcs
@@ -80,9 +98,9 @@ formed d f = record { arcs = d.arcs; form = f; group = d.group }
 abbrev pub named_arcs : Name → ℕ → Indexing → BuiltArcs → BuiltArcs
 named_arcs name first i d = record { arcs = d.arcs; form = d.form; group = group_with d.group name first i }
 
-abbrev pub arcs_by : Option ChosenObjective → BuiltNodes → World → Token → List Phrase → BuiltArcs → Parts → Indexing → Outcome BuiltArcs
-arcs_by g ns w n ps d p i = and_then (arcs_at g ns w n i.count p ps i.rows d) (λ found. Ok (named_arcs n.text (length d.arcs) i found))
+abbrev pub arcs_by : ArcEnv → ArcText → BuiltArcs → Indexing → Outcome BuiltArcs
+arcs_by v x d i = and_then (arcs_at v x i.count i.rows d) (λ found. Ok (named_arcs x.name.text (length d.arcs) i found))
 
 -- adds the arcs of a declaration; a missing phrase is reported first
-abbrev pub with_arcs : Option ChosenObjective → BuiltNodes → World → Token → Option Braces → List Phrase → BuiltArcs → Outcome BuiltArcs
-with_arcs g ns w n b ps d = and_then (parts_of n ps) (λ p. and_then (indexing_in w b) (arcs_by g ns w n ps d p))
+abbrev pub with_arcs : ArcEnv → Token → Option Braces → List Phrase → BuiltArcs → Outcome BuiltArcs
+with_arcs v n b ps d = and_then (parts_of n ps) (λ p. and_then (indexing_in v.world b) (arcs_by v (arc_text n p ps) d))

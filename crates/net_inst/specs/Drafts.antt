@@ -8,13 +8,13 @@ use Rattle.net_normal.specs.declared.instance.Sense.TheVariants.{Minimise, Maxim
 use Rattle.net_expr.specs.Worlds.{Name, World}
 use Rattle.net_linear.specs.Forms.{Linear, just}
 use Rattle.net_linear.specs.Objectives.{objective_form}
-use Rattle.net_fault.specs.declared.error_code.ErrorCode.TheVariants.{TwoObjectives}
+use Rattle.net_base.specs.declared.error_code.ErrorCode.TheVariants.{TwoObjectives}
 use Rattle.net_inst.specs.declared.draft.Draft.{Draft}
-use Rattle.net_inst.specs.declared.goal.ChosenObjective.{ChosenObjective}
-use Rattle.net_inst.specs.Arcs.{BuiltArcs, no_arcs, with_arcs, formed}
+use Rattle.net_inst.specs.declared.draft.ChosenObjective.{ChosenObjective}
+use Rattle.net_inst.specs.Arcs.{BuiltArcs, no_arcs, with_arcs, formed, arc_env}
 use Rattle.net_inst.specs.Groups.{Numbers}
 use Rattle.net_inst.specs.Nodes.{BuiltNodes, no_nodes, with_nodes}
-use Rattle.net_fault.specs.Outcomes.{Outcome, and_then}
+use Rattle.net_base.specs.Outcomes.{Outcome, and_then}
 use Rattle.net_inst.specs.Rejections.{rejected_name}
 
 -- the result of the declarations so far
@@ -78,7 +78,7 @@ abbrev pub with_node_declaration : World → Token → Option Braces → Conditi
 with_node_declaration w n b c d = and_then (with_nodes w n b c d.nodes) (λ ns. Ok (nodes_more d ns))
 
 abbrev pub with_arc_declaration : World → Token → Option Braces → List Phrase → Drawing → Outcome Drawing
-with_arc_declaration w n b ps d = and_then (with_arcs d.goal d.nodes w n b ps d.arcs) (λ xs. Ok (arcs_more d xs))
+with_arc_declaration w n b ps d = and_then (with_arcs (arc_env d.goal d.nodes w) n b ps d.arcs) (λ xs. Ok (arcs_more d xs))
 
 -- adds a declaration
 abbrev pub declare : Option Name → World → Declaration → Drawing → Outcome Drawing

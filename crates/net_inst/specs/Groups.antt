@@ -4,8 +4,8 @@ use Rattle.net_sets.specs.Operations.{union}
 use Rattle.net_expr.specs.Worlds.{Name}
 use Rattle.net_linear.specs.Arcs as numbers
 use Rattle.net_inst.specs.declared.group.Group.{Group}
-use Rattle.net_inst.specs.declared.indexing.Indexing.{Indexing}
-use Rattle.net_inst.specs.Indexings.{tuples_of}
+use Rattle.net_expr.specs.declared.indexing.Indexing.{Indexing}
+use Rattle.net_expr.specs.Rows.{keys_of}
 use Rattle.net_inst.specs.Lists.{no_names, listed_with}
 
 -- the target of a name with subscripts: for each declared name, the number of its first node or
@@ -19,7 +19,7 @@ unless_known false a b = b
 
 -- adds a declared name, unless it is already there
 abbrev pub numbers_with : Numbers → Name → ℕ → Indexing → Numbers
-numbers_with a name first i = unless_known (numbers.is_arc a name) a (a ++ (name, record { keys = i.count; first = first; index = union [] (tuples_of i.rows) }) ∷ [])
+numbers_with a name first i = unless_known (numbers.is_arc a name) a (a ++ (name, record { keys = i.count; first = first; index = union [] (keys_of i.rows) }) ∷ [])
 
 abbrev pub no_group : Group
 no_group = record { list = no_names; numbers = [] }

@@ -1,26 +1,26 @@
 -- The network of a model: its nodes and arcs in order of declaration and of keys, its objective,
 -- and all their names.
 use Rattle.std.specs.Prelude.{ℕ, suc, Bool, true, false, List, [], ◌∷◌, map, Option, None, Some, unwrap_or, Result, Ok, ℤ}
-use Rattle.net_fault.specs.declared.span.Span.{Span}
+use Rattle.net_base.specs.declared.diagnostic.Span.{Span}
 pub use Rattle.net_tree.specs.Spans.{point}
 use Rattle.net_lex.specs.declared.token.Token.{Token}
 use Rattle.net_tree.specs.Tree.{Declaration, set, param, check, node, arc, objective}
 use Rattle.net_normal.specs.declared.instance.InstArc.{InstArc}
 use Rattle.net_normal.specs.declared.instance.Sense.{Sense}
-use Rattle.net_fault.specs.declared.detail.Detail.TheVariants.{Nothing, Reported}
+use Rattle.net_base.specs.declared.diagnostic.Detail.TheVariants.{Nothing, Reported}
 use Rattle.net_expr.specs.Worlds.{Name, World}
 use Rattle.net_linear.specs.declared.condition.Sides.{Sides}
 use Rattle.net_linear.specs.Forms.{Products, coefficient}
 use Rattle.net_inst.specs.declared.arc.Built.{Built}
-use Rattle.net_fault.specs.declared.error_code.ErrorCode.TheVariants.{NoObjective, NoSuchObjective}
-use Rattle.net_fault.specs.declared.fault.Fault.{Fault}
-use Rattle.net_inst.specs.declared.goal.ChosenObjective.{ChosenObjective}
+use Rattle.net_base.specs.declared.error_code.ErrorCode.TheVariants.{NoObjective, NoSuchObjective}
+use Rattle.net_base.specs.declared.fault.Fault.{Fault}
+use Rattle.net_inst.specs.declared.draft.ChosenObjective.{ChosenObjective}
 use Rattle.net_inst.specs.declared.network.Named.{Named as NamedOfCode}
 use Rattle.net_inst.specs.declared.names.Names.{Names}
 use Rattle.net_inst.specs.Arcs.{BuiltArcs}
 use Rattle.net_inst.specs.Drafts.{Drawing, nothing, draw}
 use Rattle.net_inst.specs.Nodes.{BuiltNodes, sides_of}
-use Rattle.net_fault.specs.Outcomes.{Outcome, and_then, rejected_of, RefinesAs}
+use Rattle.net_base.specs.Outcomes.{Outcome, and_then, rejected_of, RefinesAs}
 
 pub record Network : Type 0 where
   pub nodes : List Sides

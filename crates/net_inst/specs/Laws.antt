@@ -20,7 +20,8 @@ use Rattle.net_inst.specs.declared.network.Named.{Named as NamedOfCode}
 use Rattle.net_inst.specs.declared.names.Declared.{Declared}
 use Rattle.net_inst.specs.declared.names.Key.{Key}
 use Rattle.net_inst.specs.AsWritten.{Label, Node, Arc, rows_of, known_after, nodes, arcs, node_declared, arc_declared, same_label, Assignment, numbers_on, by_label, from_end, to_end, AreDistinct, IsFeasible}
-use Rattle.net_inst.specs.Indexings.{indexing_in, tuples_of}
+use Rattle.net_expr.specs.Indexings.{indexing_in}
+use Rattle.net_expr.specs.Rows.{keys_of}
 use Rattle.net_inst.specs.Instances.{Network, network, seen_as}
 use Rattle.net_inst.specs.Lists.{Listed, AreInOrder}
 use Rattle.net_inst.specs.Readings.{Objective, objectives, chosen, value_of}
@@ -121,8 +122,8 @@ HaveAssignments = (all : List Arc) (numbers : List ℤ) → IsDistinct same_labe
 
 -- the keys of a declaration of nodes or arcs
 abbrev pub keys_by : World → Declaration → List Tuple
-keys_by w (node t n b c e) = tuples_of (rows_of (indexing_in w b))
-keys_by w (arc t n b ps e) = tuples_of (rows_of (indexing_in w b))
+keys_by w (node t n b c e) = keys_of (rows_of (indexing_in w b))
+keys_by w (arc t n b ps e) = keys_of (rows_of (indexing_in w b))
 keys_by w _ = []
 
 -- no declaration has a key twice

@@ -1,6 +1,5 @@
 pub mod Rejections
 pub mod Lists
-pub mod Indexings
 pub mod Groups
 pub mod Numbers
 pub mod Nodes

@@ -1,27 +1,27 @@
 -- The nodes of declarations, and the nodes that `from` and `to` refer to.
 use Rattle.std.specs.Prelude.{ℕ, ◌+◌, List, [], ◌∷◌, ◌++◌, length, nat_eq, nat_lt, Option, None, Some, if◌then◌else◌, Ok}
-use Rattle.net_fault.specs.declared.span.Span.{Span}
+use Rattle.net_base.specs.declared.diagnostic.Span.{Span}
 use Rattle.net_lex.specs.declared.token.Token.{Token}
 use Rattle.net_sets.specs.Sets.{Tuple, place_of}
 use Rattle.net_tree.specs.Spans.{span_of}
 use Rattle.net_tree.specs.Tree.{Tree, Links, leaf, indexed, Braces, Condition}
 use Rattle.net_normal.specs.declared.instance.NodeRange.{NodeRange}
 use Rattle.net_normal.specs.Limits.{node_limit}
-use Rattle.net_fault.specs.declared.detail.Detail.{Detail}
-use Rattle.net_fault.specs.declared.detail.Detail.TheVariants.{Reported}
-use Rattle.net_fault.specs.declared.error_code.ErrorCode.TheVariants.{KindMismatch, Arity, NoSuchNode, NodeCrossed, TooManyNodes}
+use Rattle.net_base.specs.declared.diagnostic.Detail.{Detail}
+use Rattle.net_base.specs.declared.diagnostic.Detail.TheVariants.{Reported}
+use Rattle.net_base.specs.declared.error_code.ErrorCode.TheVariants.{KindMismatch, Arity, NoSuchNode, NodeCrossed, TooManyNodes}
 use Rattle.net_expr.specs.declared.row.Row.{Row}
 use Rattle.net_expr.specs.Worlds.{Name, World, Scope, key_count, reference}
-use Rattle.net_linear.specs.declared.arc.ArcKeys.{ArcKeys}
+use Rattle.net_linear.specs.declared.key_numbers.KeyNumbers.{KeyNumbers}
 use Rattle.net_linear.specs.declared.condition.Sides.{Sides}
 use Rattle.net_linear.specs.Arcs.{declared}
 use Rattle.net_linear.specs.Conditions.{range_in}
 use Rattle.net_linear.specs.Objectives.{key_of}
 use Rattle.net_inst.specs.declared.group.Group.{Group}
-use Rattle.net_inst.specs.declared.indexing.Indexing.{Indexing}
+use Rattle.net_expr.specs.declared.indexing.Indexing.{Indexing}
 use Rattle.net_inst.specs.Groups.{no_group, group_with}
-use Rattle.net_inst.specs.Indexings.{indexing_in}
-use Rattle.net_fault.specs.Outcomes.{Outcome, and_then, rejected_of, rejected}
+use Rattle.net_expr.specs.Indexings.{indexing_in}
+use Rattle.net_base.specs.Outcomes.{Outcome, and_then, rejected_of, rejected}
 use Rattle.net_inst.specs.Rejections.{rejected_name}
 
 -- nodes in order, each with its range of net inflows
@@ -71,7 +71,7 @@ numbered count at d first None = rejected_of NoSuchNode at d
 numbered count at d first (Some place) = index_within count at d (first + place)
 
 -- the node with a name and a key
-abbrev pub node_at : ℕ → Span → Name → Option ArcKeys → Tuple → Outcome ℕ
+abbrev pub node_at : ℕ → Span → Name → Option KeyNumbers → Tuple → Outcome ℕ
 node_at count at name None key = rejected_of NoSuchNode at (Reported name)
 node_at count at name (Some k) key =
     if nat_eq (length key) (key_count k.keys) then numbered count at (reference name k.keys key) k.first (place_of k.index key) else rejected Arity at

@@ -10,9 +10,9 @@ use Rattle.net_expr.specs.Numbers.{turned}
 use Rattle.net_tree.specs.Operations.{is_minus, operation}
 use Rattle.net_expr.specs.Values.{index}
 use Rattle.net_expr.specs.Worlds.{Name, World, Scope}
-use Rattle.net_linear.specs.declared.arc.ArcKeys.{ArcKeys}
+use Rattle.net_linear.specs.declared.key_numbers.KeyNumbers.{KeyNumbers}
 use Rattle.net_linear.specs.Objectives.{names_arc, key_of, condition}
-use Rattle.net_fault.specs.Outcomes.{Outcome}
+use Rattle.net_base.specs.Outcomes.{Outcome}
 use Rattle.net_linear.specs.ObjectiveValues.{read, combine, sum_in, choose}
 use Rattle.net_inst.specs.declared.names.Declared.{Declared}
 use Rattle.net_inst.specs.AsWritten.{Arc, Assignment, number_on, amount, arcs_of, arc_declared, in_order, known_after}
@@ -51,7 +51,7 @@ abbrev mutual
   reading_chain arc_in w s (link o y l) n x = reading_chain arc_in w s l (combine (operation o) n (reading arc_in w s y x)) x
 
 -- a name of arcs without their keys
-abbrev pub name_alone : Declared → Name × ArcKeys
+abbrev pub name_alone : Declared → Name × KeyNumbers
 name_alone d = (d.name, record { keys = None; first = 0; index = [] })
 
 -- the tree contains one of these arcs

@@ -7,16 +7,17 @@ ghost use Rattle.net_expr.specs.Worlds.{reference};
 ghost use Rattle.net_inst.specs.Arcs as found;
 ghost use Rattle.net_inst.specs.Fitting.{IsPriced};
 ghost use Rattle.net_inst.specs.Instances as network;
-ghost use Rattle.net_fault.specs.Outcomes.{Refines};
+ghost use Rattle.net_base.specs.Outcomes.{Refines};
 ghost use Rattle.net_inst.specs.Parts.{parts_seen};
 
+use crate::draft::ChosenObjective;
 use crate::fault::reject;
+use crate::node::NodeDraft;
 use crate::node_name::node_named;
-use crate::number::number_of;
 use crate::phrases::ArcParts;
-use crate::visible::ArcEnv;
-use net_expr::{Row, Scope, reported_reference};
-use net_fault::{ErrorCode, Fault};
+use crate::price::number_of;
+use net_base::{ErrorCode, Fault};
+use net_expr::{Env, Row, Scope, reported_reference};
 use net_lex::Token;
 use net_linear::Affine;
 use net_normal::InstArc;
@@ -130,4 +131,14 @@ pub(crate) fn priced(
         all.push(whole)?;
     }
     Ok(all)
+}
+
+/// What is visible to a declaration of arcs: what is declared before it.
+#[derive(Clone, Copy)]
+pub(crate) struct ArcEnv<'a, 's> {
+    /// The sets and parameters.
+    pub(crate) env: &'a Env<'a, 's>,
+    pub(crate) nodes: &'a NodeDraft<'s>,
+    /// The chosen objective.
+    pub(crate) goal: &'a Option<ChosenObjective<'s>>,
 }

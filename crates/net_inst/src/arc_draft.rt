@@ -1,32 +1,30 @@
 //! Collecting the arcs of a model.
 
 ghost use Rattle.std.specs.Prelude.{◌≡◌, ◌≤◌, ◌+◌, All, length, map, IfOk, OnOk, Ok};
-ghost use Rattle.net_tree.specs.View.{indexing_of, option_part, phrase_of};
+ghost use Rattle.net_tree.specs.View.{indexing_of, option_part, phrase_of, tree};
 ghost use Rattle.net_normal.specs.Limits.{IsSized, arc_limit, value_limit};
 ghost use Rattle.net_inst.specs.Arcs as found;
 ghost use Rattle.net_inst.specs.Drafts.{part_form};
 ghost use Rattle.net_inst.specs.Fitting.{IsPriced};
-ghost use Rattle.net_inst.specs.Indexings.{indexing_in};
+ghost use Rattle.net_expr.specs.Indexings.{indexing_in};
 ghost use Rattle.net_inst.specs.Instances.{with_coefficients};
-ghost use Rattle.net_fault.specs.Outcomes.{Updates, and_then};
-ghost use Rattle.net_inst.specs.Parts.{parts_seen};
+ghost use Rattle.net_base.specs.Outcomes.{Updates, and_then, Refines};
+ghost use Rattle.net_inst.specs.Parts.{arc_env_of, arc_text_of};
+ghost use Rattle.net_inst.specs.Drafts as drafts;
 
-use crate::arc::{ArcText, Built, arc_at, priced};
+use crate::arc::{ArcEnv, ArcText, Built, arc_at, priced};
 use crate::fault::reject_name;
 use crate::group::Group;
-use crate::indexing::{Indexing, indexing_of};
 use crate::names::NameList;
-use crate::objective_form::part_form;
 use crate::phrases::parts_of;
 use crate::price::add_phrases;
-use crate::visible::ArcEnv;
-use net_expr::{Env, Row};
-use net_fault::{ErrorCode, Fault};
+use net_base::{ErrorCode, Fault};
+use net_expr::{Env, Indexing, Row, Scope, indexing_of};
 use net_lex::Token;
-use net_linear::Affine;
+use net_linear::{Affine, NumberedNames, objective};
 use net_normal::{ARC_LIMIT, InstArc};
 use net_sets::HashKey;
-use net_tree::{Braces, Part, Phrase};
+use net_tree::{Braces, Expr, Part, Phrase};
 use std::alloc::{AllocError, Global};
 use std::marker::Model;
 use std::mem;
@@ -52,7 +50,7 @@ impl<'s> Model for ArcDraft<'s> {
 }
 
 impl<'s> ArcDraft<'s> {
-    /// Creates a draft without arcs. The key has to come from all names that will be declared.
+    /// Creates a draft without arcs. The key has to be that of the run.
     pub(crate) fn new(alloc: Global, key: HashKey) -> ArcDraft<'s>
         ensures { result ≡ found.no_arcs }
     {
@@ -72,8 +70,7 @@ impl<'s> ArcDraft<'s> {
         count: &Option<u8>,
         row: &Row<'s>,
     ) -> Result<(), Fault>
-        ensures value { Updates (found.next_arc visible.now.goal.now visible.now.nodes.now visible.now.env.now text.now.name.now count.now
-            (parts_seen text.now.parts) (map phrase_of text.now.phrases.now) row.now self.old) result self.new }
+        ensures value { Updates (found.next_arc (arc_env_of visible.now) (arc_text_of text.now) count.now row.now self.old) result self.new }
         ensures count { OnOk result (length self.new.arcs ≡ length self.old.arcs + 1) }
     {
         let arc = self.arcs.len();
@@ -103,8 +100,7 @@ impl<'s> ArcDraft<'s> {
         count: &Option<u8>,
         rows: &[Row<'s>],
     ) -> Result<(), Fault>
-        ensures value { Updates (found.arcs_at visible.now.goal.now visible.now.nodes.now visible.now.env.now text.now.name.now count.now
-            (parts_seen text.now.parts) (map phrase_of text.now.phrases.now) rows.now self.old) result self.new }
+        ensures value { Updates (found.arcs_at (arc_env_of visible.now) (arc_text_of text.now) count.now rows.now self.old) result self.new }
         ensures few { OnOk result (length rows.now ≤ length self.new.arcs) }
     {
         for row in rows {
@@ -135,8 +131,7 @@ impl<'s> ArcDraft<'s> {
         text: &ArcText<'_, 's>,
         indexing: &Indexing<'s>,
     ) -> Result<(), Fault>
-        ensures { Updates (found.arcs_by visible.now.goal.now visible.now.nodes.now visible.now.env.now text.now.name.now
-            (map phrase_of text.now.phrases.now) self.old (parts_seen text.now.parts) indexing.now) result self.new }
+        ensures { Updates (found.arcs_by (arc_env_of visible.now) (arc_text_of text.now) self.old indexing.now) result self.new }
     {
         let first = self.len() as u32;
         let rows = indexing.rows.as_slice();
@@ -153,9 +148,8 @@ impl<'s> ArcDraft<'s> {
         text: &ArcText<'_, 's>,
         braces: &Option<Braces<'s>>,
     ) -> Result<(), Fault>
-        ensures { Updates (and_then (indexing_in visible.now.env.now (indexing_of braces.now)) (found.arcs_by visible.now.goal.now
-            visible.now.nodes.now visible.now.env.now text.now.name.now (map phrase_of text.now.phrases.now) self.old
-            (parts_seen text.now.parts))) result self.new }
+        ensures { Updates (and_then (indexing_in visible.now.env.now (indexing_of braces.now)) (found.arcs_by (arc_env_of visible.now)
+            (arc_text_of text.now) self.old)) result self.new }
     {
         let indexing = indexing_of(alloc, visible.env, braces)?;
         self.declare_at(alloc, visible, text, &indexing)
@@ -171,8 +165,7 @@ impl<'s> ArcDraft<'s> {
         braces: &Option<Braces<'s>>,
         phrases: &[Phrase<'s>],
     ) -> Result<(), Fault>
-        ensures { Updates (found.with_arcs visible.now.goal.now visible.now.nodes.now visible.now.env.now name.now (indexing_of braces.now)
-            (map phrase_of phrases.now) self.old) result self.new }
+        ensures { Updates (found.with_arcs (arc_env_of visible.now) name.now (indexing_of braces.now) (map phrase_of phrases.now) self.old) result self.new }
     {
         let parts = parts_of(alloc, name, phrases)?;
         let text = ArcText {
@@ -226,5 +219,34 @@ impl<'s> ArcDraft<'s> {
         ensures { result ≡ self.old.group.list }
     {
         mem::replace(&mut self.group.list, NameList::new(alloc))
+    }
+}
+
+/// Returns the linear form of an objective's expression.
+fn form_of<'s>(
+    alloc: Global,
+    arcs: &NumberedNames<'s>,
+    env: &Env<'_, 's>,
+    expr: &Expr<'s>,
+) -> Result<Affine, Fault>
+    ensures { Refines (drafts.tree_form arcs.now env.now (tree expr.now)) result }
+{
+    let scope = Scope::new(alloc);
+    objective(alloc, arcs, env, &scope, expr)
+}
+
+/// Returns the linear form of the objective's own expression, over the arcs declared before it.
+#[tactic(auto, using(net_tree::proofs::Views::views))]
+pub(crate) fn part_form<'s>(
+    alloc: Global,
+    arcs: &NumberedNames<'s>,
+    env: &Env<'_, 's>,
+    part: &Option<Part<'s>>,
+) -> Result<Affine, Fault>
+    ensures { Refines (drafts.part_form arcs.now env.now (option_part part.now)) result }
+{
+    match part {
+        None => Ok(Affine::zero(alloc)),
+        Some(part) => form_of(alloc, arcs, env, &part.value),
     }
 }

@@ -4,15 +4,14 @@ ghost use Rattle.std.specs.Prelude.{◌≡◌, ◌+◌, ◌<◌, ◌≤◌, ◌^
 ghost use Rattle.std.specs.Option.{option_copied};
 ghost use Rattle.net_tree.specs.View.{declaration_of, indexing_of, condition_of, phrase_of, option_part};
 ghost use Rattle.net_inst.specs.Drafts as found;
-ghost use Rattle.net_fault.specs.Outcomes.{Refines, Updates};
+ghost use Rattle.net_base.specs.Outcomes.{Refines, Updates};
 
+use crate::arc::ArcEnv;
 use crate::arc_draft::ArcDraft;
 use crate::fault::reject_name;
-use crate::goal::ChosenObjective;
 use crate::node::NodeDraft;
-use crate::visible::ArcEnv;
+use net_base::{ErrorCode, Excerpt, Fault};
 use net_expr::{Env, World};
-use net_fault::{ErrorCode, Fault};
 use net_lex::Token;
 use net_normal::Sense;
 use net_sets::HashKey;
@@ -82,7 +81,7 @@ fn is_chosen<'s>(
 }
 
 impl<'s> Draft<'s> {
-    /// Creates an empty draft. The key has to come from all names that will be declared.
+    /// Creates an empty draft. The key has to be that of the run.
     pub(crate) fn new(alloc: Global, key: HashKey) -> Draft<'s>
         ensures { result ≡ found.nothing }
     {
@@ -204,4 +203,11 @@ impl<'s> Draft<'s> {
             }
         }
     }
+}
+
+/// The chosen objective.
+#[derive(Drop)]
+pub(crate) struct ChosenObjective<'s> {
+    pub(crate) name: Excerpt<'s>,
+    pub(crate) sense: Sense,
 }

@@ -1,12 +1,12 @@
 //! Building errors about nodes, arcs and objectives.
 
 ghost use Rattle.std.specs.Prelude.{◌≡◌, IfOk};
-ghost use Rattle.net_fault.specs.Outcomes.{diagnostic_at};
-ghost use Rattle.net_fault.specs.declared.detail.Detail.TheVariants.{Reported};
-ghost use Rattle.net_fault.specs.declared.fault.Fault.TheVariants.{At};
-ghost use Rattle.net_fault.specs.declared.language.Language.TheVariants.{Model as InModel};
+ghost use Rattle.net_base.specs.Outcomes.{diagnostic_at};
+ghost use Rattle.net_base.specs.declared.diagnostic.Detail.TheVariants.{Reported};
+ghost use Rattle.net_base.specs.declared.fault.Fault.TheVariants.{At};
+ghost use Rattle.net_base.specs.declared.diagnostic.Language.TheVariants.{Model as InModel};
 
-use net_fault::{Detail, ErrorCode, Fault, Language, Span};
+use net_base::{Detail, ErrorCode, Fault, Language, Span};
 use net_lex::Token;
 use std::alloc::{AllocError, Global};
 

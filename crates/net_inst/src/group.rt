@@ -4,46 +4,32 @@ ghost use Rattle.std.specs.Prelude.{◌≡◌, ◌≤◌, ◌<◌, ◌^◌, [], 
 ghost use Rattle.net_sets.specs.Limits.{tuples_limit};
 ghost use Rattle.net_sets.specs.Operations.{union};
 ghost use Rattle.net_inst.specs.Groups as groups;
-ghost use Rattle.net_inst.specs.Indexings.{tuples_of};
+ghost use Rattle.net_expr.specs.Rows.{keys_of};
 
-use crate::indexing::Indexing;
 use crate::names::NameList;
-use net_expr::Row;
-use net_linear::{ArcKeys, ArcNames};
-use net_sets::{HashKey, KeyDigest, SetFault, TupleSet};
-use net_views::Excerpt;
+use net_base::Excerpt;
+use net_expr::{Indexing, Row, key_set};
+use net_linear::{KeyNumbers, NumberedNames};
+use net_sets::{HashKey, SetFault, TupleSet};
 use std::alloc::{AllocError, Global};
 
 /// Declared nodes, or arcs.
 #[derive(Drop)]
 pub(crate) struct Group<'s> {
     pub(crate) list: NameList<'s>,
-    pub(crate) numbers: ArcNames<'s>,
-}
-
-/// Derives the key for a set of the keys of rows.
-fn key_of(rows: &[Row<'_>]) -> HashKey {
-    let mut digest = KeyDigest::new();
-    for row in rows {
-        digest.update(&row.key);
-    }
-    digest.finish()
+    pub(crate) numbers: NumberedNames<'s>,
 }
 
 /// Returns the set of the keys of rows. Fails only if memory runs out.
-fn keys_in<'s>(alloc: Global, rows: &[Row<'s>]) -> Result<TupleSet<'s>, AllocError>
+fn keys_in<'s>(alloc: Global, key: HashKey, rows: &[Row<'s>]) -> Result<TupleSet<'s>, AllocError>
     requires { length rows.now ≤ tuples_limit }
-    ensures { IfOk result (λ keys. keys ≡ union [] (tuples_of rows.now)) }
+    ensures { IfOk result (λ keys. keys ≡ union [] (keys_of rows.now)) }
 {
-    let mut keys = TupleSet::new(alloc, key_of(rows));
-    for row in rows {
-        match keys.add(row.key.copied()) {
-            Ok(()) => {}
-            Err(SetFault::OutOfMemory) => return Err(AllocError),
-            Err(SetFault::TooMany) => unreachable!(),
-        }
+    match key_set(alloc, key, rows) {
+        Ok(keys) => Ok(keys),
+        Err(SetFault::OutOfMemory) => Err(AllocError),
+        Err(SetFault::TooMany) => unreachable!(),
     }
-    Ok(keys)
 }
 
 /// Declares a name, unless it is already declared. Fails only if memory runs out.
@@ -52,7 +38,7 @@ fn declare_number<'s>(
     name: &Excerpt<'s>,
     first: u32,
     indexing: &Indexing<'s>,
-    numbers: &mut ArcNames<'s>,
+    numbers: &mut NumberedNames<'s>,
 ) -> Result<(), AllocError>
     requires { length indexing.now.rows ≤ tuples_limit }
     ensures { OnOk result (numbers.new ≡ groups.numbers_with numbers.old name.now first indexing.now) }
@@ -60,22 +46,22 @@ fn declare_number<'s>(
     if numbers.has(name) {
         return Ok(());
     }
-    let keys = ArcKeys {
+    let keys = KeyNumbers {
         keys: indexing.count,
         first,
-        index: keys_in(alloc, indexing.rows.as_slice())?,
+        index: keys_in(alloc, numbers.key(), indexing.rows.as_slice())?,
     };
     numbers.add(name, keys)
 }
 
 impl<'s> Group<'s> {
-    /// Creates a group without declarations. The key has to come from all names that will be declared.
+    /// Creates a group without declarations. The key has to be that of the run.
     pub(crate) fn new(alloc: Global, key: HashKey) -> Group<'s>
         ensures { result ≡ groups.no_group }
     {
         Group {
             list: NameList::new(alloc),
-            numbers: ArcNames::new(alloc, key),
+            numbers: NumberedNames::new(alloc, key),
         }
     }
 

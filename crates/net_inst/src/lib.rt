@@ -5,27 +5,21 @@ mod arc;
 mod arc_draft;
 mod draft;
 mod fault;
-mod goal;
 mod group;
-mod indexing;
 mod laws;
 mod names;
 mod network;
 mod node;
 mod node_name;
-mod number;
-mod objective_form;
 mod phrases;
 mod price;
-mod soundness;
-mod visible;
 
 pub use laws::{
-    arcs_are_written, assignments_are_alike, errors_are_in_model, flows_stand_for_assignments,
-    names_are_declared, names_declared_once_are_apart, network_without_objective_is_one,
-    objective_is_written, ranges_are_conditions,
+    arcs_are_written, assignments_are_alike, assignments_are_sound, errors_are_in_model,
+    flows_stand_for_assignments, names_are_declared, names_declared_once_are_apart,
+    network_without_objective_is_one, networks_are_sound, objective_is_written,
+    problems_represent_networks, ranges_are_conditions,
 };
 pub use names::{Declared, Key, NameList, Names};
-pub use net_fault::Fault as InstFault;
+pub use net_base::Fault as InstFault;
 pub use network::{Named, instantiate, instantiate_for};
-pub use soundness::{assignments_are_sound, networks_are_sound, problems_represent_networks};

@@ -4,9 +4,9 @@ ghost use Rattle.std.specs.Prelude.{◌≡◌, ◌++◌, List, map, slice_get, I
 ghost use Rattle.std.specs.Option.{option_copied};
 ghost use Rattle.net_inst.specs.Lists as lists;
 
+use net_base::Excerpt;
 use net_expr::Row;
 use net_sets::Tuple;
-use net_views::Excerpt;
 use std::alloc::{AllocError, Global};
 use std::marker::Model;
 

@@ -7,20 +7,18 @@ ghost use Rattle.net_inst.specs.Drafts as drafts;
 ghost use Rattle.net_inst.specs.Fitting.{IsBuiltOf};
 ghost use Rattle.net_inst.specs.Instances as found;
 ghost use Rattle.net_inst.specs.Instances.{AnswersNetwork};
-ghost use Rattle.net_fault.specs.Outcomes.{Updates};
+ghost use Rattle.net_base.specs.Outcomes.{Updates};
 
 use crate::arc_draft::ArcDraft;
-use crate::draft::Draft;
+use crate::draft::{ChosenObjective, Draft};
 use crate::fault::reject;
-use crate::goal::ChosenObjective;
 use crate::names::Names;
 use crate::node::NodeDraft;
-use net_expr::{World, name_key};
-use net_fault::{Detail, ErrorCode, Fault, Span};
+use net_base::{Detail, ErrorCode, Excerpt, Fault, Span};
+use net_expr::World;
 use net_lex::Token;
 use net_normal::Instance;
 use net_tree::{Decl, Model};
-use net_views::Excerpt;
 use std::alloc::{AllocError, Global};
 
 /// A network of numbered nodes and arcs, and their names in the model.
@@ -155,13 +153,6 @@ fn network_on<'s>(
     finished(alloc, wanted, end_of(declarations), draft)
 }
 
-/// Creates the empty draft of a model, with the key of its declared names.
-fn empty_draft<'s>(alloc: Global, model: &Model<'s>) -> Draft<'s>
-    ensures { result ≡ drafts.nothing }
-{
-    Draft::new(alloc, name_key(model.declarations.as_slice()))
-}
-
 /// Returns the network of a model in its world.
 fn network_of<'s>(
     alloc: Global,
@@ -171,7 +162,7 @@ fn network_of<'s>(
 ) -> Result<Named<'s>, Fault>
     ensures { AnswersNetwork (found.network (option_copied wanted.now) world.now (declared_in model.now)) result }
 {
-    let mut draft = empty_draft(alloc, model);
+    let mut draft = Draft::new(alloc, world.key());
     let declarations = model.declarations.as_slice();
     network_on(alloc, wanted, world, declarations, &mut draft)
 }

@@ -7,20 +7,18 @@ ghost use Rattle.net_normal.specs.Limits.{node_limit};
 ghost use Rattle.net_linear.specs.Arcs.{declared};
 ghost use Rattle.net_inst.specs.Nodes as nodes;
 ghost use Rattle.net_inst.specs.Nodes.{sides_of};
-ghost use Rattle.net_fault.specs.Outcomes.{RefinesAs, Updates};
+ghost use Rattle.net_base.specs.Outcomes.{RefinesAs, Updates};
 
 use crate::fault::{reject, reject_name};
 use crate::group::Group;
-use crate::indexing::{Indexing, indexing_of};
 use crate::names::NameList;
-use net_expr::{Env, Row, reported_reference};
-use net_fault::{ErrorCode, Fault};
+use net_base::{ErrorCode, Excerpt, Fault};
+use net_expr::{Env, Indexing, Row, indexing_of, reported_reference};
 use net_lex::Token;
-use net_linear::{ArcKeys, node_range};
+use net_linear::{KeyNumbers, node_range};
 use net_normal::{NODE_LIMIT, NodeRange};
 use net_sets::HashKey;
 use net_tree::{Braces, NetCond};
-use net_views::Excerpt;
 use std::alloc::Global;
 use std::marker::Model;
 use std::mem;
@@ -118,7 +116,7 @@ fn push_ranges<'s>(
 }
 
 impl<'s> NodeDraft<'s> {
-    /// Creates a draft without nodes. The key has to come from all names that will be declared.
+    /// Creates a draft without nodes. The key has to be that of the run.
     pub(crate) fn new(alloc: Global, key: HashKey) -> NodeDraft<'s>
         ensures { result ≡ nodes.no_nodes }
     {
@@ -144,7 +142,7 @@ impl<'s> NodeDraft<'s> {
     }
 
     /// Returns the keys of a declared name, and the number of its first node.
-    pub(crate) fn keys_of(&self, name: &Excerpt<'s>) -> Option<&ArcKeys<'s>>
+    pub(crate) fn keys_of(&self, name: &Excerpt<'s>) -> Option<&KeyNumbers<'s>>
         ensures { option_copied result ≡ declared self.now.group.numbers name.now }
     {
         self.group.numbers.get(name)

@@ -8,21 +8,20 @@ ghost use Rattle.net_tree.specs.View.{tree, links_of};
 ghost use Rattle.net_normal.specs.Limits.{node_limit};
 ghost use Rattle.net_expr.specs.Worlds as worlds;
 ghost use Rattle.net_linear.specs.Arcs.{declared};
-ghost use Rattle.net_fault.specs.declared.error_code.ErrorCode.TheVariants.{NoSuchNode};
-ghost use Rattle.net_fault.specs.declared.fault.Fault.TheVariants.{At};
+ghost use Rattle.net_base.specs.declared.error_code.ErrorCode.TheVariants.{NoSuchNode};
+ghost use Rattle.net_base.specs.declared.fault.Fault.TheVariants.{At};
 ghost use Rattle.net_inst.specs.Nodes as found;
-ghost use Rattle.net_fault.specs.declared.language.Language.TheVariants.{Model as InModel};
-ghost use Rattle.net_fault.specs.Outcomes.{Refines, diagnostic_at as diagnostic};
+ghost use Rattle.net_base.specs.declared.diagnostic.Language.TheVariants.{Model as InModel};
+ghost use Rattle.net_base.specs.Outcomes.{Refines, diagnostic_at as diagnostic};
 
 use crate::fault::reject;
 use crate::node::NodeDraft;
-use net_expr::{Env, Scope, reject_tree, reported_reference};
-use net_fault::{Detail, ErrorCode, Fault, Span};
+use net_base::{Detail, ErrorCode, Excerpt, Fault, Span};
+use net_expr::{Env, Scope, key_count, reject_tree, reported_reference};
 use net_lex::Token;
-use net_linear::{ArcKeys, key_of};
+use net_linear::{KeyNumbers, key_of};
 use net_sets::Tuple;
 use net_tree::{Expr, Link, span_of};
-use net_views::Excerpt;
 use std::alloc::{AllocError, Global};
 
 /// A reference to a node, by a declared name and a key.
@@ -36,15 +35,6 @@ struct Reference<'a, 's> {
     key: &'a Tuple<'s>,
 }
 
-fn key_count(count: Option<u8>) -> usize
-    ensures { result ≡ worlds.key_count count }
-{
-    match count {
-        None => 0,
-        Some(count) => usize::from(count),
-    }
-}
-
 /// Builds the error for a node that does not exist; the reference is its detail. Fails only if
 /// memory runs out.
 fn no_such_node(alloc: Global, reference: &Reference<'_, '_>) -> Result<Fault, AllocError>
@@ -53,16 +43,6 @@ fn no_such_node(alloc: Global, reference: &Reference<'_, '_>) -> Result<Fault, A
 {
     let detail = reported_reference(alloc, reference.name, reference.count, reference.key)?;
     Ok(reject(ErrorCode::NoSuchNode, reference.at, detail))
-}
-
-/// Returns the number of the node with this index in its declaration.
-fn number_after(keys: &ArcKeys<'_>, place: usize) -> usize
-    requires { place < length keys.now.index }
-    ensures { result ≡ keys.now.first + place }
-{
-    let count = keys.index.len();
-    prove!(place < count);
-    keys.first as usize + place
 }
 
 /// Returns a number if it is that of one of `count` nodes, or an error.
@@ -89,7 +69,7 @@ fn numbered<'s>(
     count: usize,
     at: Span,
     name: &Excerpt<'s>,
-    keys: &ArcKeys<'s>,
+    keys: &KeyNumbers<'s>,
     key: Tuple<'s>,
 ) -> Result<u32, Fault>
     requires { count ≤ node_limit }
@@ -103,10 +83,7 @@ fn numbered<'s>(
         key: &key,
     };
     match keys.index.position(&key) {
-        Some(place) => {
-            let number = number_after(keys, place);
-            among(alloc, count, &reference, number)
-        }
+        Some(place) => among(alloc, count, &reference, keys.at(place)),
         None => Err(no_such_node(alloc, &reference)?),
     }
 }
@@ -117,7 +94,7 @@ fn node_at<'s>(
     count: usize,
     whole: &Expr<'s>,
     name: &Excerpt<'s>,
-    keys: Option<&ArcKeys<'s>>,
+    keys: Option<&KeyNumbers<'s>>,
     key: Tuple<'s>,
 ) -> Result<u32, Fault>
     requires { count ≤ node_limit }
@@ -161,7 +138,7 @@ fn name_in<'a, 's>(
     ensures { option_map (λ p. (p.0.now, option_map (λ q. (tree q.0.now, links_of q.1.now)) p.1)) result ≡ found.name_in (tree expr.entry.now) }
 {
     match expr {
-        Expr::Leaf(name) => Some((name, None)),
+        Expr::Leaf(leaf) => Some((leaf.token(), None)),
         Expr::Indexed(parts) => {
             let (name, _, series, _) = parts.get();
             Some((name, Some((&series.first, series.more.as_slice()))))

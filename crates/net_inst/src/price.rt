@@ -5,16 +5,16 @@ ghost use Rattle.net_tree.specs.Spans as trees;
 ghost use Rattle.net_tree.specs.View.{tree, body_of, phrase_of};
 ghost use Rattle.net_linear.specs.Forms as forms;
 ghost use Rattle.net_inst.specs.Arcs as found;
-ghost use Rattle.net_fault.specs.Outcomes.{Updates};
+ghost use Rattle.net_base.specs.Outcomes.{Updates, Refines};
+ghost use Rattle.net_inst.specs.Numbers as numbers;
 
-use crate::goal::ChosenObjective;
-use crate::number::number_of;
-use crate::visible::ArcEnv;
-use net_expr::{Env, Scope};
-use net_fault::Fault;
+use crate::arc::ArcEnv;
+use crate::draft::ChosenObjective;
+use net_base::{ErrorCode, Excerpt, Fault};
+use net_expr::{Env, Scope, is_small, member, reject_tree};
 use net_linear::{Affine, with_price};
+use net_sets::Member;
 use net_tree::{Body, Expr, Phrase};
-use net_views::Excerpt;
 use std::alloc::Global;
 use std::mem;
 
@@ -98,4 +98,33 @@ pub(crate) fn add_phrases<'s>(
         add_phrase(alloc, visible, scope, arc, &phrase.body, form)?;
     }
     Ok(())
+}
+
+/// Returns a member as a number within the limit, or an error.
+fn number_in(whole: &Expr<'_>, member: &Member<'_>) -> Result<i64, Fault>
+    ensures { Refines (numbers.number_in (trees.span_of (tree whole.now)) member.now) result }
+{
+    match member {
+        Member::Number(number) => {
+            if is_small(number) {
+                Ok(*number)
+            } else {
+                Err(reject_tree(ErrorCode::ValueTooLarge, whole))
+            }
+        }
+        Member::Name(_) => Err(reject_tree(ErrorCode::KindMismatch, whole)),
+    }
+}
+
+/// Evaluates an expression to a number; any other value is an error of the expression.
+pub(crate) fn number_of<'s>(
+    alloc: Global,
+    env: &Env<'_, 's>,
+    scope: &Scope<'s>,
+    expr: &Expr<'s>,
+) -> Result<i64, Fault>
+    ensures { Refines (numbers.number env.now scope.now (tree expr.now)) result }
+{
+    let member = member(alloc, env, scope, expr)?;
+    number_in(expr, &member)
 }

@@ -1,8 +1,8 @@
 -- A text that is short enough and UTF-8 has tokens or a first error.
 use Rattle.std.proofs.Common.{◌≡◌, ℕ, ◌≤◌, List, length, Option, Some, None, MatchOption, IsUtf8}
-use Rattle.net_fault.specs.declared.error_code.ErrorCode.{ErrorCode}
-use Rattle.net_fault.specs.declared.language.Language.{Language}
-use Rattle.net_fault.specs.declared.span.Span.{Span}
+use Rattle.net_base.specs.declared.error_code.ErrorCode.{ErrorCode}
+use Rattle.net_base.specs.declared.diagnostic.Language.{Language}
+use Rattle.net_base.specs.declared.diagnostic.Span.{Span}
 use Rattle.net_lex.specs.declared.token.Token.{Token}
 use Rattle.net_lex.specs.Limits.{limits, text_limit}
 use Rattle.net_lex.specs.Reading.{EndsInGap}

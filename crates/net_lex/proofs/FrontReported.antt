@@ -8,9 +8,9 @@ use Rattle.std.proofs.lemmas.List.Sums.{prefix_len-le-length}
 use Rattle.std.specs.List.{list_all, prefix_len}
 use Rattle.std.specs.Char.{is_ascii_digit, encode_utf8}
 use Rattle.std.specs.Str.{IsCharBoundary, encode_utf8_all}
-use Rattle.net_fault.specs.declared.error_code.ErrorCode.TheVariants.{BadCharacter}
-use Rattle.net_fault.specs.declared.language.Language.{Language}
-use Rattle.net_fault.specs.declared.language.Language.TheVariants.{Model, Data}
+use Rattle.net_base.specs.declared.error_code.ErrorCode.TheVariants.{BadCharacter}
+use Rattle.net_base.specs.declared.diagnostic.Language.{Language}
+use Rattle.net_base.specs.declared.diagnostic.Language.TheVariants.{Model, Data}
 use Rattle.net_lex.specs.declared.shape.Shape.{Shape}
 use Rattle.net_lex.specs.declared.shape.Shape.TheVariants.{Word, Numeral, Quoted, Mark}
 use Rattle.net_lex.specs.declared.shape.BadFront.{BadFront}

@@ -1,14 +1,15 @@
 -- Numerals with an optional sign: what the code reads of a whole text, and what the text spells.
-use Rattle.std.proofs.Common.{◌≡◌, ℕ, Bool, true, false, ◌==◌, List, [], ◌∷◌, ◌++◌, length, Some, None, Option, Ok, Err, refl, sym, ap, ◌∙◌, arith, append-nil}
+use Rattle.std.proofs.Common.{◌≡◌, ◌≤◌, ℕ, pos, Bool, true, false, ◌==◌, List, [], ◌∷◌, ◌++◌, length, Some, None, Option, Ok, Err, refl, sym, ap, ◌∙◌, arith, append-nil}
 use Rattle.std.proofs.lemmas.Bool.{true≢false}
 use Rattle.std.proofs.lemmas.Bool.Decides.{nat_tests}
 use Rattle.std.specs.Char.{is_ascii_digit}
 use Rattle.net_lex.specs.Bytes.{first, minus, is_sign, after_sign}
-use Rattle.net_lex.specs.Numerals.{Parts, AllDigits, SpellsMantissa, plain, pointed, IsSign, unsigned, with_plus, with_minus, SpellsNumeral, SpellsSigned, IsSized, IsValue, IsNumFault, mantissa, up, down, signed}
+use Rattle.net_lex.specs.Numerals.{Parts, AllDigits, AreDigits, digits_value, SpellsMantissa, plain, pointed, IsSign, unsigned, with_plus, with_minus, absent, SpellsNumeral, SpellsSigned, IsSized, IsValue, IsNumFault, mantissa, up, down, signed}
 use Rattle.net_lex.specs.declared.whole.NumFault.{NumFault}
 use Rattle.net_lex.specs.declared.whole.NumFault.TheVariants.{NotNumeral, NotWhole, TooLarge}
 use Rattle.net_lex.specs.NumeralFront.{numeral_at}
 use Rattle.net_lex.proofs.NumeralLemmas.{first_digit}
+use Rattle.net_lex.proofs.SizeLemmas.{whole_of_digits}
 use Rattle.net_lex.proofs.NumeralSpelled.{numeral_read, numeral_spelled, sign_before}
 
 digit_no_sign : (c : ℕ) → is_ascii_digit c ≡ true → is_sign c ≡ false
@@ -82,6 +83,24 @@ sized_value limit n text p e (whole, small) = record {
   size = n;
   spelled = signed_spelled text p e;
   whole = whole;
+  within = small;
+  is = refl;
+}
+
+-- a text of digits alone has the number that they write
+pub digits_spell : (text : List ℕ) → AreDigits text → digits_value text ≤ 1000000000000 → IsValue 1000000000000 text (pos (digits_value text))
+digits_spell text h small = record {
+  negative = false;
+  parts = record { whole = text; fraction = []; negative = false; power = [] };
+  size = digits_value text;
+  spelled = record {
+    sign = [];
+    body = text;
+    joined = refl;
+    signed = unsigned refl refl;
+    numeral = record { front = text; back = []; joined = sym (append-nil text); mantissa = plain h refl refl; power = absent refl refl refl };
+  };
+  whole = rw (append-nil text) (whole_of_digits (digits_value text));
   within = small;
   is = refl;
 }

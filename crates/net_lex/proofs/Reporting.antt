@@ -1,18 +1,18 @@
 -- What is answered of a text, from what its tokens tell.
 use Rattle.std.proofs.Common.{◌≡◌, ℕ, ◌≤◌, Result, Ok, Err, MatchResult, IfOk, IfErr, IsUtf8, List, [], length, refl, arith}
 use Rattle.std.specs.List.{AllByRecursion}
-use Rattle.net_fault.specs.declared.fault.Fault.{Fault}
-use Rattle.net_fault.specs.declared.fault.Fault.TheVariants.{OutOfMemory, At}
-use Rattle.net_fault.specs.Outcomes.{bare}
-use Rattle.net_fault.specs.declared.language.Language.{Language}
+use Rattle.net_base.specs.declared.fault.Fault.{Fault}
+use Rattle.net_base.specs.declared.fault.Fault.TheVariants.{OutOfMemory, At}
+use Rattle.net_base.specs.Outcomes.{bare}
+use Rattle.net_base.specs.declared.diagnostic.Language.{Language}
 use Rattle.net_lex.specs.declared.token.Token.{Token}
 use Rattle.net_lex.specs.Limits.{limits, text_limit}
 use Rattle.net_lex.specs.Reading.{EndsInGap, IsSliceOf}
 use Rattle.net_lex.specs.Faults.{StandSound, IsFaultAfter, HasPlace, after_tokens}
 use Rattle.net_lex.specs.Lexing.{AreTokensOf, IsFirstFault, IsRejection, Lexes}
 use Rattle.net_lex.proofs.FirstFaults.{read_or_rejected}
-use Rattle.net_fault.specs.declared.error_code.ErrorCode.{ErrorCode}
-use Rattle.net_fault.specs.declared.span.Span.{Span}
+use Rattle.net_base.specs.declared.error_code.ErrorCode.{ErrorCode}
+use Rattle.net_base.specs.declared.diagnostic.Span.{Span}
 use Rattle.net_lex.proofs.FaultReading.{no_first_fault}
 use Rattle.net_lex.proofs.SpanLemmas.{slices, after_within}
 use Rattle.net_lex.proofs.StandLemmas.{sound_reads, sound_all}

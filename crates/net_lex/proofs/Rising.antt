@@ -1,9 +1,9 @@
 -- Tokens that rise through a text.
 use Rattle.std.specs.Prelude.{◌≡◌, ℕ, ◌+◌, ◌≤◌, List, [], ◌∷◌, ◌++◌, length}
 use Rattle.std.proofs.Common.{arith}
-use Rattle.net_fault.specs.declared.error_code.ErrorCode.{ErrorCode}
-use Rattle.net_fault.specs.declared.language.Language.{Language}
-use Rattle.net_fault.specs.declared.span.Span.{Span}
+use Rattle.net_base.specs.declared.error_code.ErrorCode.{ErrorCode}
+use Rattle.net_base.specs.declared.diagnostic.Language.{Language}
+use Rattle.net_base.specs.declared.diagnostic.Span.{Span}
 use Rattle.net_lex.specs.declared.token.Token.{Token}
 use Rattle.net_lex.specs.Reading.{IsNext, StandIn, EndsInGap}
 use Rattle.net_lex.specs.Faults as faults
@@ -12,7 +12,7 @@ use Rattle.net_lex.specs.Limits.{limits}
 use Rattle.net_lex.proofs.SpanLemmas.{after_within}
 use Rattle.std.proofs.lemmas.List.{length-append}
 use Rattle.std.proofs.Common.{ap}
-use Rattle.net_fault.specs.Places.{IsSpanIn}
+use Rattle.net_base.specs.Places.{IsSpanIn}
 
 -- tokens that rise without overlap from one place on up to another
 abbrev pub Rise : (from to : ℕ) → List Token → Type 0

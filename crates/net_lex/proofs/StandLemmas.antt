@@ -1,6 +1,6 @@
 -- Tokens that stand one after the other.
 use Rattle.std.proofs.Common.{◌≡◌, ℕ, ◌+◌, List, [], ◌∷◌, ◌++◌, length, sym, ap, arith, subst, append-nil, length-append}
-use Rattle.net_fault.specs.declared.language.Language.{Language}
+use Rattle.net_base.specs.declared.diagnostic.Language.{Language}
 use Rattle.net_lex.specs.declared.token.Token.{Token}
 use Rattle.net_lex.specs.Reading.{IsNext, StandIn, AreSound, EndsInGap}
 use Rattle.net_lex.specs.Limits.{Limits, limits}

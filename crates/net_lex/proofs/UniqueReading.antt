@@ -1,7 +1,7 @@
 -- No two lists of tokens read one text, and no text that is read has a fault.
 use Rattle.std.proofs.Common.{◌≡◌, ℕ, ◌+◌, ◌≤◌, List, [], ◌∷◌, ◌++◌, length, take, drop, Result, Ok, refl, sym, ap, ◌∙◌, arith, subst, length-append, take_at, drop_at}
 use Rattle.std.proofs.lemmas.List.{append_cancel_right}
-use Rattle.net_fault.specs.declared.language.Language.{Language}
+use Rattle.net_base.specs.declared.diagnostic.Language.{Language}
 use Rattle.net_lex.specs.declared.token.Kind.{Kind}
 use Rattle.net_lex.specs.declared.token.Token.{Token}
 use Rattle.net_lex.specs.Gaps.{IsLastGap}

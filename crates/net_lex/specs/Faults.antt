@@ -3,14 +3,14 @@
 use Rattle.std.specs.Prelude.{◌≡◌, ℕ, ◌+◌, ◌≤◌, ◌<◌, true, false, List, ◌∷◌, ◌++◌, length}
 use Rattle.std.specs.Char.{encode_utf8}
 use Rattle.std.specs.Str.{IsUtf8, IsValidUpTo}
-use Rattle.net_fault.specs.declared.error_code.ErrorCode.{ErrorCode}
-use Rattle.net_fault.specs.declared.error_code.ErrorCode.TheVariants.{BadCharacter, OpenString, OpenComment, NotWhole, NumeralTooLarge, NotUtf8, TextTooLong}
-use Rattle.net_fault.specs.declared.fault.Fault.{Fault}
-use Rattle.net_fault.specs.declared.fault.Fault.TheVariants.{OutOfMemory, At}
-use Rattle.net_fault.specs.Outcomes.{bare}
-use Rattle.net_fault.specs.declared.language.Language.{Language}
+use Rattle.net_base.specs.declared.error_code.ErrorCode.{ErrorCode}
+use Rattle.net_base.specs.declared.error_code.ErrorCode.TheVariants.{BadCharacter, OpenString, OpenComment, NotWhole, NumeralTooLarge, NotUtf8, TextTooLong}
+use Rattle.net_base.specs.declared.fault.Fault.{Fault}
+use Rattle.net_base.specs.declared.fault.Fault.TheVariants.{OutOfMemory, At}
+use Rattle.net_base.specs.Outcomes.{bare}
+use Rattle.net_base.specs.declared.diagnostic.Language.{Language}
 use Rattle.net_lex.specs.declared.whole.NumFault.TheVariants as num
-use Rattle.net_fault.specs.declared.span.Span.{Span}
+use Rattle.net_base.specs.declared.diagnostic.Span.{Span}
 use Rattle.net_lex.specs.declared.token.Kind.{Kind}
 use Rattle.net_lex.specs.declared.token.Kind.TheVariants.{Num, Str}
 use Rattle.net_lex.specs.declared.token.Token.{Token}

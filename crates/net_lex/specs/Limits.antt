@@ -1,8 +1,8 @@
 -- Limits of model and data files in this profile: lengths of files and tokens in bytes, and the
 -- absolute value of a numeral.
 use Rattle.std.specs.Prelude.{ℕ}
-use Rattle.net_fault.specs.declared.language.Language.{Language}
-use Rattle.net_fault.specs.declared.language.Language.TheVariants.{Model, Data}
+use Rattle.net_base.specs.declared.diagnostic.Language.{Language}
+use Rattle.net_base.specs.declared.diagnostic.Language.TheVariants.{Model, Data}
 
 -- the maximum length of a token, and the maximum absolute value of a numeral
 pub record Limits : Type 0 where

@@ -1,7 +1,7 @@
 -- Which tokens a text consists of (AMPL book, section A.1), as a condition on the complete list.
 use Rattle.std.specs.Prelude.{◌≡◌, ℕ, ◌+◌, ◌≤◌, false, ◌||◌, List, [], ◌∷◌, ◌++◌, length, slice_range, ℤ}
 use Rattle.std.specs.List.{AllByRecursion}
-use Rattle.net_fault.specs.declared.language.Language.{Language}
+use Rattle.net_base.specs.declared.diagnostic.Language.{Language}
 use Rattle.net_lex.specs.declared.token.Kind.{Kind}
 use Rattle.net_lex.specs.declared.token.Kind.TheVariants.{Num}
 use Rattle.net_lex.specs.declared.token.Token.{Token}

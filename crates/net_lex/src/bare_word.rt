@@ -6,7 +6,7 @@ ghost use Rattle.unicode_ident.specs.Ident.{is_xid_continue};
 ghost use Rattle.net_lex.specs.Characters.{is_word_char};
 ghost use Rattle.net_lex.specs.Shapes.{char_len, word_len};
 
-use crate::cursor::byte_at;
+use crate::bytes::byte_at;
 
 /// Returns whether an identifier can continue with this character. Uses Unicode's table only for
 /// characters outside ASCII.

@@ -1,17 +1,17 @@
 //! Tokens of data files.
 ghost use Rattle.std.specs.Prelude.{◌≡◌, ◌+◌, ◌<◌, ◌^◌, length};
-ghost use Rattle.net_fault.specs.declared.language.Language.TheVariants.{Data};
+ghost use Rattle.net_base.specs.declared.diagnostic.Language.TheVariants.{Data};
 ghost use Rattle.net_lex.specs.Lexing.{Lexes};
 ghost use Rattle.net_lex.specs.Shapes.{data_front};
 
 use crate::bare_word::word_len;
-use crate::cursor::first;
+use crate::bytes::first;
 use crate::shape::{BadFront, Shape, mark_front};
 use crate::string::{is_quote, string_at};
 use crate::token::Token;
 use crate::tokens::lex;
 use crate::words::data_mark_len;
-use net_fault::{Fault, Language};
+use net_base::{Fault, Language};
 use std::alloc::Global;
 
 /// Returns the shape and length of the token at the beginning of a text that starts with neither a

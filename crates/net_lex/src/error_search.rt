@@ -8,7 +8,7 @@ ghost use Rattle.net_lex.specs.declared.token.Token.{Token as Word};
 
 use crate::scan::step;
 use crate::tokens::text_limit;
-use net_fault::{ErrorCode, Language, Span};
+use net_base::{ErrorCode, Language, Span};
 
 fn first_error_in(language: Language, text: &str) -> Option<(ErrorCode, Span)>
     requires { length text.now ≤ 2 ^ 24 }

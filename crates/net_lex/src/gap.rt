@@ -6,7 +6,7 @@ ghost use Rattle.net_lex.specs.GapFront.{place_after, opened_at, after_gap};
 ghost use Rattle.net_lex.specs.Characters.{is_blank};
 ghost use Rattle.net_lex.specs.declared.gap.Place.TheVariants.{Between};
 
-use crate::cursor::byte_at;
+use crate::bytes::byte_at;
 
 /// The state between two bytes of blanks and comments.
 #[derive(Clone, Copy)]

@@ -2,15 +2,14 @@
 #![tactic(auto)]
 
 mod bare_word;
-mod cursor;
+mod bytes;
 mod data_text;
 mod error_search;
 mod gap;
-mod line_ends;
+mod laws;
 mod model_text;
 mod numeral;
 mod places;
-mod reading;
 mod scan;
 mod shape;
 mod significand;
@@ -22,10 +21,9 @@ mod words;
 
 pub use data_text::{DATA_LIMIT, lex_data};
 pub use error_search::first_error;
-pub use line_ends::tokens_have_no_line_ends;
+pub use laws::{one_first_fault, one_reading, read_or_rejected, tokens_have_no_line_ends};
 pub use model_text::{MODEL_LIMIT, lex_model};
-pub use net_fault::{Fault as LexFault, Span};
+pub use net_base::{Fault as LexFault, Span};
 pub use places::line_column;
-pub use reading::{one_first_fault, one_reading, read_or_rejected};
 pub use token::{Kind, Token};
 pub use whole::{NumFault, VALUE_LIMIT, whole_of};

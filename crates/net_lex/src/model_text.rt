@@ -1,19 +1,19 @@
 //! Tokens of models.
 ghost use Rattle.std.specs.Prelude.{◌≡◌, ◌+◌, ◌<◌, ◌^◌, ◌≤◌, length, None};
 ghost use Rattle.std.specs.List.{prefix_len};
-ghost use Rattle.net_fault.specs.declared.language.Language.TheVariants.{Model};
+ghost use Rattle.net_base.specs.declared.diagnostic.Language.TheVariants.{Model};
 ghost use Rattle.net_lex.specs.Lexing.{Lexes};
 ghost use Rattle.net_lex.specs.Characters.{starts_name, continues_name};
 ghost use Rattle.net_lex.specs.Shapes.{unnamed_front, model_front};
 
-use crate::cursor::first;
+use crate::bytes::first;
 use crate::numeral::numeral_at;
 use crate::shape::{BadFront, Shape, mark_front};
 use crate::string::{is_quote, string_at};
 use crate::token::Token;
 use crate::tokens::lex;
 use crate::words::model_mark_len;
-use net_fault::{Fault, Language};
+use net_base::{Fault, Language};
 use std::alloc::Global;
 
 fn starts_name(byte: u8) -> bool

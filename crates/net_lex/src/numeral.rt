@@ -6,7 +6,7 @@ ghost use Rattle.net_lex.specs.Bytes.{after_sign, marks_power, point};
 ghost use Rattle.net_lex.specs.NumeralFront.{mantissa_at, power_at, numeral_at};
 ghost use Rattle.net_lex.specs.NumeralViews.{mantissa_view, power_view, parts_view};
 
-use crate::cursor::{digits, first, rest, second};
+use crate::bytes::{digits, first, rest, second};
 
 /// The parts of a numeral: the digits before and after the decimal point, and the exponent.
 #[derive(Clone, Copy)]

@@ -15,8 +15,7 @@ use crate::shape::{BadFront, Shape};
 use crate::token::{Kind, Token};
 use crate::whole::{NumFault, whole_of};
 use crate::words::is_reserved;
-use net_fault::{ErrorCode, Language, Span};
-use net_views::Excerpt;
+use net_base::{ErrorCode, Excerpt, Language, Span};
 
 /// The maximum length of a token, in bytes.
 const TOKEN_LIMIT: usize = 255;

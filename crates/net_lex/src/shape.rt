@@ -4,7 +4,7 @@ ghost use Rattle.std.specs.Prelude.{◌≡◌};
 ghost use Rattle.net_lex.specs.Shapes.{mark_front};
 
 use crate::bare_word::char_len;
-use net_fault::ErrorCode;
+use net_base::ErrorCode;
 
 /// The lexical form of a token.
 #[derive(Clone, Copy)]

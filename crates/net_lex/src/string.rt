@@ -3,9 +3,9 @@ ghost use Rattle.std.specs.Prelude.{◌≡◌, ◌+◌, ◌<◌, ◌^◌, false,
 ghost use Rattle.net_lex.specs.Shapes.{delimited_after, string_end, IsEndWithin, string_at};
 ghost use Rattle.net_lex.specs.Characters.{is_control, is_quote};
 
-use crate::cursor::{first, rest};
+use crate::bytes::{first, rest};
 use crate::shape::{BadFront, Shape};
-use net_fault::ErrorCode;
+use net_base::ErrorCode;
 
 /// The end of a string, counted from the byte after its opening quotation mark.
 #[derive(Clone, Copy)]

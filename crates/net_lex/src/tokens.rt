@@ -9,7 +9,7 @@ use crate::data_text::DATA_LIMIT;
 use crate::model_text::MODEL_LIMIT;
 use crate::scan::step;
 use crate::token::Token;
-use net_fault::{Detail, ErrorCode, Fault, Language, Span};
+use net_base::{Detail, ErrorCode, Fault, Language, Span};
 use std::alloc::Global;
 
 fn tokens_of<'s>(alloc: Global, language: Language, text: &'s str) -> Result<Vec<Token<'s>>, Fault>

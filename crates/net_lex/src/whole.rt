@@ -1,12 +1,12 @@
 //! The integer value of a numeral.
 
-ghost use Rattle.std.specs.Prelude.{◌≡◌, ◌≤◌, min, MatchResult};
+ghost use Rattle.std.specs.Prelude.{◌≡◌, ◌≤◌, min, IfSome, MatchResult};
 ghost use Rattle.net_lex.specs.Limits.{limits};
 ghost use Rattle.net_lex.specs.NumeralViews.{parts_view};
-ghost use Rattle.net_lex.specs.Numerals.{AllDigits, digits_value, mantissa, up, down, IsSized, signed, IsValue, IsNumFault};
+ghost use Rattle.net_lex.specs.Numerals.{AllDigits, AreDigits, digits_value, mantissa, up, down, IsSized, signed, IsValue, IsNumFault};
 ghost use Rattle.net_lex.specs.Significands.{whole_value};
 
-use crate::cursor::first;
+use crate::bytes::first;
 use crate::numeral::{Parts, numeral_at, skip_sign};
 use crate::significand::{PAST_LIMIT, Significand, ten_to, with_digits};
 use thiserror::Error;
@@ -107,8 +107,7 @@ fn scaled_size(parts: &Parts<'_>) -> Result<u64, NumFault>
     }
 }
 
-/// Returns the integer value of a numeral's parts, or the reason why there is none. Most numerals
-/// are digits alone, which take one pass.
+/// Returns the integer value of a numeral's parts, or the reason why there is none.
 fn size_of(parts: &Parts<'_>) -> Result<u64, NumFault>
     requires whole { AllDigits parts.now.whole.now }
     requires fraction { AllDigits parts.now.fraction.now }
@@ -131,12 +130,36 @@ fn with_sign(negative: bool, size: u64) -> i64
     }
 }
 
+/// Returns the number written by a text of digits alone, if it is at most 10^12.
+fn plain_value(text: &[u8]) -> Option<u64>
+    ensures { IfSome result (λ value. AreDigits text.now × (value ≡ digits_value text.now) × (value ≤ limits.value)) }
+{
+    if text.is_empty() {
+        return None;
+    }
+    let mut value: u64 = 0;
+    for byte in text {
+        if !byte.is_ascii_digit() {
+            return None;
+        }
+        value = 10 * value + u64::from(byte.saturating_sub(b'0'));
+        if value > VALUE_LIMIT {
+            return None;
+        }
+    }
+    Some(value)
+}
+
 /// Returns the exact value of a numeral with an optional sign, if it is an integer of absolute
 /// value at most 10^12.
 pub fn whole_of(numeral: &str) -> Result<i64, NumFault>
     ensures value { MatchResult result (λ v. IsValue limits.value numeral.now v) (λ why. IsNumFault limits.value numeral.now why) }
 {
     let bytes = numeral.as_bytes();
+    // Most numerals are digits alone, which take one pass.
+    if let Some(value) = plain_value(bytes) {
+        return Ok(with_sign(false, value));
+    }
     let Some((parts, after)) = numeral_at(skip_sign(bytes)) else {
         return Err(NumFault::NotNumeral);
     };

@@ -5,7 +5,7 @@ ghost use Rattle.std.specs.List.{filter};
 ghost use Rattle.net_lex.specs.Bytes.{first};
 ghost use Rattle.net_lex.specs.Words.{reserved, is_among, is_reserved, model_marks, model_mark_len, data_mark_len};
 
-use crate::cursor::{first, second};
+use crate::bytes::{first, second};
 
 /// Returns the reserved words of models that begin with this letter.
 fn reserved_with(letter: u8) -> &'static [&'static [u8]]

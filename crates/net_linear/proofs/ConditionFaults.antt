@@ -1,7 +1,7 @@
 -- What a node's condition is refused for stands at one of its expressions, or at the whole of them.
 use Rattle.std.specs.Prelude.{◌&&◌, Option, None, Some, ℤ}
-use Rattle.net_fault.specs.declared.span.Span.{Span}
-use Rattle.net_fault.specs.declared.language.Language.TheVariants.{Model}
+use Rattle.net_base.specs.declared.diagnostic.Span.{Span}
+use Rattle.net_base.specs.declared.diagnostic.Language.TheVariants.{Model}
 use Rattle.net_lex.specs.declared.token.Token.{Token}
 use Rattle.net_tree.specs.Role.{role_of}
 use Rattle.net_tree.specs.Tree.{Tree, Condition, unsaid, one, between}
@@ -13,11 +13,11 @@ use Rattle.net_linear.specs.declared.condition.Sides.{Sides}
 use Rattle.net_linear.specs.declared.net_term.NetTerm.{NetTerm}
 use Rattle.net_linear.specs.declared.net_term.NetTerm.TheVariants.{Absent, Inflow, Outflow, Unclear}
 use Rattle.net_linear.specs.Amounts.{number_or_none}
-use Rattle.net_linear.specs.Conditions.{comparison_in, solved, solved_sides, met_ends, met, from_to, solved_twice, one_in, between_in, sides_in, range_in}
+use Rattle.net_linear.specs.Conditions.{comparison_in, solved, solved_sides, met_ends, met, from_to, one_in, between_in, sides_in, range_in}
 use Rattle.net_linear.specs.NetTerms.{net_side}
-use Rattle.net_fault.specs.Places.{Places, Finds}
+use Rattle.net_base.specs.Places.{Places, Finds}
 use Rattle.net_tree.specs.Standing.{Stands, ConditionHasSpans}
-use Rattle.net_fault.proofs.Found.{finds_then, finds_if}
+use Rattle.net_base.proofs.Found.{finds_then, finds_if}
 use Rattle.net_expr.proofs.ValueFaults.{finds_value}
 
 module _ (P : Places) (at : Span) (h : P Model at) where
@@ -55,10 +55,6 @@ module _ (P : Places) (at : Span) (h : P Model at) where
   finds_met : (r q : Sides) → Finds P (met at r q)
   finds_met r q = finds_met_ends r.low r.high q.low q.high
 
-  finds_solved_twice : (c d : Option Comparison) (m n k : NetTerm) (a b e : Option ℤ) → Finds P (solved_twice at c d m n k a b e)
-  finds_solved_twice c d m n k a b e =
-      finds_then P (solved_sides at c m n a b) _ (finds_solved_sides c m n a b) (λ r. finds_then P (solved_sides at d n k b e) (met at r) (finds_solved_sides d n k b e) (finds_met r))
-
 module _ (P : Places) (w : World) (s : Scope) where
   pub finds_number_or_none : (t : Tree) → Stands (P Model) t → Finds P (number_or_none w s t)
   finds_number_or_none t h = finds_then P (value w s t) _ (finds_value P w s t h) (λ v. tt)
@@ -73,7 +69,8 @@ module _ (P : Places) (w : World) (s : Scope) where
   finds_between_in x o z p u h i j k =
       finds_then P (number_or_none w s x) _ (finds_number_or_none x i) (λ a. finds_then P (number_or_none w s z) _ (finds_number_or_none z j) (λ b.
       finds_then P (number_or_none w s u) _ (finds_number_or_none u k) (λ e.
-      finds_solved_twice P (from_to x u) h (comparison_in (role_of o)) (comparison_in (role_of p)) (net_side x) (net_side z) (net_side u) a b e)))
+      finds_then P (solved_sides (from_to x u) (comparison_in (role_of o)) (net_side x) (net_side z) a b) _ (finds_solved_sides P (from_to x u) h (comparison_in (role_of o)) (net_side x) (net_side z) a b) (λ r.
+      finds_then P (solved_sides (from_to x u) (comparison_in (role_of p)) (net_side z) (net_side u) b e) (met (from_to x u) r) (finds_solved_sides P (from_to x u) h (comparison_in (role_of p)) (net_side z) (net_side u) b e) (finds_met P (from_to x u) h r)))))
 
   finds_sides_in : (c : Condition) → ConditionHasSpans (P Model) c → Finds P (sides_in w s c)
   finds_sides_in unsaid h = tt

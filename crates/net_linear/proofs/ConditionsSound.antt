@@ -5,15 +5,14 @@ use Rattle.std.specs.Str.{bytes_eq}
 use Rattle.std.proofs.Common.{refl, ap, sym, ◌∙◌, subst, arith, inr}
 use Rattle.std.proofs.lemmas.Bool.Decides.{Decides-int_eq}
 use Rattle.std.proofs.lemmas.Int.{ints}
-use Rattle.net_fault.specs.declared.span.Span.{Span}
-use Rattle.net_fault.specs.Outcomes.{Outcome, and_then, rejected}
+use Rattle.net_base.specs.declared.diagnostic.Span.{Span}
+use Rattle.net_base.specs.Outcomes.{Outcome, and_then, rejected}
 use Rattle.net_linear.specs.declared.condition.Sides.{Sides}
 use Rattle.net_linear.specs.declared.condition.Comparison.{Comparison}
 use Rattle.net_linear.specs.declared.condition.Comparison.TheVariants.{Equal, AtMost, AtLeast}
 use Rattle.net_linear.specs.declared.net_term.NetTerm.{NetTerm}
 use Rattle.net_linear.specs.Amounts.{as_number, number_or_none}
 use Rattle.net_linear.specs.Conditions.{comparison_in, number_of, term_at, with_term, terms_at, side_at, sides_in, Compares, solved_sides, met, from_to}
-use Rattle.net_linear.specs.NetTerms as linear
 use Rattle.net_linear.specs.NetTerms.{are_terms, net_side}
 use Rattle.net_linear.specs.Signs.{is_sign}
 use Rattle.net_lex.specs.declared.token.Token.{Token}
@@ -23,13 +22,13 @@ use Rattle.net_tree.specs.declared.operator.BinOp.{BinOp}
 use Rattle.net_tree.specs.declared.operator.BinOp.TheVariants as op
 use Rattle.net_lex.specs.declared.token.Kind.{Kind}
 use Rattle.net_lex.specs.declared.token.Kind.TheVariants as kinds
-use Rattle.net_fault.specs.declared.error_code.ErrorCode.TheVariants.{KindMismatch, ValueTooLarge}
+use Rattle.net_base.specs.declared.error_code.ErrorCode.TheVariants.{KindMismatch, ValueTooLarge}
 use Rattle.net_tree.specs.declared.role.Role.{Role}
 use Rattle.net_tree.specs.declared.operator.Words.TheVariants as words
 use Rattle.net_tree.specs.Role.{role_of, role_as, role_in, marks, keys}
 use Rattle.net_expr.specs.Limits.{is_small}
 use Rattle.std.proofs.lemmas.Slice.Eq.{bytes_eq-Decides}
-use Rattle.net_tree.specs.Erasure.{expression, condition, is_outflow}
+use Rattle.net_tree.specs.Erasure.{expression, condition}
 use Rattle.net_tree.specs.Operations.{operation, operation_in, operations, is_range}
 use Rattle.net_tree.specs.Spans.{span_of}
 use Rattle.net_tree.specs.Tree.{Tree, Links, leaf, indexed, parens, tuple, negated, braced, signed, reduced, chain, choice, net, none, link, Condition, unsaid, one, between}
@@ -44,10 +43,10 @@ use Rattle.net_expr.specs.Worlds.{Name, World, Scope}
 use Rattle.net_expr.proofs.Parting.{then_ok, is_ok}
 use Rattle.net_meaning.specs.Network.{IsNumeric, HasSides}
 use Rattle.net_meaning.specs.OfTrees as meant
-use Rattle.net_meaning.specs.OfTrees.{AreOperandValues, IsValue, AreValues, IsChain, IsSatisfied}
+use Rattle.net_meaning.specs.OfTrees.{AreOperandValues, IsValue, IsChain}
 use Rattle.net_meaning.specs.Laws.{meaning_of, IsArcFree, AreArcFree}
 use Rattle.net_linear.specs.Soundness.{IsTermArcFree, AreTermsArcFree, IsSideArcFree, IsConditionArcFree, ConditionsAreSound}
-use Rattle.net_meaning.specs.Operators.{Value, Truth, number, IsResult, Combines}
+use Rattle.net_meaning.specs.Operators.{Truth, number, IsResult}
 use Rattle.net_meaning.specs.Operators as make
 use Rattle.net_meaning.specs.Values.{env_with, Env, Whether, HasRange}
 use Rattle.net_meaning.proofs.Erased.{begins_range_is}
@@ -75,7 +74,6 @@ module _ (g : Name → Option (Tuple → ℤ)) (y : ℤ) (w : World) (sets : Has
       subst (λ n. IsValue E x (number n)) (sym same) (gives_ok (λ v. IsValue E x (meaning_of v)) (value w s x) (of c) (value_is_sound g y w sets s x z) e)
 
   net_is : (t : Option Token) (u : Token) → IsValue E (net t u) (number (term_at w s (net t u) y))
-  unfolding linear.is_outflow is_outflow
   net_is None u = refl
   net_is (Some t) u = refl
 

@@ -3,8 +3,8 @@ use Rattle.std.specs.Prelude.{◌≡◌, ◌+◌, ◌<◌, ◌||◌, ◌&&◌, n
 use Rattle.std.proofs.Common.{refl, ap, sym, ◌∙◌, subst}
 use Rattle.std.proofs.Math.Seq.{drop-cons}
 use Rattle.std.proofs.Common.{add-one}
-use Rattle.net_fault.specs.declared.language.Language.TheVariants as languages
-use Rattle.net_fault.specs.declared.span.Span.{Span}
+use Rattle.net_base.specs.declared.diagnostic.Language.TheVariants as languages
+use Rattle.net_base.specs.declared.diagnostic.Span.{Span}
 use Rattle.net_lex.specs.declared.token.Token.{Token}
 use Rattle.net_tree.specs.declared.expr.Link.{Link, out-Link}
 use Rattle.net_tree.specs.Spans.{span_of}
@@ -15,14 +15,14 @@ use Rattle.net_expr.specs.declared.row.Row.{Row}
 use Rattle.net_tree.specs.Operations.{reduction, is_minus, operation}
 use Rattle.net_expr.specs.Values.{index}
 use Rattle.net_expr.specs.Worlds.{World, Scope}
-use Rattle.net_fault.specs.declared.fault.Fault.{Fault}
-use Rattle.net_fault.specs.declared.fault.Fault.TheVariants.{OutOfMemory, At}
+use Rattle.net_base.specs.declared.fault.Fault.{Fault}
+use Rattle.net_base.specs.declared.fault.Fault.TheVariants.{OutOfMemory, At}
 use Rattle.net_linear.specs.Arcs.{Arcs}
 use Rattle.net_linear.specs.Forms.{Linear, Term, join, turn, total, gathered, gathered_over}
 use Rattle.net_linear.specs.Objectives.{names_arc, any_arc, first_or_any, braces_arc, is_sum, is_linear, mixed, linear, key_of, arc_term, condition, objective, otherwise, chained, with_arcs}
-use Rattle.net_fault.specs.Outcomes.{Outcome, Refines, and_then, rejected, bare}
-use Rattle.net_fault.specs.declared.error_code.ErrorCode.TheVariants.{NotLinear}
-use Rattle.net_fault.specs.declared.detail.Detail.TheVariants.{Nothing}
+use Rattle.net_base.specs.Outcomes.{Outcome, Refines, and_then, rejected, bare}
+use Rattle.net_base.specs.declared.error_code.ErrorCode.TheVariants.{NotLinear}
+use Rattle.net_base.specs.declared.diagnostic.Detail.TheVariants.{Nothing}
 
 -- what is answered of one outcome is answered of an equal one
 pub answers_by : {A : Type 0} (o wanted : Outcome A) (r : Result A Fault) → wanted ≡ o → Refines o r → Refines wanted r

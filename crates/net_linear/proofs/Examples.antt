@@ -1,5 +1,5 @@
 -- Conditions and objectives worked out.
-use Rattle.std.specs.Prelude.{◌≡◌, ℕ, List, [], ◌∷◌, Option, None, Some, Ok, Err, pos, negsuc, codes}
+use Rattle.std.specs.Prelude.{◌≡◌, ℕ, List, [], ◌∷◌, None, Some, Ok, Err, pos, negsuc, codes}
 use Rattle.std.proofs.Common.{refl}
 use Rattle.net_lex.specs.NumeralFront.{mantissa_at, power_at, numeral_at}
 use Rattle.net_lex.specs.Significands.{whole_value}
@@ -9,15 +9,14 @@ use Rattle.net_tree.specs.declared.operator.Words.TheVariants as operator
 use Rattle.net_tree.specs.Role.{role_of, marks, keys}
 use Rattle.net_tree.specs.Spans.{span_of, span_between, braces_span}
 use Rattle.net_tree.specs.Tree.{Tree, leaf, chain, net, none, link, one, between, unsaid}
-use Rattle.net_fault.specs.declared.language.Language.TheVariants as languages
-use Rattle.net_fault.specs.declared.detail.Detail.TheVariants.{Nothing}
-use Rattle.net_fault.specs.declared.error_code.ErrorCode.TheVariants.{KindMismatch, NodeCrossed, NotLinear}
+use Rattle.net_base.specs.declared.diagnostic.Language.TheVariants as languages
+use Rattle.net_base.specs.declared.diagnostic.Detail.TheVariants.{Nothing}
+use Rattle.net_base.specs.declared.error_code.ErrorCode.TheVariants.{NotLinear}
 use Rattle.net_expr.specs.Limits.{is_small}
-use Rattle.net_tree.specs.Operations.{operations, operation, reduction, is_minus}
-use Rattle.net_expr.specs.Numbers.{number_in}
+use Rattle.net_tree.specs.Operations.{operations, operation, reduction, is_minus, is_outflow}
+use Rattle.net_tree.specs.Numerals.{number_in}
 use Rattle.net_linear.specs.Arcs.{Arcs}
 use Rattle.net_linear.specs.Conditions.{range_in}
-use Rattle.net_linear.specs.NetTerms.{is_outflow}
 use Rattle.net_linear.specs.Objectives.{objective_form}
 
 abbrev name : List ℕ → ℕ → ℕ → Token

@@ -1,21 +1,21 @@
 -- What arithmetic on forms and references to arcs are refused for stands at the place that they are given.
 use Rattle.std.specs.Prelude.{ℕ, Bool, true, false, ◌&&◌, List, [], ◌∷◌, length, nat_eq, Option, None, Some, ℤ, pos, int_div, int_rem}
-use Rattle.net_fault.specs.declared.span.Span.{Span}
-use Rattle.net_fault.specs.declared.detail.Detail.{Detail}
-use Rattle.net_fault.specs.declared.language.Language.TheVariants.{Model}
-use Rattle.net_fault.specs.Outcomes.{Outcome}
+use Rattle.net_base.specs.declared.diagnostic.Span.{Span}
+use Rattle.net_base.specs.declared.diagnostic.Detail.{Detail}
+use Rattle.net_base.specs.declared.diagnostic.Language.TheVariants.{Model}
+use Rattle.net_base.specs.Outcomes.{Outcome}
 use Rattle.net_sets.specs.Sets.{Tuple, place_of}
 use Rattle.net_expr.specs.Limits.{is_small}
 use Rattle.net_expr.specs.Numbers.{divides}
 use Rattle.net_expr.specs.Worlds.{Name, key_count, reference}
-use Rattle.net_linear.specs.declared.arc.ArcKeys.{ArcKeys}
+use Rattle.net_linear.specs.declared.key_numbers.KeyNumbers.{KeyNumbers}
 use Rattle.net_tree.specs.declared.operator.BinOp.{BinOp}
 use Rattle.net_tree.specs.declared.operator.BinOp.TheVariants as joints
 use Rattle.net_linear.specs.Arcs.{numbered, arc_at}
 use Rattle.net_linear.specs.Forms.{Linear, Term, just, one_arc, combined, is_number, if_sized, within, sized, minus_one, times, quotient, divided, joined, join, scaled, turn}
 use Rattle.net_linear.specs.Forms.{or_too_large, priced, gathered, gathered_over, total, as_form}
-use Rattle.net_fault.specs.Places.{Places, Finds}
-use Rattle.net_fault.proofs.Found.{finds_then, finds_if}
+use Rattle.net_base.specs.Places.{Places, Finds}
+use Rattle.net_base.proofs.Found.{finds_then, finds_if}
 
 module _ (P : Places) (at : Span) (h : P Model at) where
   finds_within : (t : Term) → Finds P (within at t)
@@ -84,7 +84,7 @@ module _ (P : Places) (at : Span) (h : P Model at) where
   finds_numbered d first None = h
   finds_numbered d first (Some place) = tt
 
-  pub finds_arc_at : (name : Name) (a : Option ArcKeys) (key : Tuple) → Finds P (arc_at at name a key)
+  pub finds_arc_at : (name : Name) (a : Option KeyNumbers) (key : Tuple) → Finds P (arc_at at name a key)
   finds_arc_at name None key = h
   finds_arc_at name (Some a) key =
       finds_if P (nat_eq (length key) (key_count a.keys)) _ _ (finds_numbered (reference name a.keys key) a.first (place_of a.index key)) h

@@ -3,12 +3,12 @@ use Rattle.std.specs.Prelude.{◌≡◌, ℕ, Bool, true, false, not, ◌&&◌, 
 use Rattle.std.proofs.Common.{refl, ap, sym, ◌∙◌, arith}
 use Rattle.std.proofs.lemmas.Int.{ints}
 use lib.IntN.{*ℤ_comm}
-use Rattle.net_fault.specs.declared.span.Span.{Span}
+use Rattle.net_base.specs.declared.diagnostic.Span.{Span}
 use Rattle.net_tree.specs.Spans.{span_of}
 use Rattle.net_tree.specs.Tree.{Tree}
 use Rattle.net_expr.specs.declared.row.Row.{Row}
 use Rattle.net_expr.specs.declared.row.Keys.{Keys}
-use Rattle.net_fault.specs.declared.error_code.ErrorCode.TheVariants.{ValueTooLarge, DivMod, NotLinear}
+use Rattle.net_base.specs.declared.error_code.ErrorCode.TheVariants.{ValueTooLarge, DivMod, NotLinear}
 use Rattle.net_expr.specs.Limits.{is_small}
 use Rattle.net_expr.specs.Numbers.{turned, divides}
 use Rattle.net_expr.specs.Worlds.{World, Scope}
@@ -17,9 +17,9 @@ use Rattle.net_tree.specs.declared.operator.BinOp.TheVariants.{Plus, Minus, Time
 use Rattle.net_linear.specs.Conditions.{number_of}
 use Rattle.net_linear.specs.Forms.{Products, more, with_times, all_small, Linear, just, one_arc, combined, is_number, Term, sized, minus_one, is_sized, within, times, divided, joined, join, turn, gathered, gathered_over, total, as_form, or_too_large, priced, products_at, form_at}
 use Rattle.net_linear.specs.Objectives.{plain_term, mixed, linear}
-use Rattle.net_fault.specs.Outcomes.{Outcome, Refines, and_then, rejected}
+use Rattle.net_base.specs.Outcomes.{Outcome, Refines, and_then, rejected}
 use Rattle.net_linear.specs.Amounts.{number_or_none}
-use Rattle.net_fault.specs.declared.fault.Fault.{Fault}
+use Rattle.net_base.specs.declared.fault.Fault.{Fault}
 use Rattle.net_linear.specs.ObjectiveValues.{read, number_at, combine, sum_over, sum_in, choose}
 use Rattle.net_normal.proofs.WholeNumbers.{mul-add}
 use Rattle.net_linear.proofs.Ranges.{ok_then}

@@ -1,38 +1,36 @@
 -- What a sum comes to where the net inflow is a number: what it comes to with 0, and the net term of that number.
-use Rattle.std.specs.Prelude.{◌≡◌, ◌+◌, ◌<◌, Bool, true, false, ◌&&◌, List, [], ◌∷◌, length, get_or, drop, ℕ, Option, None, Some, Result, Ok, Err, ℤ, pos, ◌+ℤ◌, ◌-ℤ◌, neg_ℤ, codes, if◌then◌else◌}
-use Rattle.std.specs.Str.{bytes_eq}
+use Rattle.std.specs.Prelude.{◌≡◌, ◌+◌, ◌<◌, Bool, true, false, ◌&&◌, List, [], ◌∷◌, length, get_or, drop, ℕ, Option, Some, Ok, Err, ℤ, pos, ◌+ℤ◌, ◌-ℤ◌, neg_ℤ, if◌then◌else◌}
 use Rattle.std.proofs.Common.{refl, ap, sym, ◌∙◌, arith}
 use Rattle.std.proofs.lemmas.Int.{ints}
-use Rattle.net_fault.specs.declared.span.Span.{Span}
-use Rattle.net_lex.specs.declared.token.Token.{Token}
+use Rattle.net_base.specs.declared.diagnostic.Span.{Span}
 use Rattle.net_sets.specs.declared.member.Member.TheVariants.{Number, Name}
 use Rattle.net_tree.specs.declared.expr.Link.{Link, out-Link}
 use Rattle.net_tree.specs.declared.operator.Words.{Words as Operator}
-use Rattle.net_tree.specs.declared.operator.Words.TheVariants.{One, Two}
+use Rattle.net_tree.specs.declared.operator.Words.TheVariants.{One}
 use Rattle.net_tree.specs.Spans.{span_of}
 use Rattle.net_tree.specs.Tree.{Tree, Links, leaf, indexed, parens, tuple, negated, braced, signed, reduced, chain, choice, net, none, link}
 use Rattle.net_tree.specs.View.{tree, links_of}
 use Rattle.net_tree.proofs.Views.{next_link}
 use Rattle.net_tree.specs.declared.operator.BinOp.{BinOp}
 use Rattle.net_tree.specs.declared.operator.BinOp.TheVariants as op
-use Rattle.net_fault.specs.declared.error_code.ErrorCode.TheVariants.{ValueTooLarge, KindMismatch}
+use Rattle.net_base.specs.declared.error_code.ErrorCode.TheVariants.{ValueTooLarge}
 use Rattle.net_expr.specs.declared.value.Value.{Value}
 use Rattle.net_expr.specs.declared.value.Value.TheVariants as values
 use Rattle.net_expr.specs.Limits.{is_small}
 use Rattle.net_expr.specs.Items.{begins_range}
 use Rattle.net_expr.specs.Numbers.{number, turned, plus, less as minus, range_of}
-use Rattle.net_tree.specs.Operations.{operation, operations, operation_in, is_range}
+use Rattle.net_tree.specs.Operations.{operation, is_range, has_minus, is_outflow}
 use Rattle.net_expr.specs.Operators.{apply, decided, of_numbers}
 use Rattle.net_expr.specs.Values.{value, values as each_value, chained, either}
 use Rattle.net_expr.specs.Worlds.{World, Scope}
 use Rattle.net_tree.specs.declared.operator.BinOp.{BinOp}
-use Rattle.net_tree.specs.declared.operator.BinOp.TheVariants.{Plus, Minus, Times, Div, Mod}
+use Rattle.net_tree.specs.declared.operator.BinOp.TheVariants.{Plus, Minus}
 use Rattle.net_linear.specs.declared.net_term.NetTerm.{NetTerm}
 use Rattle.net_linear.specs.declared.net_term.NetTerm.TheVariants.{Absent, Inflow, Outflow, Unclear}
 use Rattle.net_linear.specs.Conditions.{number_of, term_at, with_term, terms_at, side_at}
 use Rattle.net_linear.specs.Signs.{is_sign}
-use Rattle.net_linear.specs.NetTerms.{has_minus, is_outflow, with_sign, negated as turned_term, net_term, beside, behind, net_terms, net_side, at_inflow, are_terms}
-use Rattle.net_fault.specs.Outcomes.{Outcome, and_then, rejected}
+use Rattle.net_linear.specs.NetTerms.{with_sign, negated as turned_term, net_term, beside, behind, net_terms, net_side, at_inflow, are_terms}
+use Rattle.net_base.specs.Outcomes.{Outcome, and_then, rejected}
 use Rattle.net_linear.specs.Amounts.{as_number, number_or_none}
 
 -- a step of a walk over links

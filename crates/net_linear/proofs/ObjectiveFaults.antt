@@ -1,8 +1,8 @@
 -- What an objective's expression is refused for stands at one of its parts.
 use Rattle.std.specs.Prelude.{Bool, true, false, not, ◌&&◌, [], ◌∷◌, Option, None, Some, if◌then◌else◌, Ok, ℤ}
-use Rattle.net_fault.specs.declared.span.Span.{Span}
-use Rattle.net_fault.specs.declared.language.Language.TheVariants.{Model}
-use Rattle.net_fault.specs.Outcomes.{Outcome, and_then}
+use Rattle.net_base.specs.declared.diagnostic.Span.{Span}
+use Rattle.net_base.specs.declared.diagnostic.Language.TheVariants.{Model}
+use Rattle.net_base.specs.Outcomes.{Outcome, and_then}
 use Rattle.net_sets.specs.Sets.{Tuple}
 use Rattle.net_tree.specs.Spans.{span_of}
 use Rattle.net_tree.specs.Tree.{Tree, Links, Part, leaf, indexed, parens, tuple, negated, braced, signed, reduced, chain, choice, net, none, link, absent, part}
@@ -15,9 +15,9 @@ use Rattle.net_linear.specs.Arcs.{Arcs, declared, arc_at}
 use Rattle.net_linear.specs.Forms.{Term, just, join, turn, total, as_form}
 use Rattle.net_linear.specs.Objectives.{names_arc, braces_arc, first_or_any, is_linear, is_sum, plain_term, mixed, linear, key_of, arc_term, condition, objective, otherwise, chained}
 use Rattle.net_linear.specs.Objectives.{with_arcs, objective_form}
-use Rattle.net_fault.specs.Places.{Places, Finds}
+use Rattle.net_base.specs.Places.{Places, Finds}
 use Rattle.net_tree.specs.Standing.{Stands, LinksStand, PartStands}
-use Rattle.net_fault.proofs.Found.{finds_then, finds_if}
+use Rattle.net_base.proofs.Found.{finds_then, finds_if}
 use Rattle.net_expr.proofs.OperatorFaults.{finds_truth, finds_tuple_of}
 use Rattle.net_expr.proofs.ValueFaults.{whole_stands, finds_value, finds_values, finds_index}
 use Rattle.net_linear.proofs.FormFaults.{finds_sized, finds_join, finds_turn, finds_total, finds_as_form, finds_arc_at}

@@ -3,9 +3,9 @@ use Rattle.std.specs.Prelude.{◌≡◌, ◌&&◌, ◌||◌, ℕ, zero, suc, Boo
 use Rattle.std.specs.List.{AllZip}
 use Rattle.std.proofs.Common.{refl, ap, sym, ◌∙◌, subst, arith, inr}
 use Rattle.std.proofs.lemmas.Int.{ints}
-use Rattle.net_fault.specs.declared.span.Span.{Span}
-use Rattle.net_fault.specs.declared.error_code.ErrorCode.TheVariants.{NotLinear, DivMod}
-use Rattle.net_fault.specs.Outcomes.{Outcome, and_then, rejected}
+use Rattle.net_base.specs.declared.diagnostic.Span.{Span}
+use Rattle.net_base.specs.declared.error_code.ErrorCode.TheVariants.{NotLinear, DivMod}
+use Rattle.net_base.specs.Outcomes.{Outcome, and_then, rejected}
 use Rattle.net_linear.specs.Amounts.{as_number}
 use Rattle.net_linear.specs.Arcs.{Arcs, declared, is_arc, arc_at}
 use Rattle.net_linear.specs.Forms.{Linear, Products, Term, products_at, just, one_arc, combined, is_number, is_sized, within, sized, times, divided, joined, join, turn, gathered, gathered_over, total, as_form, form_at}

@@ -1,27 +1,26 @@
 -- The range of a condition holds exactly the net inflows of which the condition is true.
-use Rattle.std.specs.Prelude.{◌≡◌, ◌&&◌, ◌||◌, Bool, true, false, Option, None, Some, is_some, IsTrue, if◌then◌else◌, Result, Ok, Err, IfOk, IfSome, ◌↔◌, ℤ, pos, ◌+ℤ◌, ◌-ℤ◌, ◌≤ℤ◌, ◌<ℤ◌, neg_ℤ, int_lt}
+use Rattle.std.specs.Prelude.{◌≡◌, ◌&&◌, ◌||◌, Bool, true, false, Option, None, Some, if◌then◌else◌, Result, Ok, Err, IfOk, IfSome, ◌↔◌, ℤ, pos, ◌+ℤ◌, ◌-ℤ◌, ◌≤ℤ◌, ◌<ℤ◌}
 use Rattle.std.specs.Option.{ForSome}
-use Rattle.std.proofs.Common.{refl, sym, ◌∙◌, subst, arith}
+use Rattle.std.proofs.Common.{refl, ◌∙◌, subst, arith}
 use Rattle.std.proofs.lemmas.Int.{ints}
-use Rattle.net_fault.specs.declared.span.Span.{Span}
-use Rattle.net_lex.specs.declared.token.Token.{Token}
+use Rattle.net_base.specs.declared.diagnostic.Span.{Span}
 use Rattle.net_normal.specs.declared.instance.NodeRange.{NodeRange}
 use Rattle.net_normal.specs.Assignments.{IsInRange}
 use Rattle.net_normal.specs.Limits.{IsSized, range_limit}
 use Rattle.net_tree.specs.Tree.{Tree, Condition, unsaid, one, between}
 use Rattle.net_tree.specs.Role.{role_of}
-use Rattle.net_fault.specs.declared.error_code.ErrorCode.TheVariants.{ValueTooLarge}
+use Rattle.net_base.specs.declared.error_code.ErrorCode.TheVariants.{ValueTooLarge}
 use Rattle.net_expr.specs.Limits.{is_small}
 use Rattle.net_expr.specs.Worlds.{World, Scope}
 use Rattle.net_linear.specs.declared.condition.Comparison.{Comparison}
 use Rattle.net_linear.specs.declared.condition.Comparison.TheVariants.{Equal, AtMost, AtLeast}
 use Rattle.net_linear.specs.declared.condition.Sides.{Sides}
-use Rattle.net_fault.specs.declared.fault.Fault.{Fault}
+use Rattle.net_base.specs.declared.fault.Fault.{Fault}
 use Rattle.net_linear.specs.declared.net_term.NetTerm.{NetTerm}
 use Rattle.net_linear.specs.declared.net_term.NetTerm.TheVariants.{Absent, Inflow, Outflow}
-use Rattle.net_linear.specs.Conditions.{comparison_in, number_of, side_at, Compares, Holds, compared_with, flipped, solved, solved_sides, met_ends, met, from_to, solved_twice, one_in, between_in, sides_in, are_crossed, uncrossed, range_in, AreSides, AnswersRange}
+use Rattle.net_linear.specs.Conditions.{comparison_in, side_at, Compares, Holds, compared_with, flipped, solved, solved_sides, met_ends, from_to, sides_in, are_crossed, uncrossed, range_in, AreSides, AnswersRange}
 use Rattle.net_linear.specs.NetTerms.{net_side, at_inflow}
-use Rattle.net_fault.specs.Outcomes.{Outcome, and_then, rejected}
+use Rattle.net_base.specs.Outcomes.{Outcome, and_then, rejected}
 use Rattle.net_linear.specs.Amounts.{number_or_none}
 use Rattle.net_linear.proofs.NetTerms.{is_clear, side_ok}
 use Rattle.net_linear.proofs.Sizes.{difference_sized}

@@ -1,7 +1,7 @@
 -- What an objective comes to is worth what its expression is worth.
 use Rattle.std.specs.Prelude.{◌≡◌, ℕ, Bool, true, false, not, ◌&&◌, ◌||◌, Option, None, Some, Result, Ok, Err, IfOk, ℤ, pos}
 use Rattle.std.proofs.Common.{ap, sym, ◌∙◌}
-use Rattle.net_fault.specs.declared.span.Span.{Span}
+use Rattle.net_base.specs.declared.diagnostic.Span.{Span}
 use Rattle.net_tree.specs.Spans.{span_of}
 use Rattle.net_tree.specs.Tree.{Tree, Links, Part, leaf, indexed, parens, tuple, negated, braced, signed, reduced, chain, choice, net, none, link, absent, part}
 use Rattle.net_expr.specs.Numbers.{turned}
@@ -12,8 +12,8 @@ use Rattle.net_linear.specs.Arcs.{Arcs, declared, is_arc, arc_at}
 use Rattle.net_linear.specs.Forms.{Linear, Term, just, join, turn, as_form, form_at}
 use Rattle.net_linear.specs.Laws.{HaveValue}
 use Rattle.net_linear.specs.Objectives.{names_arc, any_arc, braces_arc, is_sum, is_linear, key_of, condition, objective, otherwise, chained, objective_form}
-use Rattle.net_fault.specs.Outcomes.{Outcome, Refines, and_then}
-use Rattle.net_fault.specs.declared.fault.Fault.{Fault}
+use Rattle.net_base.specs.Outcomes.{Outcome, Refines, and_then}
+use Rattle.net_base.specs.declared.fault.Fault.{Fault}
 use Rattle.net_linear.specs.ObjectiveValues.{combine, value_of_tree, value_of_else, value_of_chain}
 use Rattle.net_linear.proofs.FormLaws.{term_at, same_term, form_just, join_ok, turn_ok, total_ok, mixed_ok, no_arcs, linear_ok, arc_ok, choose_ok}
 use Rattle.net_linear.proofs.Ranges.{ok_then}

@@ -2,7 +2,7 @@
 use Rattle.std.specs.Prelude.{Option, None, Some, Ok, ℤ}
 use Rattle.net_sets.specs.declared.member.Member.TheVariants.{Number}
 use Rattle.net_tree.specs.Tree.{Tree}
-use Rattle.net_fault.specs.Outcomes.{Outcome, and_then}
+use Rattle.net_base.specs.Outcomes.{Outcome, and_then}
 use Rattle.net_expr.specs.declared.value.Value.{Value}
 use Rattle.net_expr.specs.declared.value.Value.TheVariants.{One}
 use Rattle.net_expr.specs.Values.{value}

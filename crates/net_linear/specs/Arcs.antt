@@ -1,20 +1,20 @@
 -- The declared arcs: what a name with subscripts refers to.
-use Rattle.std.specs.Prelude.{ℕ, ◌+◌, Bool, List, [], ◌∷◌, length, nat_eq, Option, None, Some, is_some, if◌then◌else◌, Ok, Err}
-use Rattle.net_fault.specs.declared.span.Span.{Span}
+use Rattle.std.specs.Prelude.{ℕ, ◌+◌, Bool, List, [], ◌∷◌, length, nat_eq, Option, None, Some, is_some, if◌then◌else◌, Ok}
+use Rattle.net_base.specs.declared.diagnostic.Span.{Span}
 use Rattle.net_sets.specs.Names.{named}
 use Rattle.net_sets.specs.Sets.{Tuple, place_of}
-use Rattle.net_fault.specs.declared.detail.Detail.{Detail}
-use Rattle.net_fault.specs.declared.error_code.ErrorCode.TheVariants.{OutsideSet, Arity, NotLinear}
+use Rattle.net_base.specs.declared.diagnostic.Detail.{Detail}
+use Rattle.net_base.specs.declared.error_code.ErrorCode.TheVariants.{OutsideSet, Arity, NotLinear}
 use Rattle.net_expr.specs.Worlds.{Name, key_count, reference}
-use Rattle.net_linear.specs.declared.arc.ArcKeys.{ArcKeys}
-use Rattle.net_fault.specs.Outcomes.{Outcome, rejected, rejected_of}
+use Rattle.net_linear.specs.declared.key_numbers.KeyNumbers.{KeyNumbers}
+use Rattle.net_base.specs.Outcomes.{Outcome, rejected, rejected_of}
 
 -- the declarations of arcs in order, each with its name
 abbrev pub Arcs : Type 0
-Arcs = List (Name × ArcKeys)
+Arcs = List (Name × KeyNumbers)
 
 -- the first declaration of a name
-abbrev pub declared : Arcs → Name → Option ArcKeys
+abbrev pub declared : Arcs → Name → Option KeyNumbers
 declared arcs name = named arcs name
 
 abbrev pub is_arc : Arcs → Name → Bool
@@ -26,7 +26,7 @@ numbered at d first None = rejected_of OutsideSet at d
 numbered at d first (Some place) = Ok (first + place)
 
 -- the number of the arc with a name and a key
-abbrev pub arc_at : Span → Name → Option ArcKeys → Tuple → Outcome ℕ
+abbrev pub arc_at : Span → Name → Option KeyNumbers → Tuple → Outcome ℕ
 arc_at at name None key = rejected NotLinear at
 arc_at at name (Some a) key =
     if nat_eq (length key) (key_count a.keys) then numbered at (reference name a.keys key) a.first (place_of a.index key) else rejected Arity at

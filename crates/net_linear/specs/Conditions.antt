@@ -1,7 +1,7 @@
 -- Conditions of nodes: when a net inflow satisfies one, and the range that it is equivalent to.
 use Rattle.std.specs.Prelude.{◌≡◌, Bool, true, false, ◌&&◌, ◌||◌, Option, None, Some, is_some, IsTrue, if◌then◌else◌, Result, Ok, Err, ⊤, ℤ, pos, ◌+ℤ◌, ◌-ℤ◌, ◌≤ℤ◌, int_lt}
 use Rattle.std.specs.Option.{ForSome}
-use Rattle.net_fault.specs.declared.span.Span.{Span}
+use Rattle.net_base.specs.declared.diagnostic.Span.{Span}
 use Rattle.net_lex.specs.declared.token.Token.{Token}
 use Rattle.net_normal.specs.declared.instance.NodeRange.{NodeRange}
 use Rattle.net_normal.specs.Limits.{IsSized, range_limit}
@@ -9,25 +9,24 @@ use Rattle.net_tree.specs.declared.role.Relation.TheVariants as relations
 use Rattle.net_tree.specs.declared.role.Role.{Role}
 use Rattle.net_tree.specs.declared.role.Role.TheVariants as roles
 use Rattle.net_tree.specs.Role.{role_of}
-use Rattle.net_tree.specs.Spans.{span_of}
 pub use Rattle.net_tree.specs.Spans.{from_to}
 use Rattle.net_tree.specs.Tree.{Tree, Links, net, chain, none, link, Condition, unsaid, one, between}
-use Rattle.net_fault.specs.declared.error_code.ErrorCode.TheVariants.{KindMismatch, ValueTooLarge}
+use Rattle.net_base.specs.declared.error_code.ErrorCode.TheVariants.{KindMismatch, ValueTooLarge}
 use Rattle.net_expr.specs.Limits.{is_small}
 use Rattle.net_expr.specs.Numbers.{turned}
-use Rattle.net_tree.specs.Operations.{is_minus, operation}
+use Rattle.net_tree.specs.Operations.{operation, has_minus, is_outflow}
 use Rattle.net_expr.specs.Worlds.{World, Scope}
 use Rattle.net_linear.specs.declared.condition.Comparison.{Comparison}
 use Rattle.net_linear.specs.declared.condition.Comparison.TheVariants.{Equal, AtMost, AtLeast}
 use Rattle.net_linear.specs.declared.condition.Sides.{Sides}
-use Rattle.net_fault.specs.declared.fault.Fault.{Fault}
-use Rattle.net_fault.specs.declared.fault.Fault.TheVariants.{OutOfMemory, At}
+use Rattle.net_base.specs.declared.fault.Fault.{Fault}
+use Rattle.net_base.specs.declared.fault.Fault.TheVariants.{OutOfMemory, At}
 use Rattle.net_tree.specs.declared.operator.BinOp.{BinOp}
 use Rattle.net_tree.specs.declared.operator.BinOp.TheVariants.{Plus, Minus}
 use Rattle.net_linear.specs.declared.net_term.NetTerm.{NetTerm}
 use Rattle.net_linear.specs.declared.net_term.NetTerm.TheVariants.{Absent, Inflow, Outflow}
-use Rattle.net_linear.specs.NetTerms.{has_minus, is_outflow, are_terms, net_side}
-use Rattle.net_fault.specs.Outcomes.{Outcome, and_then, rejected}
+use Rattle.net_linear.specs.NetTerms.{are_terms, net_side}
+use Rattle.net_base.specs.Outcomes.{Outcome, and_then, rejected}
 use Rattle.net_linear.specs.Amounts.{number_or_none}
 
 -- the relations `=`, `==`, `<=` and `>=`
@@ -108,9 +107,6 @@ met_ends at _ _ _ _ = rejected KindMismatch at
 abbrev pub met : Span → Sides → Sides → Outcome Sides
 met at r q = met_ends at r.low r.high q.low q.high
 
-abbrev pub solved_twice : Span → Option Comparison → Option Comparison → NetTerm → NetTerm → NetTerm → Option ℤ → Option ℤ → Option ℤ → Outcome Sides
-solved_twice at c d m n k a b e = and_then (solved_sides at c m n a b) (λ r. and_then (solved_sides at d n k b e) (met at r))
-
 -- the range of a condition with two sides; all parts are evaluated first with net inflow 0, and a
 -- part that is not a number is an error of the whole condition
 abbrev pub one_in : World → Scope → Tree → Token → Tree → Outcome Sides
@@ -122,7 +118,8 @@ one_in w s x o z =
 abbrev pub between_in : World → Scope → Tree → Token → Tree → Token → Tree → Outcome Sides
 between_in w s x o z p u =
     and_then (number_or_none w s x) (λ a. and_then (number_or_none w s z) (λ b. and_then (number_or_none w s u) (λ e.
-    solved_twice (from_to x u) (comparison_in (role_of o)) (comparison_in (role_of p)) (net_side x) (net_side z) (net_side u) a b e)))
+    and_then (solved_sides (from_to x u) (comparison_in (role_of o)) (net_side x) (net_side z) a b) (λ first.
+    and_then (solved_sides (from_to x u) (comparison_in (role_of p)) (net_side z) (net_side u) b e) (met (from_to x u) first)))))
 
 abbrev pub sides_in : World → Scope → Condition → Outcome Sides
 sides_in w s unsaid = Ok (compared_with Equal (pos 0))

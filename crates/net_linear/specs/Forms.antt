@@ -1,12 +1,12 @@
 -- Linear forms: sums of arcs with coefficients, and their arithmetic.
 use Rattle.std.specs.Prelude.{ℕ, ◌≤◌, unsigned_abs, Bool, true, false, not, ◌&&◌, ◌||◌, List, [], ◌∷◌, nat_eq, Option, None, Some, if◌then◌else◌, Ok, ℤ, pos, negsuc, ◌+ℤ◌, ◌*ℤ◌, int_div, int_rem}
-use Rattle.net_fault.specs.declared.span.Span.{Span}
-use Rattle.net_fault.specs.declared.error_code.ErrorCode.TheVariants.{KindMismatch, DivMod, ValueTooLarge, NotLinear}
+use Rattle.net_base.specs.declared.diagnostic.Span.{Span}
+use Rattle.net_base.specs.declared.error_code.ErrorCode.TheVariants.{KindMismatch, DivMod, ValueTooLarge, NotLinear}
 use Rattle.net_expr.specs.Limits.{is_small}
 use Rattle.net_expr.specs.Numbers.{divides}
 use Rattle.net_tree.specs.declared.operator.BinOp.{BinOp}
 use Rattle.net_tree.specs.declared.operator.BinOp.TheVariants.{Plus, Minus, Times, Div, Mod}
-use Rattle.net_fault.specs.Outcomes.{Outcome, and_then, rejected}
+use Rattle.net_base.specs.Outcomes.{Outcome, and_then, rejected}
 
 -- numbers of arcs, each at most once, with their coefficients
 abbrev pub Products : Type 0

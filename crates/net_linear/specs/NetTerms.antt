@@ -1,22 +1,12 @@
 -- The occurrences of a node's net inflow in its condition.
-use Rattle.std.specs.Prelude.{Bool, true, false, ◌&&◌, Option, None, Some, if◌then◌else◌, codes, ℤ, pos, neg_ℤ}
-use Rattle.std.specs.Str.{bytes_eq}
-use Rattle.net_lex.specs.declared.token.Token.{Token}
+use Rattle.std.specs.Prelude.{Bool, true, false, ◌&&◌, if◌then◌else◌, ℤ, pos, neg_ℤ}
 use Rattle.net_tree.specs.Tree.{Tree, Links, net, chain, none, link}
-use Rattle.net_tree.specs.Operations.{is_minus, operation}
+use Rattle.net_tree.specs.Operations.{operation, has_minus, is_outflow}
 use Rattle.net_tree.specs.declared.operator.BinOp.{BinOp}
 use Rattle.net_tree.specs.declared.operator.BinOp.TheVariants.{Minus}
 use Rattle.net_linear.specs.declared.net_term.NetTerm.{NetTerm}
 use Rattle.net_linear.specs.declared.net_term.NetTerm.TheVariants.{Absent, Inflow, Outflow, Unclear}
 use Rattle.net_linear.specs.Signs.{is_sign}
-
--- `net_out` is the negated net inflow
-unfoldable pub is_outflow : Token → Bool
-is_outflow word = bytes_eq (codes "net_out") word.text
-
-abbrev pub has_minus : Option Token → Bool
-has_minus None = false
-has_minus (Some sign) = is_minus sign
 
 abbrev pub negated : NetTerm → NetTerm
 negated Inflow = Outflow

@@ -1,7 +1,7 @@
 -- The value of an objective's expression at an assignment, with each arc replaced by its value.
 -- Sizes are not checked.
 use Rattle.std.specs.Prelude.{ℕ, Bool, true, false, ◌&&◌, ◌||◌, List, [], ◌∷◌, Option, None, Some, if◌then◌else◌, Result, Ok, Err, ℤ, pos, ◌+ℤ◌, ◌-ℤ◌, ◌*ℤ◌, neg_ℤ, int_div, int_rem}
-use Rattle.net_fault.specs.declared.span.Span.{Span}
+use Rattle.net_base.specs.declared.diagnostic.Span.{Span}
 use Rattle.net_tree.specs.Spans.{span_of}
 use Rattle.net_tree.specs.Tree.{Tree, Links, Part, Braces, leaf, indexed, parens, tuple, negated, braced, signed, reduced, chain, choice, net, none, link, absent, part}
 use Rattle.net_expr.specs.declared.row.Keys.{Keys}
@@ -16,7 +16,7 @@ use Rattle.net_tree.specs.declared.operator.BinOp.TheVariants.{Plus, Minus, Time
 use Rattle.net_linear.specs.Arcs.{Arcs, declared, is_arc, arc_at}
 use Rattle.net_linear.specs.Conditions.{number_of}
 use Rattle.net_linear.specs.Objectives.{names_arc, any_arc, braces_arc, key_of, condition}
-use Rattle.net_fault.specs.Outcomes.{Outcome, and_then}
+use Rattle.net_base.specs.Outcomes.{Outcome, and_then}
 use Rattle.net_linear.specs.Amounts.{number_or_none}
 
 -- the value of a tree without arcs is that of the evaluator

@@ -1,6 +1,6 @@
 -- The linear form of an objective's expression, and its value at an assignment.
 use Rattle.std.specs.Prelude.{ℕ, Bool, true, false, not, ◌&&◌, ◌||◌, List, [], ◌∷◌, Option, None, Some, if◌then◌else◌, Ok, Err, ℤ, pos, ◌+ℤ◌, ◌-ℤ◌, ◌*ℤ◌, neg_ℤ, int_div, int_rem}
-use Rattle.net_fault.specs.declared.span.Span.{Span}
+use Rattle.net_base.specs.declared.diagnostic.Span.{Span}
 use Rattle.net_lex.specs.declared.token.Token.{Token}
 use Rattle.net_tree.specs.Spans.{span_of}
 use Rattle.net_tree.specs.Tree.{Tree, Links, Part, Braces, leaf, indexed, parens, tuple, negated, braced, signed, reduced, chain, choice, net, none, link, absent, part, empty, filled}
@@ -13,15 +13,15 @@ use Rattle.net_expr.specs.Operators.{truth, tuple_of}
 use Rattle.net_expr.specs.Values.{value, values, index}
 use Rattle.net_expr.specs.Worlds.{Name, World, Scope}
 use Rattle.net_sets.specs.Sets.{Tuple}
-use Rattle.net_fault.specs.declared.error_code.ErrorCode.{ErrorCode}
-use Rattle.net_fault.specs.declared.error_code.ErrorCode.TheVariants.{NotLinear}
+use Rattle.net_base.specs.declared.error_code.ErrorCode.{ErrorCode}
+use Rattle.net_base.specs.declared.error_code.ErrorCode.TheVariants.{NotLinear}
 use Rattle.net_tree.specs.declared.operator.BinOp.{BinOp}
 use Rattle.net_tree.specs.declared.operator.BinOp.TheVariants.{Plus, Minus, Times, Div, Mod}
 use Rattle.net_linear.specs.Arcs.{Arcs, declared, is_arc, arc_at}
 use Rattle.net_linear.specs.Conditions.{number_of}
 use Rattle.net_linear.specs.Forms.{Linear, Term, just, one_arc, sized, join, turn, total, as_form}
 use Rattle.net_linear.specs.Signs.{is_sign}
-use Rattle.net_fault.specs.Outcomes.{Outcome, and_then, rejected}
+use Rattle.net_base.specs.Outcomes.{Outcome, and_then, rejected}
 use Rattle.net_linear.specs.Amounts.{number_or_none}
 
 -- the tree contains an arc

@@ -1,6 +1,6 @@
 -- Laws that relate the meaning of objectives and of conditions to their linear forms, which the code is proved to compute.
 use Rattle.std.specs.Prelude.{◌≡◌, ◌↔◌, ℕ, false, None, Some, Ok, Option, ⊤, ℤ, pos}
-use Rattle.net_fault.specs.declared.span.Span.{Span}
+use Rattle.net_base.specs.declared.diagnostic.Span.{Span}
 use Rattle.net_sets.specs.Sets.{Tuple}
 use Rattle.net_tree.specs.Tree.{Tree, Links, chain, net, none, link, Condition, unsaid, one, between}
 use Rattle.net_expr.specs.SetValues.{HasSets}

@@ -6,16 +6,15 @@ ghost use Rattle.net_tree.specs.Role as role;
 ghost use Rattle.net_tree.specs.View.{tree, condition_of};
 ghost use Rattle.net_expr.specs.Limits.{is_small};
 ghost use Rattle.net_linear.specs.Conditions as conditions;
-ghost use Rattle.net_fault.specs.Outcomes.{Refines};
+ghost use Rattle.net_base.specs.Outcomes.{Refines};
 ghost use Rattle.net_linear.specs.declared.condition.Comparison.TheVariants.{Equal};
 
 use crate::net_term::{NetTerm, net_side};
 use crate::value::number_or_none;
+use net_base::{ErrorCode, Fault, Span};
 use net_expr::{Env, Scope, is_small};
-use net_fault::{ErrorCode, Fault, Span};
-use net_lex::Token;
 use net_normal::NodeRange;
-use net_tree::{Expr, NetCond, Relation, Role, role_of, span_of};
+use net_tree::{Expr, NetCond, Relation, Role, Terminal, span_of};
 use std::alloc::Global;
 
 /// The relation of a condition.
@@ -36,10 +35,10 @@ pub struct Sides {
     pub high: Option<i64>,
 }
 
-fn comparison_of(operator: &Token<'_>) -> Option<Comparison>
+fn comparison_of(operator: &Terminal<'_>) -> Option<Comparison>
     ensures { result ≡ conditions.comparison_in (role.role_of operator.now) }
 {
-    match role_of(operator) {
+    match operator.role() {
         Role::Relation(Relation::Equal) => Some(Comparison::Equal),
         Role::Relation(Relation::AtMost) => Some(Comparison::AtMost),
         Role::Relation(Relation::AtLeast) => Some(Comparison::AtLeast),
@@ -162,27 +161,12 @@ fn met(at: Span, first: Sides, second: Sides) -> Result<Sides, Fault>
     }
 }
 
-fn solved_twice(
-    at: Span,
-    comparisons: (Option<Comparison>, Option<Comparison>),
-    terms: (NetTerm, NetTerm, NetTerm),
-    low: &Option<i64>,
-    middle: &Option<i64>,
-    high: &Option<i64>,
-) -> Result<Sides, Fault>
-    ensures { Refines (conditions.solved_twice at comparisons.0 comparisons.1 terms.0 terms.1 terms.2 low.now middle.now high.now) result }
-{
-    let first = solved_sides(at, comparisons.0, terms.0, terms.1, low, middle)?;
-    let second = solved_sides(at, comparisons.1, terms.1, terms.2, middle, high)?;
-    met(at, first, second)
-}
-
 fn one<'s>(
     alloc: Global,
     env: &Env<'_, 's>,
     scope: &Scope<'s>,
     left: &Expr<'s>,
-    operator: &Token<'s>,
+    operator: &Terminal<'s>,
     right: &Expr<'s>,
 ) -> Result<Sides, Fault>
     ensures { Refines (conditions.one_in env.now scope.now (tree left.now) operator.now (tree right.now)) result }
@@ -190,28 +174,37 @@ fn one<'s>(
     let a = number_or_none(alloc, env, scope, left)?;
     let b = number_or_none(alloc, env, scope, right)?;
     let at = from_to(left, right);
-    let terms = (net_side(left), net_side(right));
-    solved_sides(at, comparison_of(operator), terms.0, terms.1, &a, &b)
+    let (left, right) = (net_side(left), net_side(right));
+    solved_sides(at, comparison_of(operator), left, right, &a, &b)
+}
+
+/// The first or last of three sides, with the relation between it and the middle one.
+#[derive(Clone, Copy)]
+struct OuterSide<'a, 's> {
+    side: &'a Expr<'s>,
+    relation: &'a Terminal<'s>,
 }
 
 fn between<'s>(
     alloc: Global,
     env: &Env<'_, 's>,
     scope: &Scope<'s>,
-    left: (&Expr<'s>, &Token<'s>),
+    left: &OuterSide<'_, 's>,
     middle: &Expr<'s>,
-    right: (&Token<'s>, &Expr<'s>),
+    right: &OuterSide<'_, 's>,
 ) -> Result<Sides, Fault>
-    ensures { Refines (conditions.between_in env.now scope.now (tree left.entry.0.now) left.entry.1.now (tree middle.now) right.entry.0.now (tree
-        right.entry.1.now)) result }
+    ensures { Refines (conditions.between_in env.now scope.now (tree left.now.side.now) left.now.relation.now (tree middle.now)
+        right.now.relation.now (tree right.now.side.now)) result }
 {
-    let low = number_or_none(alloc, env, scope, left.0)?;
+    let low = number_or_none(alloc, env, scope, left.side)?;
     let sum = number_or_none(alloc, env, scope, middle)?;
-    let high = number_or_none(alloc, env, scope, right.1)?;
-    let at = from_to(left.0, right.1);
-    let comparisons = (comparison_of(left.1), comparison_of(right.0));
-    let terms = (net_side(left.0), net_side(middle), net_side(right.1));
-    solved_twice(at, comparisons, terms, &low, &sum, &high)
+    let high = number_or_none(alloc, env, scope, right.side)?;
+    let at = from_to(left.side, right.side);
+    let (begins, ends) = (comparison_of(left.relation), comparison_of(right.relation));
+    let term = net_side(middle);
+    let first = solved_sides(at, begins, net_side(left.side), term, &low, &sum)?;
+    let second = solved_sides(at, ends, term, net_side(right.side), &sum, &high)?;
+    met(at, first, second)
 }
 
 /// Returns the range of a node without a condition: net inflow 0.
@@ -232,14 +225,17 @@ fn sides_of<'s>(
     match condition {
         NetCond::Absent => Ok(balanced()),
         NetCond::One(_, left, operator, right) => one(alloc, env, scope, left, operator, right),
-        NetCond::Between(_, low, first, middle, second, high) => between(
-            alloc,
-            env,
-            scope,
-            (low, first),
-            middle,
-            (second, high),
-        ),
+        NetCond::Between(_, low, first, middle, second, high) => {
+            let left = OuterSide {
+                side: low,
+                relation: first,
+            };
+            let right = OuterSide {
+                side: high,
+                relation: second,
+            };
+            between(alloc, env, scope, &left, middle, &right)
+        }
     }
 }
 

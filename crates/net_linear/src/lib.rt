@@ -2,26 +2,22 @@
 //! objectives.
 #![tactic(auto)]
 
-mod arc;
 mod condition;
 mod form;
-mod key;
+mod key_numbers;
 mod laws;
 mod names;
 mod net_term;
 mod objectives;
 mod price;
 mod products;
-mod soundness;
 mod term;
 mod value;
 
-pub use arc::{ArcKeys, ArcNames};
 pub use condition::{Comparison, Sides, node_range};
 pub use form::Affine;
-pub use key::key_of;
-pub use laws::forms_have_value;
+pub use key_numbers::{KeyNumbers, NumberedNames};
+pub use laws::{conditions_are_sound, forms_have_value, objectives_are_sound};
 pub use net_term::NetTerm;
-pub use objectives::objective;
+pub use objectives::{key_of, objective};
 pub use price::with_price;
-pub use soundness::{conditions_are_sound, objectives_are_sound};

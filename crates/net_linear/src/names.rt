@@ -4,19 +4,19 @@ ghost use Rattle.std.specs.Prelude.{◌≡◌, ◌||◌};
 ghost use Rattle.net_tree.specs.View.{tree, braces_of, links_of, option_part};
 ghost use Rattle.net_linear.specs.Objectives as objectives;
 
-use crate::arc::ArcNames;
+use crate::key_numbers::NumberedNames;
 use crate::net_term::is_sign;
+use net_base::Boxed;
 use net_tree::{BinOp, Braces, Expr, Link, Part};
-use net_views::Boxed;
 
 /// Returns whether an expression contains an arc.
 #[cycle(names)]
 #[tactic(auto, using(net_tree::proofs::Views::views))]
-pub(crate) fn names_arc<'s>(arcs: &ArcNames<'s>, expr: &Expr<'s>) -> bool
+pub(crate) fn names_arc<'s>(arcs: &NumberedNames<'s>, expr: &Expr<'s>) -> bool
     ensures { result ≡ objectives.names_arc arcs.now (tree expr.now) }
 {
     match expr {
-        Expr::Leaf(token) => arcs.has(&token.text),
+        Expr::Leaf(leaf) => arcs.has(&leaf.token().text),
         Expr::Indexed(parts) => {
             let (name, _, series, _) = parts.get();
             arcs.has(&name.text) || any_arc(arcs, &series.first, series.more.as_slice())
@@ -46,14 +46,14 @@ pub(crate) fn names_arc<'s>(arcs: &ArcNames<'s>, expr: &Expr<'s>) -> bool
 }
 
 #[cycle(names)]
-pub(crate) fn any_arc<'s>(arcs: &ArcNames<'s>, first: &Expr<'s>, more: &[Link<'s>]) -> bool
+pub(crate) fn any_arc<'s>(arcs: &NumberedNames<'s>, first: &Expr<'s>, more: &[Link<'s>]) -> bool
     ensures { result ≡ objectives.first_or_any arcs.now (tree first.now) (links_of more.now) }
 {
     names_arc(arcs, first) || links_arc(arcs, more)
 }
 
 #[cycle(names)]
-fn links_arc<'s>(arcs: &ArcNames<'s>, links: &[Link<'s>]) -> bool
+fn links_arc<'s>(arcs: &NumberedNames<'s>, links: &[Link<'s>]) -> bool
     ensures { result ≡ objectives.any_arc arcs.now (links_of links.now) }
 {
     for link in links {
@@ -66,7 +66,7 @@ fn links_arc<'s>(arcs: &ArcNames<'s>, links: &[Link<'s>]) -> bool
 
 #[cycle(names)]
 #[tactic(auto, using(net_tree::proofs::Views::views))]
-fn part_arc<'s>(arcs: &ArcNames<'s>, part: &Option<Boxed<Part<'s>>>) -> bool
+fn part_arc<'s>(arcs: &NumberedNames<'s>, part: &Option<Boxed<Part<'s>>>) -> bool
     ensures { result ≡ objectives.part_arc arcs.now (option_part part.now) }
 {
     match part {
@@ -77,7 +77,7 @@ fn part_arc<'s>(arcs: &ArcNames<'s>, part: &Option<Boxed<Part<'s>>>) -> bool
 
 #[cycle(names)]
 #[tactic(auto, using(net_tree::proofs::Views::views))]
-pub(crate) fn braces_arc<'s>(arcs: &ArcNames<'s>, braces: &Braces<'s>) -> bool
+pub(crate) fn braces_arc<'s>(arcs: &NumberedNames<'s>, braces: &Braces<'s>) -> bool
     ensures { result ≡ objectives.braces_arc arcs.now (braces_of braces.now) }
 {
     match braces {
@@ -117,7 +117,7 @@ fn either(a: bool, b: bool) -> bool
     a || b
 }
 
-fn one_factor<'s>(arcs: &ArcNames<'s>, first: bool, links: &[Link<'s>]) -> bool
+fn one_factor<'s>(arcs: &NumberedNames<'s>, first: bool, links: &[Link<'s>]) -> bool
     ensures { result ≡ objectives.one_factor arcs.now first (links_of links.now) }
 {
     let mut before = first;
@@ -132,7 +132,7 @@ fn one_factor<'s>(arcs: &ArcNames<'s>, first: bool, links: &[Link<'s>]) -> bool
 }
 
 /// Returns whether a chain is a sum, or a product with at most one operand that contains an arc.
-pub(crate) fn is_linear<'s>(arcs: &ArcNames<'s>, first: &Expr<'s>, more: &[Link<'s>]) -> bool
+pub(crate) fn is_linear<'s>(arcs: &NumberedNames<'s>, first: &Expr<'s>, more: &[Link<'s>]) -> bool
     ensures { result ≡ objectives.is_linear arcs.now (tree first.now) (links_of more.now) }
 {
     are_signs(more) || one_factor(arcs, names_arc(arcs, first), more)

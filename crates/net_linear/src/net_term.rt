@@ -1,12 +1,12 @@
 //! Occurrences of the net inflow in a side of a node's condition.
 
 ghost use Rattle.std.specs.Prelude.{◌≡◌, if◌then◌else◌};
+ghost use Rattle.net_tree.specs.Operations.{has_minus, is_outflow};
 ghost use Rattle.net_tree.specs.View.{tree, links_of};
 ghost use Rattle.net_linear.specs.NetTerms as terms;
 ghost use Rattle.net_linear.specs.Signs.{is_sign};
 
-use net_lex::Token;
-use net_tree::{BinOp, Expr, Link, Sign};
+use net_tree::{BinOp, Expr, Link, NetWord, Sign};
 
 /// How the net inflow of a node occurs in a term or a side of its condition.
 #[derive(Clone, Copy)]
@@ -21,15 +21,8 @@ pub enum NetTerm {
     Unclear,
 }
 
-#[tactic(auto, unfolding(crate::specs::NetTerms::is_outflow))]
-fn is_outflow(word: &Token<'_>) -> bool
-    ensures { result ≡ terms.is_outflow word.now }
-{
-    word.text.as_str() == "net_out"
-}
-
 fn has_minus(sign: &Option<Sign<'_>>) -> bool
-    ensures { result ≡ terms.has_minus sign.now }
+    ensures { result ≡ has_minus sign.now }
 {
     match sign {
         None => false,
@@ -54,12 +47,12 @@ fn negated(term: NetTerm) -> NetTerm
     }
 }
 
-fn net_word(sign: &Option<Sign<'_>>, word: &Token<'_>) -> NetTerm
-    ensures { result ≡ terms.with_sign (terms.has_minus sign.now) (terms.with_sign (terms.is_outflow word.now) NetTerm.Inflow) }
+fn net_word(sign: &Option<Sign<'_>>, word: &NetWord<'_>) -> NetTerm
+    ensures { result ≡ terms.with_sign (has_minus sign.now) (terms.with_sign (is_outflow word.now) NetTerm.Inflow) }
 {
     with_sign(
         has_minus(sign),
-        with_sign(is_outflow(word), NetTerm::Inflow),
+        with_sign(word.is_outflow(), NetTerm::Inflow),
     )
 }
 

@@ -8,27 +8,25 @@ ghost use Rattle.net_tree.specs.Operations as operations;
 ghost use Rattle.net_expr.specs.Values as values;
 ghost use Rattle.net_linear.specs.Forms as forms;
 ghost use Rattle.net_linear.specs.Objectives as objectives;
-ghost use Rattle.net_fault.specs.Outcomes.{Refines, and_then};
+ghost use Rattle.net_base.specs.Outcomes.{Refines, and_then};
 ghost use Rattle.net_linear.specs.ObjectiveValues.{value_of_tree};
 
-use crate::arc::{ArcNames, arc_at};
 use crate::form::{Affine, Sum};
-use crate::key::key_of;
+use crate::key_numbers::{NumberedNames, arc_at};
 use crate::names::{any_arc, braces_arc, is_linear, names_arc};
 use crate::term::{gather, join, plain_term, sized, turn};
 use crate::value::{is_sum, number_or_none, truth_of};
+use net_base::{Boxed, ErrorCode, Fault, Span};
 use net_expr::{Env, Keys, Scope, index_of, reject_tree};
-use net_fault::{ErrorCode, Fault, Span};
 use net_lex::Token;
 use net_sets::Tuple;
 use net_tree::{Braces, Expr, Link, Operands, Part, Reducer, Sign, span_of};
-use net_views::Boxed;
 use std::alloc::Global;
 
 /// The context of an expression: the arcs, the declarations that are visible, and the dummies.
 #[derive(Drop)]
 struct FormEnv<'a, 'w, 's> {
-    arcs: &'a ArcNames<'s>,
+    arcs: &'a NumberedNames<'s>,
     env: &'a Env<'w, 's>,
     scope: &'a Scope<'s>,
 }
@@ -36,7 +34,7 @@ struct FormEnv<'a, 'w, 's> {
 /// Returns the term of the arc with a name and a key.
 fn arc_term<'s>(
     alloc: Global,
-    arcs: &ArcNames<'s>,
+    arcs: &NumberedNames<'s>,
     at: Span,
     name: &Token<'s>,
     key: Tuple<'s>,
@@ -98,7 +96,7 @@ fn arcs_term<'s>(
     ensures { Refines (objectives.with_arcs among.now.arcs.now among.now.env.now among.now.scope.now (tree expr.now)) result }
 {
     match expr {
-        Expr::Leaf(token) => arc_term(alloc, among.arcs, span_of(expr), token, Tuple::new()),
+        Expr::Leaf(leaf) => arc_term(alloc, among.arcs, span_of(expr), leaf.token(), Tuple::new()),
         Expr::Indexed(parts) => {
             let (name, _, series, _) = parts.get();
             indexed(alloc, among, expr, name, series)
@@ -292,7 +290,7 @@ fn other_branch<'s>(
 
 fn form_of<'s>(
     alloc: Global,
-    arcs: &ArcNames<'s>,
+    arcs: &NumberedNames<'s>,
     env: &Env<'_, 's>,
     scope: &Scope<'s>,
     expr: &Expr<'s>,
@@ -317,7 +315,7 @@ fn form_of<'s>(
 /// expression if it is not numeric.
 pub fn objective<'s>(
     alloc: Global,
-    arcs: &ArcNames<'s>,
+    arcs: &NumberedNames<'s>,
     env: &Env<'_, 's>,
     scope: &Scope<'s>,
     expr: &Expr<'s>,
@@ -326,4 +324,19 @@ pub fn objective<'s>(
     ensures value_of_tree { IfOk result (λ form. (x : ℕ → ℤ) → forms.form_at x form ≡ value_of_tree arcs.now env.now scope.now (tree expr.now) x) }
 {
     form_of(alloc, arcs, env, scope, expr)
+}
+
+/// Evaluates the subscripts of a reference to a key, all of them first. Returns `KindMismatch` at
+/// the reference if one is not a member, and `Arity` if there are more than four.
+pub fn key_of<'s>(
+    alloc: Global,
+    env: &Env<'_, 's>,
+    scope: &Scope<'s>,
+    whole: &Expr<'s>,
+    first: &Expr<'s>,
+    more: &[Link<'s>],
+) -> Result<Tuple<'s>, Fault>
+    ensures { Refines (objectives.key_of env.now scope.now (trees.span_of (tree whole.now)) (tree first.now) (links_of more.now)) result }
+{
+    net_expr::key_of(alloc, env, scope, whole, first, more)
 }

@@ -4,11 +4,11 @@ ghost use Rattle.std.specs.Prelude.{◌≡◌, ◌+ℤ◌, ◌*ℤ◌, IfOk, ℕ
 ghost use Rattle.net_tree.specs.Spans as trees;
 ghost use Rattle.net_tree.specs.View.{tree};
 ghost use Rattle.net_linear.specs.Forms as forms;
-ghost use Rattle.net_fault.specs.Outcomes.{Refines};
+ghost use Rattle.net_base.specs.Outcomes.{Refines};
 
 use crate::form::Affine;
+use net_base::{ErrorCode, Fault};
 use net_expr::{is_small_wide, reject_tree};
-use net_fault::{ErrorCode, Fault};
 use net_tree::Expr;
 use std::alloc::Global;
 

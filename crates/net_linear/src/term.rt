@@ -7,11 +7,11 @@ ghost use Rattle.net_expr.specs.Limits.{is_small};
 ghost use Rattle.net_expr.specs.Numbers as numbers;
 ghost use Rattle.net_linear.specs.Forms as forms;
 ghost use Rattle.net_linear.specs.Objectives as objectives;
-ghost use Rattle.net_fault.specs.Outcomes.{Refines};
+ghost use Rattle.net_base.specs.Outcomes.{Refines};
 
 use crate::form::{Affine, Sum};
+use net_base::{ErrorCode, Fault};
 use net_expr::{is_small_wide, reject_tree};
-use net_fault::{ErrorCode, Fault};
 use net_tree::{BinOp, Expr};
 use std::alloc::Global;
 

@@ -5,11 +5,11 @@ ghost use Rattle.net_tree.specs.Spans as trees;
 ghost use Rattle.net_tree.specs.View.{tree};
 ghost use Rattle.net_tree.specs.Operations as operations;
 ghost use Rattle.net_linear.specs.Objectives as objectives;
-ghost use Rattle.net_fault.specs.Outcomes.{Refines};
+ghost use Rattle.net_base.specs.Outcomes.{Refines};
 ghost use Rattle.net_linear.specs.Amounts.{as_number, number_or_none};
 
+use net_base::Fault;
 use net_expr::{Env, Scope, Value, evaluate, truth};
-use net_fault::Fault;
 use net_sets::Member;
 use net_tree::{Expr, Reducer, Reduction};
 use std::alloc::Global;

@@ -12,7 +12,7 @@ use Rattle.net_lex.specs.Significands.{whole_value}
 use Rattle.net_sets.specs.Sets.{Tuple}
 use Rattle.net_tree.specs.Role.{role_of, marks, keys}
 use Rattle.net_tree.specs.Syntax.{absent}
-use Rattle.net_expr.specs.Numbers.{number_in}
+use Rattle.net_tree.specs.Numerals.{number_in}
 use Rattle.net_expr.specs.Worlds.{World, entry_of}
 use Rattle.net_expr.specs.declared.world.Entry.TheVariants.{Set}
 use Rattle.net_meaning.specs.Values.{Key, env_of, start, extended, a_set, FromEach, AreKeys, HasTruth, Filters}

@@ -13,7 +13,8 @@ use Rattle.net_expr.specs.Items as items
 use Rattle.net_expr.specs.Items.{text_of, unless_known}
 use Rattle.net_expr.specs.Worlds.{is_known}
 use Rattle.net_meaning.specs.Operators.{Value, Many}
-use Rattle.net_meaning.specs.OfTrees.{begins_range, has_in, new_dummy, AreValues, AreOperandValues, expression_of, phrase_value, IsItemSet}
+use Rattle.net_meaning.specs.OfTrees.{begins_range, has_in, new_dummy, AreValues, AreOperandValues, IsItemSet}
+use Rattle.net_tree.specs.PhraseValues.{expression_of, phrase_value}
 use Rattle.net_meaning.specs.Values.{Env, Whether, size}
 use Rattle.net_meaning.specs.World as world
 use Rattle.net_meaning.proofs.Leaves.{name_is as kind_is}

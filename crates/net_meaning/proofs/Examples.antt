@@ -22,7 +22,7 @@ use Rattle.net_tree.specs.declared.role.Role.{Role}
 use Rattle.net_tree.specs.declared.role.Role.TheVariants as roles
 use Rattle.net_tree.specs.Role.{role_of, marks, keys}
 use Rattle.net_tree.specs.Syntax.{Expression, leaf, tuple, signed, reduced, chain, net, no_more, more, none, apply, absent, present, filled, Phrase, valued, Condition, between}
-use Rattle.net_expr.specs.Numbers.{number_in}
+use Rattle.net_tree.specs.Numerals.{number_in}
 use Rattle.net_expr.specs.Worlds.{World}
 use Rattle.net_expr.specs.declared.world.Entry.TheVariants.{Set}
 use Rattle.net_meaning.specs.Operators as results

@@ -2,13 +2,13 @@
 use Rattle.std.specs.Prelude.{◌≡◌, ◌||◌, ℕ, Bool, true, false, List, [], ◌∷◌, ◌++◌, map, length, Option, None, Some, if◌then◌else◌, Ok, IfOk, ℤ, pos}
 use Rattle.std.specs.List.{AllByRecursion, AllZip}
 use Rattle.std.proofs.Common.{refl, ap, sym, ◌∙◌, subst, inl, inr, append_assoc, append-nil, arith}
-use Rattle.net_fault.specs.declared.span.Span.{Span}
-use Rattle.net_fault.specs.Outcomes.{Outcome, and_then, each}
+use Rattle.net_base.specs.declared.diagnostic.Span.{Span}
+use Rattle.net_base.specs.Outcomes.{Outcome, and_then, each}
 use Rattle.net_sets.specs.Sets.{Tuple}
 use Rattle.net_lex.specs.declared.token.Token.{Token}
-use Rattle.net_tree.specs.Erasure.{expressions, has_minus, is_outflow}
+use Rattle.net_tree.specs.Erasure.{expressions}
 use Rattle.net_tree.specs.Items.{is_in}
-use Rattle.net_tree.specs.Operations.{operation, reduction, is_minus}
+use Rattle.net_tree.specs.Operations.{operation, reduction, is_minus, has_minus, is_outflow}
 use Rattle.net_tree.specs.Role.{role_of}
 use Rattle.net_tree.specs.Spans.{span_of, span_between, braces_span}
 use Rattle.net_tree.specs.Tree.{Tree, Links, Part, Braces, leaf, indexed, parens, tuple, negated, braced, signed, reduced, chain, choice, net, none, link, absent, part, empty, filled}
@@ -38,7 +38,7 @@ use Rattle.net_meaning.specs.Laws.{meaning_of, IsArcFree, AreArcFree, IsPartArcF
 use Rattle.net_meaning.specs.OfTrees as meant
 use Rattle.net_meaning.specs.Operators.{Value, Many, Truth, number, Combines, IsTuple, IsRangeOf, HaveOneDimension}
 use Rattle.net_meaning.specs.Values as meaning
-use Rattle.net_meaning.specs.Values.{Matches, MatchesWhole, env_with, env_of, Env, Key, Whether, IsArcOr, Denotes, IsLeaf, AreMembers, FromItem}
+use Rattle.net_meaning.specs.Values.{Matches, MatchesWhole, env_with, env_of, Env, Key, Whether, IsArcOr, Denotes, IsLeaf, AreMembers}
 use Rattle.net_meaning.proofs.Erased.{begins_range_is, new_dummy_is, item_set, operand_values, size_is}
 use Rattle.net_meaning.proofs.Giving.{gives_then, gives_with, gives_if, gives_as, gives_both, gives_ok}
 use Rattle.net_meaning.proofs.Naming.{leaf_is, name_is, tuple_is}

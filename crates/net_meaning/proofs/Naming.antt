@@ -2,8 +2,8 @@
 use Rattle.std.specs.Prelude.{◌≡◌, ◌+◌, ◌-◌, ◌*◌, ◌==◌, ℕ, Bool, true, false, List, [], ◌∷◌, ◌++◌, map, length, fold, nat_eq, nat_le, Option, None, Some, if◌then◌else◌, Result, Ok, Err, IfOk, ℤ}
 use Rattle.std.proofs.Common.{refl, ap, sym, ◌∙◌, inl, append_assoc, append-nil}
 use Rattle.std.proofs.lemmas.List.Sums.{fold-append}
-use Rattle.net_fault.specs.declared.detail.Detail.{Detail}
-use Rattle.net_fault.specs.declared.span.Span.{Span}
+use Rattle.net_base.specs.declared.diagnostic.Detail.{Detail}
+use Rattle.net_base.specs.declared.diagnostic.Span.{Span}
 use Rattle.net_lex.specs.declared.token.Kind.{Kind}
 use Rattle.net_lex.specs.declared.token.Kind.TheVariants as kinds
 use Rattle.net_lex.specs.declared.token.Token.{Token}
@@ -25,7 +25,7 @@ use Rattle.net_expr.specs.declared.value.Value.{Value as Found}
 use Rattle.net_expr.specs.declared.value.Value.TheVariants as found
 use Rattle.net_expr.specs.declared.world.Entry.{Entry}
 use Rattle.net_expr.specs.declared.world.Entry.TheVariants.{Set, Parameter}
-use Rattle.net_expr.specs.Numbers.{significant, whole_size, with_sign, if_whole, number_in}
+use Rattle.net_tree.specs.Numerals.{significant, whole_size, with_sign, if_whole, number_in}
 use Rattle.net_expr.specs.Operators.{longer, member, members_after, tuple_of}
 use Rattle.net_expr.specs.Values.{number_value, token_value}
 use Rattle.net_expr.specs.Worlds.{Name, World, Scope, key_count, bound, entry_of, value_at, entry_at, name_at}

@@ -4,9 +4,9 @@ use Rattle.std.proofs.Common.{refl, ap, sym, subst, arith}
 use Rattle.std.proofs.lemmas.Int.{ints}
 use Rattle.std.proofs.lemmas.Bool.Decides.{nat_tests}
 use Rattle.std.proofs.Math.Nat.{le-div_iff_mul-le}
-use Rattle.net_fault.specs.declared.span.Span.{Span}
-use Rattle.net_fault.specs.Outcomes.{rejected}
-use Rattle.net_fault.specs.declared.error_code.ErrorCode.TheVariants.{DivMod}
+use Rattle.net_base.specs.declared.diagnostic.Span.{Span}
+use Rattle.net_base.specs.Outcomes.{rejected}
+use Rattle.net_base.specs.declared.error_code.ErrorCode.TheVariants.{DivMod}
 use Rattle.net_sets.specs.Limits.{tuples_limit}
 use Rattle.net_sets.specs.Ranges.{way_up, way_on, size_by, range_size, singles, range}
 use Rattle.net_sets.specs.Sets.{Tuple}

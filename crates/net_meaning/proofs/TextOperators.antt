@@ -2,7 +2,7 @@
 use Rattle.std.specs.Prelude.{ℕ, Bool, true, false, not, List, [], ◌∷◌, ◌++◌, map, if◌then◌else◌, ℤ}
 use Rattle.std.specs.List.{AllByRecursion, AllZip}
 use Rattle.std.proofs.Common.{subst, sym, inl, inr}
-use Rattle.net_fault.proofs.Elements.{all_append, all_filter}
+use Rattle.net_base.proofs.Elements.{all_append, all_filter}
 use Rattle.net_sets.specs.Operations.{union, difference, product, joined_to}
 use Rattle.net_sets.specs.Ranges.{singles}
 use Rattle.net_sets.specs.Sets.{Tuple, has, added}

@@ -4,7 +4,7 @@ use Rattle.std.specs.List.{AllByRecursion, AllZip, flat_map, zip, cons_option}
 use Rattle.std.specs.Option.{ForSome}
 use Rattle.std.specs.Str.{bytes_eq}
 use Rattle.std.proofs.Common.{refl, sym, subst}
-use Rattle.net_fault.proofs.Elements.{OfSome, all_append, all_take, all_drop, all_filter, all_get}
+use Rattle.net_base.proofs.Elements.{OfSome, all_append, all_take, all_drop, all_filter, all_get}
 use Rattle.net_lex.specs.declared.token.Kind.{Kind}
 use Rattle.net_lex.specs.declared.token.Kind.TheVariants as kinds
 use Rattle.net_lex.specs.declared.token.Token.{Token}

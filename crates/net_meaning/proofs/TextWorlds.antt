@@ -5,7 +5,7 @@ use Rattle.std.specs.Option.{ForSome}
 use Rattle.std.proofs.Common.{refl, sym, subst}
 use Rattle.std.proofs.lemmas.List.Elements.{All-from_recursion, All-contains}
 use Rattle.std.proofs.lemmas.Map.Views.{Contains-from_lookup}
-use Rattle.net_fault.proofs.Elements.{OfSome, all_append}
+use Rattle.net_base.proofs.Elements.{OfSome, all_append}
 use Rattle.net_data.specs.declared.statement.Statement.{Statement}
 use Rattle.net_sets.specs.declared.member.Member.{Member}
 use Rattle.net_sets.specs.Sets.{Tuple, same_tuple, has, at_key}

@@ -20,7 +20,7 @@ use Rattle.net_tree.specs.Operations.{is_range}
 use Rattle.net_tree.specs.Syntax.{Expression, Expressions, Operands, Clause, Braces, leaf, indexed, parens, tuple, negated, braced, signed, reduced, chain, conditional, net, no_more, more, none, apply, absent, present, empty, filled}
 use Rattle.net_expr.specs.Numbers.{turned}
 use Rattle.net_expr.specs.Worlds.{Name}
-use Rattle.net_expr.proofs.Numerals.{value_is}
+use Rattle.net_tree.proofs.Numerals.{value_is}
 use Rattle.net_meaning.specs.Operators.{Value, One, Several, Many, Truth, number, IsTuple, one, several, IsResult, ShortCircuits, and_false, or_true, IsAmong, Reduces, IsRange, IsRangeOf, to, by, Combines}
 use Rattle.net_meaning.specs.Laws.{ValuesAreUnique, KeysAreUnique}
 use Rattle.net_meaning.specs.Operators as make

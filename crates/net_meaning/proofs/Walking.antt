@@ -4,8 +4,8 @@ use Rattle.std.specs.List.{AllByRecursion, AllZip}
 use Rattle.std.proofs.Common.{refl, ap, sym, ◌∙◌, subst, inl, inr, append_assoc, append-nil, arith}
 use Rattle.std.proofs.lemmas.Bool.{eqb-true}
 use Rattle.std.proofs.lemmas.List.{map-append}
-use Rattle.net_fault.specs.declared.span.Span.{Span}
-use Rattle.net_fault.specs.Outcomes.{Outcome, and_then, each}
+use Rattle.net_base.specs.declared.diagnostic.Span.{Span}
+use Rattle.net_base.specs.Outcomes.{Outcome, and_then, each}
 use Rattle.net_sets.specs.declared.member.Member.{Member}
 use Rattle.net_sets.specs.Limits.{arity_limit, tuples_limit}
 use Rattle.net_sets.specs.Operations.{union}

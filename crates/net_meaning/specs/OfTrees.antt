@@ -1,6 +1,6 @@
 -- For the proofs about the code, which works on syntax trees: what Values, World and Network say of the abstract syntax of a tree. An auditor
 -- need not read this file.
-use Rattle.std.specs.Prelude.{ℕ, Bool, List, [], ◌∷◌, map, Option, None, Some, if◌then◌else◌, option_map, ℤ}
+use Rattle.std.specs.Prelude.{ℕ, Bool, List, [], ◌∷◌, map, Option, if◌then◌else◌, option_map, ℤ}
 use Rattle.net_data.specs.declared.statement.Statement.{Statement}
 use Rattle.net_sets.specs.declared.member.Member.{Member}
 use Rattle.net_sets.specs.Sets.{Tuple}
@@ -9,8 +9,7 @@ use Rattle.net_tree.specs.declared.role.Role.{Role}
 use Rattle.net_tree.specs.Erasure as erased
 use Rattle.net_tree.specs.Erasure.{expression, expressions, operands, clause, braces, indexing, declaration, declarations}
 use Rattle.net_tree.specs.Operations.{operation}
-use Rattle.net_tree.specs.Role.{role_of}
-use Rattle.net_tree.specs.Tree.{Tree, Links, Part, Braces, Body, plain, valued, priced, Phrase, Condition, Declaration}
+use Rattle.net_tree.specs.Tree.{Tree, Links, Part, Braces, Body, Phrase, Condition, Declaration}
 use Rattle.net_lex.specs.declared.token.Token.{Token}
 use Rattle.net_expr.specs.declared.world.Entry.{Entry}
 use Rattle.net_expr.specs.Worlds.{Name, World}
@@ -75,17 +74,6 @@ abbrev pub AllAgree : Key → Links → Tuple → Option Key → Type 0
 AllAgree k l = values.AllAgree k (expressions l)
 
 -- ---- worlds
-
--- the expression of a phrase, if it has one
-abbrev pub expression_of : Body → Option Tree
-expression_of (valued x) = Some x
-expression_of plain = None
-expression_of (priced n x) = None
-
--- the expression of the first phrase whose keyword passes the test
-abbrev pub phrase_value : (Role → Bool) → List Phrase → Option Tree
-phrase_value test [] = None
-phrase_value test (p ∷ ps) = if test (role_of p.word) then expression_of p.body else phrase_value test ps
 
 abbrev pub AreIndexed : World → Option Braces → List Key → Type 0
 AreIndexed w b = world.AreIndexed w (indexing b)

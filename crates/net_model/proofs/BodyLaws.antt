@@ -10,8 +10,8 @@ use Rattle.net_tree.specs.Print.{put, put_links, put_body}
 use Rattle.net_tree.specs.Depth.{depth, body_depth}
 use Rattle.net_tree.specs.WellFormed.{precedence, IsWellFormed}
 use Rattle.net_tree.specs.Phrases.{IsNothing, IsNumeral, IsBound, IsOperand, IsValue, IsReference, IsPrice}
-use Rattle.net_model.specs.declared.phrase.Slot.{Slot}
-use Rattle.net_model.specs.declared.phrase.Slot.TheVariants as slots
+use Rattle.net_model.specs.declared.phrases.Slot.{Slot}
+use Rattle.net_model.specs.declared.phrases.Slot.TheVariants as slots
 use Rattle.net_model.specs.declared.expected.Expected.TheVariants as sorts
 use Rattle.net_model.specs.declared.parse_error.Awaiting.TheVariants as awaiting
 use Rattle.net_model.specs.Reading.{Tokens, next_is}

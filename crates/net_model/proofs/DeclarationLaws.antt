@@ -14,8 +14,8 @@ use Rattle.net_tree.specs.WellFormed.{precedence, AreBraces}
 use Rattle.net_tree.specs.Conditions.{IsCondition}
 use Rattle.net_tree.specs.Phrases.{ArePhrases, IsOptionalComma, AreSetPhrases, AreParamPhrases, AreArcPhrases}
 use Rattle.net_tree.specs.Declarations.{IsIndexing, IsObjective, IsDeclaration}
-use Rattle.net_model.specs.declared.phrase.Owner.{Owner}
-use Rattle.net_model.specs.declared.phrase.Owner.TheVariants as owners
+use Rattle.net_model.specs.declared.phrases.Owner.{Owner}
+use Rattle.net_model.specs.declared.phrases.Owner.TheVariants as owners
 use Rattle.net_model.specs.declared.expected.Expected.TheVariants as sorts
 use Rattle.net_model.specs.declared.parse_error.Awaiting.TheVariants as awaiting
 use Rattle.net_model.specs.Reading.{Tokens, next_is}

@@ -9,8 +9,8 @@ use Rattle.net_tree.specs.declared.operator.Words.TheVariants.{One, Two}
 use Rattle.net_tree.specs.declared.role.Relation.TheVariants as relations
 use Rattle.net_tree.specs.declared.role.Role.{Role}
 use Rattle.net_tree.specs.declared.role.Role.TheVariants as roles
-use Rattle.net_tree.specs.Erasure.{is_outflow, expression, operands, condition}
-use Rattle.net_tree.specs.Operations.{operation, operations, operation_in, is_minus}
+use Rattle.net_tree.specs.Erasure.{expression, operands, condition}
+use Rattle.net_tree.specs.Operations.{operation, operations, operation_in, is_minus, is_outflow}
 use Rattle.net_tree.specs.Precedence.{of_product, of_sum}
 use Rattle.net_tree.specs.Print.{put, put_links, put_condition}
 use Rattle.net_tree.specs.Role.{marks, keys, role_of, is_sign, is_not, is_bound}

@@ -14,7 +14,7 @@ use Rattle.net_tree.specs.declared.role.Begins.TheVariants as begins
 use Rattle.net_tree.specs.declared.role.Relation.TheVariants as relations
 use Rattle.net_tree.specs.declared.role.Role.{Role}
 use Rattle.net_tree.specs.declared.role.Role.TheVariants as roles
-use Rattle.net_tree.specs.Precedence.{of_reduction, of_product}
+use Rattle.net_tree.specs.Precedence.{of_operands, of_reduction, of_product}
 use Rattle.net_tree.specs.Syntax.{Expression, leaf, reduced, chain, net, no_more, none, apply, absent, present, Braces, filled, plain, valued, Phrase, one, param, node, objective}
 use Rattle.net_model.specs.Operators.{Production, operators, IsEntry, can_follow}
 use Rattle.net_model.specs.Grammar.{room, IsExpression}
@@ -168,20 +168,20 @@ code _ = 0
 
 abbrev is_settled : List (Production × BinOp × ℕ) → ℕ → ℕ → Bool
 is_settled [] c k = true
-is_settled (e ∷ es) c k = (if nat_eq (code e.1) c then nat_eq e.2 k else true) && is_settled es c k
+is_settled (e ∷ es) c k = (if nat_eq (code e.1) c then nat_eq (of_operands e.2) k else true) && is_settled es c k
 
 entry-level : (es : List (Production × BinOp × ℕ)) (o : BinOp) (k r : ℕ) (ts rest : List Token) → is_settled es (code o) k ≡ true → IsEntry es o r ts rest → r ≡ k
 entry-level [] o k r ts rest settled h = absurd h
 entry-level (e ∷ es) o k r ts rest settled (inl ((same, at), h)) =
     let c : nat_eq (code e.1) (code o) ≡ true = (Decides-eqb (code e.1) (code o)).1 (ap code same) in
-    sym at ∙ (Decides-eqb e.2 k).0 (chosen (nat_eq (code e.1) (code o)) (nat_eq e.2 k) (is_settled es (code o) k) c settled)
+    sym at ∙ (Decides-eqb (of_operands e.2) k).0 (chosen (nat_eq (code e.1) (code o)) (nat_eq (of_operands e.2) k) (is_settled es (code o) k) c settled)
   where
     chosen : (b x y : Bool) → b ≡ true → ((if b then x else true) && y) ≡ true → x ≡ true
     chosen true true y e f = refl
     chosen true false y e f = absurd (cc)
     chosen false x y e f = absurd (cc)
 entry-level (e ∷ es) o k r ts rest settled (inr h) =
-    entry-level es o k r ts rest (second (if nat_eq (code e.1) (code o) then nat_eq e.2 k else true) (is_settled es (code o) k) settled) h
+    entry-level es o k r ts rest (second (if nat_eq (code e.1) (code o) then nat_eq (of_operands e.2) k else true) (is_settled es (code o) k) settled) h
   where
     second : (b y : Bool) → (b && y) ≡ true → y ≡ true
     second true y f = f

@@ -10,7 +10,7 @@ use Rattle.net_tree.specs.declared.role.Declares.TheVariants as declares
 use Rattle.net_tree.specs.declared.role.Relation.TheVariants as relations
 use Rattle.net_tree.specs.declared.role.Role.{Role}
 use Rattle.net_tree.specs.declared.role.Role.TheVariants as roles
-use Rattle.net_tree.specs.Erasure.{is_minimize}
+use Rattle.net_tree.specs.Operations.{is_minimize}
 use Rattle.net_tree.specs.Role.{marks, keys, role_of}
 use Rattle.net_model.specs.Operators.{Production, ◌∪◌, word}
 use Rattle.net_model.specs.GrammarOfDeclarations.{direction}

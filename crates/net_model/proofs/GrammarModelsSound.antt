@@ -7,7 +7,8 @@ use Rattle.net_lex.specs.declared.token.Kind.TheVariants as kinds
 use Rattle.net_lex.specs.declared.token.Token.{Token}
 use Rattle.net_tree.specs.declared.role.Declares.TheVariants as declares
 use Rattle.net_tree.specs.declared.role.Role.TheVariants as roles
-use Rattle.net_tree.specs.Erasure.{clause, declaration, declarations, is_minimize}
+use Rattle.net_tree.specs.Erasure.{clause, declaration, declarations}
+use Rattle.net_tree.specs.Operations.{is_minimize}
 use Rattle.net_tree.specs.Precedence.{of_or}
 use Rattle.net_tree.specs.Print.{put_part, put_declaration, print}
 use Rattle.net_tree.specs.Role.{keys, role_of}

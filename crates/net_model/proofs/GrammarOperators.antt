@@ -17,6 +17,7 @@ use Rattle.net_tree.specs.Operations.{operation, operations, operation_in, denie
 use Rattle.net_tree.specs.Print.{put_operator}
 use Rattle.net_tree.specs.Role.{marks, keys, role_in, role_of, is_not, is_membership}
 use Rattle.net_tree.specs.WellFormed.{joins, head_of}
+use Rattle.net_tree.specs.Precedence.{of_operands}
 use Rattle.net_tree.specs.WellFormed as trees
 use Rattle.net_model.specs.Operators.{Production, operators, IsEntry, can_follow, IsOperator}
 use Rattle.net_model.proofs.GrammarTokens.{texts, IsAmong, token-spelled, among, Has, is-word, has-role}
@@ -39,10 +40,11 @@ joins-joint n k (roles.Relation r) some h other = refl
 joins-joint n k roles.Comma some h other = let e : n ≡ 0 = (Decides-eqb n 0).0 h in absurd (omega arith)
 joins-joint n k _ some h other = absurd (cc)
 
--- the entry at an index of the table has this operation and precedence, and is at the head of ts
+-- the entry at an index of the table has this operation, joins operands of precedence n, and is at
+-- the head of ts
 abbrev Holds : List (Production × BinOp × ℕ) → ℕ → BinOp → ℕ → Production
 Holds [] i o n ts rest = ⊥
-Holds (e ∷ es) zero o n ts rest = ((e.1 ≡ o) × (e.2 ≡ n)) × e.0 ts rest
+Holds (e ∷ es) zero o n ts rest = ((e.1 ≡ o) × (of_operands e.2 ≡ n)) × e.0 ts rest
 Holds (e ∷ es) (suc i) o n ts rest = Holds es i o n ts rest
 
 pick : (es : List (Production × BinOp × ℕ)) (i : ℕ) (o : BinOp) (n : ℕ) (ts rest : List Token) → Holds es i o n ts rest → IsEntry es o n ts rest
@@ -85,7 +87,7 @@ mark-joined t n k j kind =
       (
         joined 4 kinds.Mark (codes "-") roles.Sign op.Minus 2 (λ t rest h. ((refl, refl), h)) refl (λ n k. anywhere 2 n) t n k j kind,
         (
-          joined 0 kinds.Mark (codes "*") (roles.Joining 1) op.Times 1 (λ t rest h. ((refl, refl), h)) refl (λ n k. anywhere 1 n) t n k j kind,
+          joined 0 kinds.Mark (codes "*") (roles.Joining 2) op.Times 1 (λ t rest h. ((refl, refl), h)) refl (λ n k. anywhere 1 n) t n k j kind,
           (
             joined 12 kinds.Mark (codes "=") (roles.Relation relations.Equal) op.Equal 7 (λ t rest h. ((refl, refl), h)) refl (λ n k. there 7 n (nat_eq k 0)) t n k j kind,
             (
@@ -124,27 +126,27 @@ word-joined t n k j kind =
     among (texts is_joint keys) t.text (role_of t) (Joined t n k) (
       joined 20 kinds.Key (codes "in") (roles.Relation relations.In) op.In 7 (λ t rest h. ((refl, refl), h)) refl (λ n k. there 7 n (nat_eq k 0)) t n k j kind,
       (
-        joined 7 kinds.Key (codes "cross") (roles.Joining 4) op.Cross 4 (λ t rest h. ((refl, refl), h)) refl (λ n k. anywhere 4 n) t n k j kind,
+        joined 7 kinds.Key (codes "cross") (roles.Joining 5) op.Cross 4 (λ t rest h. ((refl, refl), h)) refl (λ n k. anywhere 4 n) t n k j kind,
         (
           joined 22 kinds.Key (codes "within") (roles.Relation relations.Within) op.Within 7 (λ t rest h. ((refl, refl), h)) refl (λ n k. there 7 n (nat_eq k 0)) t n k j kind,
           (
-            joined 24 kinds.Key (codes "and") (roles.Joining 8) op.And 8 (λ t rest h. ((refl, refl), h)) refl (λ n k. anywhere 8 n) t n k j kind,
+            joined 24 kinds.Key (codes "and") (roles.Joining 9) op.And 8 (λ t rest h. ((refl, refl), h)) refl (λ n k. anywhere 8 n) t n k j kind,
             (
-              joined 25 kinds.Key (codes "or") (roles.Joining 9) op.Or 9 (λ t rest h. ((refl, refl), h)) refl (λ n k. anywhere 9 n) t n k j kind,
+              joined 25 kinds.Key (codes "or") (roles.Joining 10) op.Or 9 (λ t rest h. ((refl, refl), h)) refl (λ n k. anywhere 9 n) t n k j kind,
               (
                 joined 6 kinds.Key (codes "by") roles.By op.Other 3 (λ t rest h. ((refl, refl), h)) refl (λ n k. there 3 n (nat_eq k 1)) t n k j kind,
                 (
-                  joined 1 kinds.Key (codes "div") (roles.Joining 1) op.Div 1 (λ t rest h. ((refl, refl), h)) refl (λ n k. anywhere 1 n) t n k j kind,
+                  joined 1 kinds.Key (codes "div") (roles.Joining 2) op.Div 1 (λ t rest h. ((refl, refl), h)) refl (λ n k. anywhere 1 n) t n k j kind,
                   (
-                    joined 2 kinds.Key (codes "mod") (roles.Joining 1) op.Mod 1 (λ t rest h. ((refl, refl), h)) refl (λ n k. anywhere 1 n) t n k j kind,
+                    joined 2 kinds.Key (codes "mod") (roles.Joining 2) op.Mod 1 (λ t rest h. ((refl, refl), h)) refl (λ n k. anywhere 1 n) t n k j kind,
                     (
-                      joined 9 kinds.Key (codes "union") (roles.Joining 6) op.Union 6 (λ t rest h. ((refl, refl), h)) refl (λ n k. anywhere 6 n) t n k j kind,
+                      joined 9 kinds.Key (codes "union") (roles.Joining 7) op.Union 6 (λ t rest h. ((refl, refl), h)) refl (λ n k. anywhere 6 n) t n k j kind,
                       (
-                        joined 10 kinds.Key (codes "diff") (roles.Joining 6) op.Diff 6 (λ t rest h. ((refl, refl), h)) refl (λ n k. anywhere 6 n) t n k j kind,
+                        joined 10 kinds.Key (codes "diff") (roles.Joining 7) op.Diff 6 (λ t rest h. ((refl, refl), h)) refl (λ n k. anywhere 6 n) t n k j kind,
                         (
-                          joined 11 kinds.Key (codes "symdiff") (roles.Joining 6) op.Symdiff 6 (λ t rest h. ((refl, refl), h)) refl (λ n k. anywhere 6 n) t n k j kind,
+                          joined 11 kinds.Key (codes "symdiff") (roles.Joining 7) op.Symdiff 6 (λ t rest h. ((refl, refl), h)) refl (λ n k. anywhere 6 n) t n k j kind,
                           (
-                            joined 8 kinds.Key (codes "inter") (roles.Joining 5) op.Inter 5 (λ t rest h. ((refl, refl), h)) refl (λ n k. anywhere 5 n) t n k j kind,
+                            joined 8 kinds.Key (codes "inter") (roles.Joining 6) op.Inter 5 (λ t rest h. ((refl, refl), h)) refl (λ n k. anywhere 5 n) t n k j kind,
                             tt,
                           ),
                         ),

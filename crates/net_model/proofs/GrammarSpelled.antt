@@ -14,9 +14,8 @@ use Rattle.net_tree.specs.declared.operator.Reduction.TheVariants as reductions
 use Rattle.net_tree.specs.declared.operator.Words.{Words}
 use Rattle.net_tree.specs.declared.operator.Words.TheVariants.{One, Two}
 use Rattle.net_tree.specs.declared.role.Role.{Role}
-use Rattle.net_tree.specs.Erasure.{is_outflow}
-use Rattle.net_tree.specs.Operations.{operation, operations, operation_in, denied, is_minus, reduction}
-use Rattle.net_tree.specs.Precedence.{of_or}
+use Rattle.net_tree.specs.Operations.{operation, operations, operation_in, denied, is_minus, reduction, is_outflow}
+use Rattle.net_tree.specs.Precedence.{of_operands, of_or}
 use Rattle.net_tree.specs.Print.{put_operator}
 use Rattle.net_tree.specs.Role.{marks, keys, role_as, role_of, is_leaf, is_name, is_number, is_open, is_close, is_open_brace, is_close_brace, is_open_square, is_close_square, is_comma, is_colon, is_semicolon, is_sign, is_not, is_if, is_then, is_else, is_reduction, is_net, is_membership}
 use Rattle.net_tree.specs.WellFormed.{joins, head_of}
@@ -163,11 +162,11 @@ double text o membership means first ts rest (middle, (t, h, e), (u, g, f)) = re
 -- a proof for each entry of a table
 abbrev Sound : List (Production × BinOp × ℕ) → Type 0
 Sound [] = Unit {0}
-Sound (e ∷ es) = ((ts rest : List Token) → e.0 ts rest → Spelled e.1 e.2 ts rest) × Sound es
+Sound (e ∷ es) = ((ts rest : List Token) → e.0 ts rest → Spelled e.1 (of_operands e.2) ts rest) × Sound es
 
 entry-sound : (es : List (Production × BinOp × ℕ)) (o : BinOp) (n : ℕ) (ts rest : List Token) → Sound es → IsEntry es o n ts rest → Spelled o n ts rest
 entry-sound [] o n ts rest each h = absurd h
-entry-sound (e ∷ es) o n ts rest each (inl ((same, level), h)) = subst (λ m. Spelled o m ts rest) level (subst (λ p. Spelled p e.2 ts rest) same (each.0 ts rest h))
+entry-sound (e ∷ es) o n ts rest each (inl ((same, level), h)) = subst (λ m. Spelled o m ts rest) level (subst (λ p. Spelled p (of_operands e.2) ts rest) same (each.0 ts rest h))
 entry-sound (e ∷ es) o n ts rest each (inr h) = entry-sound es o n ts rest each.1 h
 
 operators-are : Sound operators

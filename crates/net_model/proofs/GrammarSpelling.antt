@@ -9,8 +9,7 @@ use Rattle.net_lex.specs.Productions.{mark}
 use Rattle.net_tree.specs.declared.role.Role.{Role}
 use Rattle.net_tree.specs.declared.role.Role.TheVariants as roles
 use Rattle.net_tree.specs.declared.operator.Reduction.TheVariants as reductions
-use Rattle.net_tree.specs.Erasure.{is_outflow}
-use Rattle.net_tree.specs.Operations.{is_minus, reduction}
+use Rattle.net_tree.specs.Operations.{is_minus, reduction, is_outflow}
 use Rattle.net_tree.specs.Role.{marks, keys, role_in, role_as, role_of, is_name, is_leaf, is_number, is_open, is_close, is_open_brace, is_close_brace, is_open_square, is_close_square, is_comma, is_colon, is_semicolon, is_sign, is_not, is_if, is_then, is_else, is_reduction, is_net}
 use Rattle.net_tree.specs.WellFormed.{joins}
 use Rattle.net_model.specs.Operators.{Production, ◌∪◌, word}

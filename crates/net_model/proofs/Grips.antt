@@ -17,7 +17,8 @@ use Rattle.net_model.specs.Expressions.{ends_braces}
 abbrev pub grip : Role → ℕ
 grip roles.OpenSquare = 0
 grip (roles.Joining zero) = 20
-grip (roles.Joining (suc m)) = suc m
+grip (roles.Joining (suc zero)) = 20
+grip (roles.Joining (suc (suc m))) = suc m
 grip roles.Sign = 2
 grip roles.Range = 3
 grip roles.By = 3
@@ -39,7 +40,8 @@ unlike n m h = grind (arith, nat_tests)
 not_joined : (n k : ℕ) (r : Role) → 0 < n → n < grip r → joins n k r ≡ false
 not_joined n k roles.Comma low h = unlike n 0 (λ e. omega (arith, e))
 not_joined n k (roles.Joining zero) low h = unlike n 0 (λ e. omega (arith, e))
-not_joined n k (roles.Joining (suc m)) low h = unlike n (suc m) (λ e. omega (arith, e))
+not_joined n k (roles.Joining (suc zero)) low h = unlike n 0 (λ e. omega (arith, e))
+not_joined n k (roles.Joining (suc (suc m))) low h = unlike n (suc m) (λ e. omega (arith, e))
 not_joined n k roles.Sign low h = unlike n 2 (λ e. omega (arith, e))
 not_joined n k roles.Range low h = ap (λ b. b && nat_eq k 0) (unlike n 3 (λ e. omega (arith, e)))
 not_joined n k roles.By low h = ap (λ b. b && nat_eq k 1) (unlike n 3 (λ e. omega (arith, e)))
@@ -62,7 +64,8 @@ same_rank n m b h = eqb-true n m (both (nat_eq n m) b h)
 pub joins-grip : (n k : ℕ) (r : Role) → 0 < n → joins n k r ≡ true → grip r ≡ n
 joins-grip n k roles.Comma low h = absurd (let e = eqb-true n 0 h in omega (arith, e))
 joins-grip n k (roles.Joining zero) low h = absurd (let e = eqb-true n 0 h in omega (arith, e))
-joins-grip n k (roles.Joining (suc m)) low h = sym (eqb-true n (suc m) h)
+joins-grip n k (roles.Joining (suc zero)) low h = absurd (let e = eqb-true n 0 h in omega (arith, e))
+joins-grip n k (roles.Joining (suc (suc m))) low h = sym (eqb-true n (suc m) h)
 joins-grip n k roles.Sign low h = sym (eqb-true n 2 h)
 joins-grip n k roles.Range low h = sym (same_rank n 3 (nat_eq k 0) h)
 joins-grip n k roles.By low h = sym (same_rank n 3 (nat_eq k 1) h)
@@ -74,7 +77,8 @@ joins-grip n k _ low h = absurd (cc)
 pub list-grip : (k : ℕ) (r : Role) → joins 0 k r ≡ true → grip r ≡ 20
 list-grip k roles.Comma h = refl
 list-grip k (roles.Joining zero) h = refl
-list-grip k (roles.Joining (suc m)) h = absurd (let e = eqb-true 0 (suc m) h in omega (arith, e))
+list-grip k (roles.Joining (suc zero)) h = refl
+list-grip k (roles.Joining (suc (suc m))) h = absurd (let e = eqb-true 0 (suc m) h in omega (arith, e))
 list-grip k _ h = absurd (cc)
 
 pub next_grip-operator : (o : Operator) (r : Tokens) → next_grip (put_operator o r) ≡ grip (role_of (head_of o))

@@ -10,11 +10,11 @@ use Rattle.net_tree.specs.declared.role.Role.TheVariants as roles
 use Rattle.net_tree.specs.Role.{role_of, is_open_brace, is_colon, is_comma, is_semicolon, is_sign, is_net}
 use Rattle.net_tree.specs.Tree.{Tree, signed, net, leaf, plain, valued, priced, Phrase, unsaid, one, between, Declaration, set, param, check, node, arc, objective}
 use Rattle.net_tree.specs.View.{links_from}
-use Rattle.net_model.specs.declared.phrase.Owner.{Owner}
-use Rattle.net_model.specs.declared.phrase.Owner.TheVariants as owners
-use Rattle.net_model.specs.declared.phrase.Slot.{Slot}
-use Rattle.net_model.specs.declared.phrase.Slot.TheVariants as slots
-use Rattle.net_model.specs.declared.phrase.Stood.{Stood}
+use Rattle.net_model.specs.declared.phrases.Owner.{Owner}
+use Rattle.net_model.specs.declared.phrases.Owner.TheVariants as owners
+use Rattle.net_model.specs.declared.phrases.Slot.{Slot}
+use Rattle.net_model.specs.declared.phrases.Slot.TheVariants as slots
+use Rattle.net_model.specs.declared.phrases.Stood.{Stood}
 use Rattle.net_model.specs.declared.expected.Expected.TheVariants as sorts
 use Rattle.net_model.specs.declared.parse_error.Awaiting.TheVariants as awaiting
 use Rattle.net_model.specs.Reading.{Tokens, Read, ◌>>=◌, read_as, rejected, next_is, expect}

@@ -12,7 +12,7 @@ use Rattle.net_tree.specs.Tree.{absent, Braces, unsaid, Declaration, set, param,
 use Rattle.net_tree.specs.Print.{put, put_part, put_indexing, put_phrases, put_condition, put_declaration}
 use Rattle.net_tree.specs.Depth.{indexing_depth, declaration_depth}
 use Rattle.net_tree.specs.Declarations.{IsIndexing, IsDeclaration}
-use Rattle.net_model.specs.declared.phrase.Owner.TheVariants as owners
+use Rattle.net_model.specs.declared.phrases.Owner.TheVariants as owners
 use Rattle.net_model.specs.declared.expected.Expected.TheVariants as sorts
 use Rattle.net_model.specs.declared.parse_error.Awaiting.TheVariants as awaiting
 use Rattle.net_model.specs.Reading.{Tokens, next_is}

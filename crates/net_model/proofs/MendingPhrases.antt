@@ -9,11 +9,11 @@ use Rattle.net_tree.specs.Print.{put_optional, put_body, put_phrases}
 use Rattle.net_tree.specs.Depth.{body_depth, phrases_depth}
 use Rattle.net_tree.specs.WellFormed.{precedence}
 use Rattle.net_tree.specs.Phrases.{IsOptionalComma, ArePhrases}
-use Rattle.net_model.specs.declared.phrase.Owner.{Owner}
-use Rattle.net_model.specs.declared.phrase.Owner.TheVariants as owners
-use Rattle.net_model.specs.declared.phrase.Slot.{Slot}
-use Rattle.net_model.specs.declared.phrase.Slot.TheVariants as slots
-use Rattle.net_model.specs.declared.phrase.Stood.{Stood}
+use Rattle.net_model.specs.declared.phrases.Owner.{Owner}
+use Rattle.net_model.specs.declared.phrases.Owner.TheVariants as owners
+use Rattle.net_model.specs.declared.phrases.Slot.{Slot}
+use Rattle.net_model.specs.declared.phrases.Slot.TheVariants as slots
+use Rattle.net_model.specs.declared.phrases.Stood.{Stood}
 use Rattle.net_model.specs.declared.expected.Expected.TheVariants as sorts
 use Rattle.net_model.specs.declared.parse_error.Awaiting.TheVariants as awaiting
 use Rattle.net_model.specs.Reading.{Tokens, Read, ◌>>=◌, read_as, rejected, expect}

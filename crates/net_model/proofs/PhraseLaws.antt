@@ -9,9 +9,9 @@ use Rattle.net_tree.specs.Tree.{Phrase}
 use Rattle.net_tree.specs.Print.{put_optional, put_body, put_phrases}
 use Rattle.net_tree.specs.Depth.{body_depth, phrases_depth}
 use Rattle.net_tree.specs.Phrases.{IsOptionalComma, ArePhrases, count}
-use Rattle.net_model.specs.declared.phrase.Owner.{Owner}
-use Rattle.net_model.specs.declared.phrase.Slot.{Slot}
-use Rattle.net_model.specs.declared.phrase.Stood.{Stood}
+use Rattle.net_model.specs.declared.phrases.Owner.{Owner}
+use Rattle.net_model.specs.declared.phrases.Slot.{Slot}
+use Rattle.net_model.specs.declared.phrases.Stood.{Stood}
 use Rattle.net_model.specs.Reading.{Tokens}
 use Rattle.net_model.specs.Expressions.{Inner, nested}
 use Rattle.net_model.specs.Phrases.{slot_of, stood_before, and_then_stood, nothing_stood, begins_phrase, phrase_next, phrase_of_slot, worded, comma_at, phrase_at, phrases, phrases_end}

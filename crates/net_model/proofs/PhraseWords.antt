@@ -8,11 +8,11 @@ use Rattle.net_tree.specs.declared.role.Role.TheVariants as roles
 use Rattle.net_tree.specs.Role.{is_comma, is_else, is_semicolon}
 use Rattle.net_tree.specs.Tree.{Body}
 use Rattle.net_tree.specs.Phrases.{OfSet, OfParam, OfArc, is_dimen, is_default, is_becomes, is_at_least, is_at_most, is_from, is_to}
-use Rattle.net_model.specs.declared.phrase.Owner.{Owner}
-use Rattle.net_model.specs.declared.phrase.Owner.TheVariants as owners
-use Rattle.net_model.specs.declared.phrase.Slot.{Slot}
-use Rattle.net_model.specs.declared.phrase.Slot.TheVariants as slots
-use Rattle.net_model.specs.declared.phrase.Stood.{Stood}
+use Rattle.net_model.specs.declared.phrases.Owner.{Owner}
+use Rattle.net_model.specs.declared.phrases.Owner.TheVariants as owners
+use Rattle.net_model.specs.declared.phrases.Slot.{Slot}
+use Rattle.net_model.specs.declared.phrases.Slot.TheVariants as slots
+use Rattle.net_model.specs.declared.phrases.Stood.{Stood}
 use Rattle.net_model.specs.Phrases.{set_slot, param_slot, arc_slot, slot_of, stood_before, and_then_stood, goes_on}
 use Rattle.net_model.proofs.Grips.{grip}
 use Rattle.net_model.proofs.BodyLaws.{BodyOf}

@@ -13,7 +13,7 @@ use Rattle.net_tree.specs.WellFormed.{joins}
 
 -- a role that no table should give
 unjoining : Role → Bool
-unjoining (roles.Joining m) = not (nat_eq m 2)
+unjoining (roles.Joining m) = not (nat_eq m 3)
 unjoining _ = true
 
 all_pass : (Role → Bool) → List (List ℕ × Role) → Bool

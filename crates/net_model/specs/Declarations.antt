@@ -8,7 +8,7 @@ use Rattle.net_tree.specs.declared.role.Declares.TheVariants as declares
 use Rattle.net_tree.specs.Role.{role_of, is_open_brace}
 use Rattle.net_tree.specs.Precedence.{of_union, of_or}
 use Rattle.net_tree.specs.Tree.{Part, absent, part, Braces, Declaration, set, param, check, node, arc, objective}
-use Rattle.net_model.specs.declared.phrase.Owner.TheVariants as owners
+use Rattle.net_model.specs.declared.phrases.Owner.TheVariants as owners
 use Rattle.net_model.specs.declared.parse_error.Awaiting.{Awaiting}
 use Rattle.net_model.specs.declared.parse_error.Awaiting.TheVariants as awaiting
 use Rattle.net_model.specs.declared.expected.Expected.TheVariants as sorts

@@ -1,6 +1,6 @@
 -- Which model the tokens of a text are, and when they are none.
 use Rattle.std.specs.Prelude.{◌≡◌, ◌≤◌, ◌<◌, ℕ, suc, Bool, true, false, List, [], ◌∷◌, ◌++◌}
-use Rattle.net_fault.specs.declared.span.Span.{Span}
+use Rattle.net_base.specs.declared.diagnostic.Span.{Span}
 use Rattle.net_lex.specs.declared.token.Token.{Token}
 use Rattle.net_tree.specs.declared.role.Role.{Role}
 use Rattle.net_tree.specs.declared.role.Role.TheVariants as roles
@@ -9,10 +9,10 @@ use Rattle.net_tree.specs.Tree.{Declaration}
 use Rattle.net_tree.specs.Print.{print}
 use Rattle.net_tree.specs.Depth.{model_depth}
 use Rattle.net_tree.specs.Declarations.{AreDeclarations}
-use Rattle.net_fault.specs.declared.error_code.ErrorCode.TheVariants as error_codes
-use Rattle.net_fault.specs.declared.error_code.ErrorCode.{ErrorCode}
-use Rattle.net_fault.specs.declared.fault.Fault.{Fault}
-use Rattle.net_fault.specs.declared.fault.Fault.TheVariants as faults
+use Rattle.net_base.specs.declared.error_code.ErrorCode.TheVariants as error_codes
+use Rattle.net_base.specs.declared.error_code.ErrorCode.{ErrorCode}
+use Rattle.net_base.specs.declared.fault.Fault.{Fault}
+use Rattle.net_base.specs.declared.fault.Fault.TheVariants as faults
 use Rattle.net_model.specs.Reading.{Tokens}
 use Rattle.net_model.specs.Declarations.{nesting_limit}
 use Rattle.net_model.specs.Faults.{end_of}

@@ -4,13 +4,13 @@ use Rattle.net_lex.specs.declared.token.Token.{Token}
 use Rattle.net_tree.specs.declared.declaration.Model.{Model}
 use Rattle.net_tree.specs.Tree.{Declaration}
 use Rattle.net_tree.specs.View as view
-use Rattle.net_fault.specs.declared.error_code.ErrorCode.{ErrorCode}
+use Rattle.net_base.specs.declared.error_code.ErrorCode.{ErrorCode}
 use Rattle.net_resolve.specs.Reported as names
 use Rattle.net_resolve.specs.Reported.{diagnostic_of}
 use Rattle.net_resolve.specs.Names.{names_fault}
-use Rattle.net_fault.specs.declared.diagnostic.Diagnostic.{Diagnostic}
-use Rattle.net_fault.specs.declared.fault.Fault.{Fault}
-use Rattle.net_fault.specs.declared.fault.Fault.TheVariants as faults
+use Rattle.net_base.specs.declared.diagnostic.Diagnostic.{Diagnostic}
+use Rattle.net_base.specs.declared.fault.Fault.{Fault}
+use Rattle.net_base.specs.declared.fault.Fault.TheVariants as faults
 use Rattle.net_model.specs.Reading.{Tokens, Read}
 use Rattle.net_model.specs.Faults.{reported}
 use Rattle.net_model.specs.Declarations.{model_at, nesting_limit}

@@ -5,7 +5,7 @@ use Rattle.net_lex.specs.declared.token.Token.{Token}
 use Rattle.net_lex.specs.Productions.{◌⨾◌, literal, mark}
 use Rattle.net_tree.specs.declared.operator.BinOp.{BinOp}
 use Rattle.net_tree.specs.declared.operator.BinOp.TheVariants as op
-use Rattle.net_tree.specs.Precedence.{of_reduction, of_product, of_sum, of_range, of_cross, of_inter, of_union, of_relation, of_and}
+use Rattle.net_tree.specs.Precedence.{of_operands, of_product, of_sum, of_range, of_cross, of_inter, of_union, of_relation, of_and, of_or}
 
 -- tokens, and the tokens that remain after them
 abbrev pub Production : Type 1
@@ -28,28 +28,27 @@ when C P ts rest = C × P ts rest
 abbrev pub word : List ℕ → Production
 word = literal kinds.Key
 
--- each operator with its operation and the maximum precedence of its operands; `by` is no
--- operation of its own
+-- each operator with its operation and its precedence; `by` is no operation of its own
 abbrev pub operators : List (Production × BinOp × ℕ)
 operators =
-    (mark (codes "*"), op.Times, of_reduction) ∷ (word (codes "div"), op.Div, of_reduction) ∷ (word (codes "mod"), op.Mod, of_reduction)
-    ∷ (mark (codes "+"), op.Plus, of_product) ∷ (mark (codes "-"), op.Minus, of_product)
-    ∷ (mark (codes ".."), op.Range, of_sum) ∷ (word (codes "by"), op.Other, of_sum)
-    ∷ (word (codes "cross"), op.Cross, of_range)
-    ∷ (word (codes "inter"), op.Inter, of_cross)
-    ∷ (word (codes "union"), op.Union, of_inter) ∷ (word (codes "diff"), op.Diff, of_inter) ∷ (word (codes "symdiff"), op.Symdiff, of_inter)
-    ∷ (mark (codes "="), op.Equal, of_union) ∷ (mark (codes "=="), op.Equal, of_union) ∷ (mark (codes "<>"), op.Unequal, of_union) ∷ (mark (codes "!="), op.Unequal, of_union)
-    ∷ (mark (codes "<"), op.Less, of_union) ∷ (mark (codes "<="), op.AtMost, of_union) ∷ (mark (codes ">"), op.Greater, of_union) ∷ (mark (codes ">="), op.AtLeast, of_union)
-    ∷ (word (codes "in"), op.In, of_union) ∷ (word (codes "not") ⨾ word (codes "in"), op.NotIn, of_union)
-    ∷ (word (codes "within"), op.Within, of_union) ∷ (word (codes "not") ⨾ word (codes "within"), op.NotWithin, of_union)
-    ∷ (word (codes "and"), op.And, of_relation)
-    ∷ (word (codes "or"), op.Or, of_and)
+    (mark (codes "*"), op.Times, of_product) ∷ (word (codes "div"), op.Div, of_product) ∷ (word (codes "mod"), op.Mod, of_product)
+    ∷ (mark (codes "+"), op.Plus, of_sum) ∷ (mark (codes "-"), op.Minus, of_sum)
+    ∷ (mark (codes ".."), op.Range, of_range) ∷ (word (codes "by"), op.Other, of_range)
+    ∷ (word (codes "cross"), op.Cross, of_cross)
+    ∷ (word (codes "inter"), op.Inter, of_inter)
+    ∷ (word (codes "union"), op.Union, of_union) ∷ (word (codes "diff"), op.Diff, of_union) ∷ (word (codes "symdiff"), op.Symdiff, of_union)
+    ∷ (mark (codes "="), op.Equal, of_relation) ∷ (mark (codes "=="), op.Equal, of_relation) ∷ (mark (codes "<>"), op.Unequal, of_relation) ∷ (mark (codes "!="), op.Unequal, of_relation)
+    ∷ (mark (codes "<"), op.Less, of_relation) ∷ (mark (codes "<="), op.AtMost, of_relation) ∷ (mark (codes ">"), op.Greater, of_relation) ∷ (mark (codes ">="), op.AtLeast, of_relation)
+    ∷ (word (codes "in"), op.In, of_relation) ∷ (word (codes "not") ⨾ word (codes "in"), op.NotIn, of_relation)
+    ∷ (word (codes "within"), op.Within, of_relation) ∷ (word (codes "not") ⨾ word (codes "within"), op.NotWithin, of_relation)
+    ∷ (word (codes "and"), op.And, of_and)
+    ∷ (word (codes "or"), op.Or, of_or)
     ∷ []
 
--- an entry of the table with this operation and this precedence of its operands
+-- an entry of the table with this operation, which joins operands of precedence n
 abbrev pub IsEntry : List (Production × BinOp × ℕ) → BinOp → ℕ → Production
 IsEntry [] o n = never
-IsEntry (e ∷ es) o n = when ((e.1 ≡ o) × (e.2 ≡ n)) e.0 ∪ IsEntry es o n
+IsEntry (e ∷ es) o n = when ((e.1 ≡ o) × (of_operands e.2 ≡ n)) e.0 ∪ IsEntry es o n
 
 -- whether the operator can follow k others in a chain of operands of precedence n: a comparison has
 -- one operator, a range has `..` and then `by`

@@ -8,11 +8,11 @@ use Rattle.net_tree.specs.declared.role.Relation.TheVariants as relations
 use Rattle.net_tree.specs.Role.{role_of, is_comma, is_semicolon}
 use Rattle.net_tree.specs.Precedence.{of_sum, of_union}
 use Rattle.net_tree.specs.Tree.{leaf, Body, plain, valued, priced, Phrase}
-use Rattle.net_model.specs.declared.phrase.Owner.{Owner}
-use Rattle.net_model.specs.declared.phrase.Owner.TheVariants as owners
-use Rattle.net_model.specs.declared.phrase.Slot.{Slot}
-use Rattle.net_model.specs.declared.phrase.Slot.TheVariants as slots
-use Rattle.net_model.specs.declared.phrase.Stood.{Stood}
+use Rattle.net_model.specs.declared.phrases.Owner.{Owner}
+use Rattle.net_model.specs.declared.phrases.Owner.TheVariants as owners
+use Rattle.net_model.specs.declared.phrases.Slot.{Slot}
+use Rattle.net_model.specs.declared.phrases.Slot.TheVariants as slots
+use Rattle.net_model.specs.declared.phrases.Stood.{Stood}
 use Rattle.net_model.specs.declared.parse_error.Awaiting.{Awaiting}
 use Rattle.net_model.specs.declared.parse_error.Awaiting.TheVariants as awaiting
 use Rattle.net_model.specs.declared.expected.Expected.TheVariants as sorts

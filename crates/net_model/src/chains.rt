@@ -12,8 +12,8 @@ use crate::expressions::unary_of;
 use crate::parse_error::ParseError;
 use crate::stored::{Stored, push};
 use crate::trees::{chained, linked};
+use net_base::Items;
 use net_tree::{Expr, Link, precedence};
-use net_views::Items;
 use std::alloc::Global;
 
 /// Parses a tree of at most this precedence, up to an `or`.

@@ -14,9 +14,9 @@ use crate::cursor::{Cursor, expect};
 use crate::expected::Expected;
 use crate::parse_error::{Awaiting, ParseError};
 use crate::stored::{Stored, boxed};
+use net_base::Boxed;
 use net_lex::Token;
 use net_tree::{Expr, Part, precedence};
-use net_views::Boxed;
 use std::alloc::Global;
 
 /// Parses an `if`, or a tree of at most this precedence.

@@ -14,13 +14,13 @@ ghost use Rattle.net_model.specs.declared.parse_error.ParseError.TheVariants.{Ou
 use crate::carried::Carried;
 use crate::chains::climb_to;
 use crate::cursor::{Cursor, expect, operator_at};
-use crate::expected::Expected;
+use crate::expected::{Expected, is_sort};
 use crate::parse_error::{Awaiting, ParseError};
 use crate::stored::{Stored, boxed, push};
 use crate::trees::{chained, linked};
+use net_base::Items;
 use net_lex::Token;
-use net_tree::{Expr, Link, NetCond, Relation, Role, Sign, precedence, role_of};
-use net_views::Items;
+use net_tree::{Expr, Link, NetCond, NetWord, Relation, Role, Sign, Terminal, precedence};
 use std::alloc::Global;
 
 /// Parses `net_in` or `net_out`.
@@ -33,7 +33,7 @@ fn net_at<'t, 's>(
     ensures shorter { IfOk result (λ x. length tokens.new < length tokens.old) }
 {
     let word = expect(Expected::Net, Awaiting::Other, tokens)?;
-    let parts = boxed(alloc, (None, word))?;
+    let parts = boxed(alloc, (None, NetWord::new(word)))?;
     Stored::new(alloc, Expr::Net(parts))
 }
 
@@ -59,7 +59,7 @@ fn signed_net_at<'t, 's>(
 {
     let sign = expect(Expected::Sign, Awaiting::Other, tokens)?;
     let word = expect(Expected::Net, Awaiting::Other, tokens)?;
-    let parts = boxed(alloc, (Some(Sign::new(sign)), word))?;
+    let parts = boxed(alloc, (Some(Sign::new(sign)), NetWord::new(word)))?;
     Stored::new(alloc, Expr::Net(parts))
 }
 
@@ -178,7 +178,22 @@ fn chain_next(bound: Role, tokens: &Cursor<'_, '_>) -> bool
 struct Begun<'s> {
     colon: Token<'s>,
     left: Stored<Expr<'s>>,
-    bound: Token<'s>,
+    bound: Terminal<'s>,
+}
+
+/// Consumes a relation that can bound a net inflow. Returns an error if another token is next.
+#[tactic(auto, unfolding(crate::specs::Reading::expect))]
+fn bound_at<'t, 's>(tokens: &mut Cursor<'t, 's>) -> Result<Terminal<'s>, ParseError>
+    ensures value { Gives (λ t. t) result tokens.new (expect sorts.Bound awaiting.Other tokens.old) }
+    ensures shorter { IfOk result (λ x. length tokens.new < length tokens.old) }
+    // Allocates no memory, so it never returns `OutOfMemory`.
+    ensures sure { IfErr result (λ e. e ≡ OutOfMemory → ⊥) }
+{
+    let left = tokens.len();
+    match tokens.next_with_role() {
+        Some((role, token)) if is_sort(Expected::Bound, role) => Ok(Terminal::new(token, role)),
+        _ => Err(ParseError::Rejected(left, Awaiting::Other)),
+    }
 }
 
 /// Builds a condition with one relation.
@@ -207,7 +222,7 @@ fn between_at<'t, 's>(
         read_as (between begun.entry.colon (tree begun.entry.left) begun.entry.bound (tree middle.entry) q.0 z.0) z.1) }
     ensures shorter { IfOk result (λ x. length tokens.new ≤ length tokens.old) }
 {
-    let second = expect(Expected::Bound, Awaiting::Other, tokens)?;
+    let second = bound_at(tokens)?;
     let high = climb_to(alloc, depth, precedence::SUM, tokens)?;
     let Begun { colon, left, bound } = begun;
     let condition = NetCond::Between(
@@ -234,7 +249,7 @@ fn high_at<'t, 's>(
         (tree middle.entry) tokens.old) }
     ensures shorter { IfOk result (λ x. length tokens.new ≤ length tokens.old) }
 {
-    if chain_next(role_of(&begun.bound), tokens) {
+    if chain_next(begun.bound.role(), tokens) {
         between_at(alloc, depth, begun, middle, tokens)
     } else {
         Ok(one(alloc, begun, middle)?)
@@ -291,7 +306,7 @@ fn said_at<'t, 's>(
 {
     let colon = expect(Expected::Colon, Awaiting::Other, tokens)?;
     let (left, free) = sum_at(alloc, depth, true, tokens)?;
-    let bound = expect(Expected::Bound, Awaiting::Other, tokens)?;
+    let bound = bound_at(tokens)?;
     let begun = Begun { colon, left, bound };
     bounded_at(alloc, depth, begun, free, tokens)
 }

@@ -20,12 +20,11 @@ use crate::conditions::condition_at;
 use crate::cursor::{Cursor, expect};
 use crate::expected::Expected;
 use crate::parse_error::{Awaiting, ParseError};
-use crate::phrase::Owner;
-use crate::phrases::{phrases, phrases_end};
+use crate::phrases::{Owner, phrases, phrases_end};
 use crate::stored::{Stored, push};
+use net_base::Items;
 use net_lex::Token;
 use net_tree::{Braces, Decl, Declares, Part, Phrase, Role, precedence};
-use net_views::Items;
 use std::alloc::Global;
 
 /// Parses the indexing of a declaration, if present.

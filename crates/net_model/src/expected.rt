@@ -1,6 +1,7 @@
 //! The sorts of tokens that the grammar of models expects.
 
 ghost use Rattle.std.specs.Prelude.{◌≡◌};
+ghost use Rattle.net_tree.specs.Precedence.{of_operands};
 ghost use Rattle.net_tree.specs.WellFormed.{joins};
 ghost use Rattle.net_tree.specs.Role.{is_not};
 ghost use Rattle.net_model.specs.Expressions.{ends_braces};
@@ -62,6 +63,16 @@ pub(crate) fn is_sort(sort: Expected, role: Role) -> bool
     }
 }
 
+/// Returns the maximum precedence of the operands of an operator with this precedence.
+fn operand_precedence(own: u8) -> u8
+    ensures { result ≡ of_operands own }
+{
+    match own {
+        0 => 0,
+        _ => own - 1,
+    }
+}
+
 /// Returns whether a token of this role joins operands of precedence `joining`, after `count`
 /// links.
 pub(crate) fn joins(joining: u8, count: usize, role: Role) -> bool
@@ -69,7 +80,7 @@ pub(crate) fn joins(joining: u8, count: usize, role: Role) -> bool
 {
     match role {
         Role::Comma => joining == precedence::COMMA,
-        Role::Joining(own) => joining == own,
+        Role::Joining(own) => joining == operand_precedence(own),
         Role::Sign => joining == precedence::PRODUCT,
         Role::Range => joining == precedence::SUM && count == 0,
         Role::By => joining == precedence::SUM && count == 1,

@@ -20,9 +20,9 @@ use crate::expected::Expected;
 use crate::parse_error::{Awaiting, ParseError};
 use crate::stored::{Stored, boxed};
 use crate::trees::{is_none, is_sum};
+use net_base::Items;
 use net_lex::Token;
-use net_tree::{Braces, Expr, Link, Operands, Role, Sign, precedence};
-use net_views::Items;
+use net_tree::{Braces, Expr, Leaf, Link, Operands, Role, Sign, precedence};
 use std::alloc::Global;
 
 /// Parses an atom, a signed operand or a reduction.
@@ -42,7 +42,7 @@ pub(crate) fn unary_of<'t, 's>(
     };
     match role {
         Role::Name => named_of(alloc, depth, token, tokens),
-        Role::Number | Role::Text => Stored::new(alloc, Expr::Leaf(token)),
+        Role::Number | Role::Text => Stored::new(alloc, Expr::Leaf(Leaf::new(token))),
         Role::Not => negated_of(alloc, depth, token, tokens),
         Role::Open | Role::OpenBrace | Role::Sign | Role::Reduction if depth == 0 => {
             Err(ParseError::TooDeep(left))
@@ -95,7 +95,7 @@ pub(crate) fn named_of<'t, 's>(
     ensures shorter { IfOk result (λ x. length tokens.new ≤ length tokens.old) }
 {
     if !tokens.next_is(Expected::OpenSquare) {
-        Stored::new(alloc, Expr::Leaf(name))
+        Stored::new(alloc, Expr::Leaf(Leaf::new(name)))
     } else if depth == 0 {
         Err(ParseError::TooDeep(tokens.len()))
     } else {

@@ -2,10 +2,10 @@
 
 ghost use Rattle.std.specs.Prelude.{◌≡◌, length, IfOk};
 ghost use Rattle.net_model.specs.Faults as faults;
-ghost use Rattle.net_fault.specs.declared.fault.Fault.TheVariants.{At};
+ghost use Rattle.net_base.specs.declared.fault.Fault.TheVariants.{At};
 
 use crate::parse_error::{Awaiting, ParseError};
-use net_fault::{Detail, ErrorCode, Fault, Language, Span};
+use net_base::{Detail, ErrorCode, Fault, Language, Span};
 use net_lex::{Kind, Token};
 use net_tree::{Relation, Role, role_of};
 use std::alloc::{AllocError, Global};

@@ -4,6 +4,7 @@
 mod braces;
 mod carried;
 mod chains;
+mod checked_model;
 mod choices;
 mod conditions;
 mod cursor;
@@ -12,18 +13,16 @@ mod expected;
 mod expressions;
 mod fault;
 mod laws;
-mod named;
 mod parse;
 mod parse_error;
-mod phrase;
 mod phrases;
 mod stored;
 mod trees;
 
+pub use checked_model::CheckedModel;
 pub use laws::{
     grammar_complete, grammar_sound, grammar_unique, one_tree, parsed_or_rejected, read_back,
 };
-pub use named::{free_model, parse_model};
-pub use net_fault::Fault as ModelFault;
+pub use net_base::Fault as ModelFault;
 pub use net_tree::{Decl, Expr, Model, NetCond};
-pub use parse::parse_declarations;
+pub use parse::{free_model, parse_declarations, parse_model};

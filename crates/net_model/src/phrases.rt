@@ -15,11 +15,10 @@ use crate::cursor::{Cursor, expect};
 use crate::expected::Expected;
 use crate::expressions::named_of;
 use crate::parse_error::{Awaiting, ParseError};
-use crate::phrase::{Owner, Slot, Stood};
 use crate::stored::{Stored, push};
+use net_base::Items;
 use net_lex::Token;
-use net_tree::{Begins, Body, Expr, Phrase, Relation, Role, precedence};
-use net_views::Items;
+use net_tree::{Begins, Body, Expr, Leaf, Phrase, Relation, Role, Terminal, precedence};
 use std::alloc::Global;
 
 /// Returns what follows this keyword in a phrase, if the declaration has such a phrase.
@@ -178,7 +177,7 @@ fn body_of<'t, 's>(
         Slot::Nothing => Stored::new(alloc, Body::Plain),
         Slot::Number => {
             let number = expect(Expected::Number, Awaiting::Other, tokens)?;
-            Stored::new(alloc, Body::Valued(Expr::Leaf(number)))
+            Stored::new(alloc, Body::Valued(Expr::Leaf(Leaf::new(number))))
         }
         Slot::Set => valued(alloc, climb_to(alloc, depth, precedence::UNION, tokens)?),
         Slot::Sum => valued(alloc, climb_to(alloc, depth, precedence::SUM, tokens)?),
@@ -213,7 +212,7 @@ fn comma_at<'t, 's>(tokens: &mut Cursor<'t, 's>) -> Result<Option<Token<'s>>, Pa
 fn phrase_of<'s>(
     alloc: Global,
     comma: Option<Token<'s>>,
-    word: Token<'s>,
+    word: Terminal<'s>,
     body: Stored<Body<'s>>,
 ) -> Result<Stored<Phrase<'s>>, ParseError>
     ensures value { IfOk result (λ p. view.phrase_of p ≡ record { comma = comma.entry; word = word.entry; body = view.body_of body.entry }) }
@@ -247,7 +246,7 @@ fn worded<'t, 's>(
         None => Err(ParseError::Rejected(left, Awaiting::Phrase)),
         Some(slot) => {
             let body = body_of(alloc, depth, slot, tokens)?;
-            let phrase = phrase_of(alloc, comma, word, body)?;
+            let phrase = phrase_of(alloc, comma, Terminal::new(word, role), body)?;
             Ok((phrase, and_then_stood(stood, role)))
         }
     }
@@ -322,4 +321,44 @@ pub(crate) fn phrases_end<'t, 's>(
             }
         }
     }
+}
+
+/// A declaration with phrases.
+#[derive(Clone, Copy)]
+pub enum Owner {
+    Set,
+    Param,
+    Arc,
+}
+
+/// What follows the keyword of a phrase.
+#[derive(Clone, Copy)]
+pub enum Slot {
+    Nothing,
+    /// `dimen 2`
+    Number,
+    /// A set or a member: `within S`.
+    Set,
+    /// `>= 0`
+    Sum,
+    /// An expression or an `if`: `default 0`.
+    Value,
+    /// `from N[i]`
+    Node,
+    /// `obj Cost 3`
+    Price,
+}
+
+/// Which of the phrases that are allowed only once have occurred.
+#[derive(Clone, Copy)]
+pub struct Stood {
+    pub dimen: bool,
+    pub default: bool,
+    pub becomes: bool,
+    pub at_least: bool,
+    pub at_most: bool,
+    pub from: bool,
+    pub to: bool,
+    /// Whether the last phrase was `from` or `to`.
+    pub after_node: bool,
 }

@@ -4,7 +4,7 @@ ghost use Rattle.std.specs.Prelude.{◌≡◌, [], ◌∷◌, ◌++◌, IfOk, On
 ghost use Rattle.net_model.specs.declared.parse_error.ParseError.TheVariants.{OutOfMemory};
 
 use crate::parse_error::ParseError;
-use net_views::Boxed;
+use net_base::Boxed;
 use std::alloc::Global;
 use std::marker::Model;
 

@@ -10,8 +10,8 @@ ghost use Rattle.net_model.specs.declared.parse_error.ParseError.TheVariants.{Ou
 use crate::carried::Carried;
 use crate::parse_error::ParseError;
 use crate::stored::{Stored, boxed};
+use net_base::Items;
 use net_tree::{Expr, Link, Operands, Operator, precedence};
-use net_views::Items;
 use std::alloc::Global;
 
 /// Returns whether the tree is allowed in the position of a sum.

@@ -3,4 +3,4 @@ pub mod Texts
 mod LineEnds
 pub mod InOrder
 mod Examples
-mod LineNames
+pub mod LineNames

@@ -6,7 +6,7 @@ ghost use Rattle.net_report.specs.References.{name_in, names_in};
 ghost use Rattle.net_report.specs.Cuts as cuts;
 
 use crate::OutOfMemory;
-use crate::reference::push_name;
+use crate::links::push_name;
 use itoa::Buffer;
 use net_check::Side;
 use net_check::cut::{least_out, most_out, supply_in};

@@ -7,11 +7,11 @@ ghost use Rattle.net_report.specs.Displays as displays;
 
 use crate::OutOfMemory;
 use itoa::Buffer;
+use net_base::Excerpt;
 use net_check::wide::wide;
 use net_expr::push_member;
 use net_inst::{Declared, Key, NameList, Names};
 use net_sets::Tuple;
-use net_views::Excerpt;
 use std::alloc::{AllocError, Global};
 
 /// Formats a plan: the objective's name and value, and the value of each arc under its declared

@@ -7,7 +7,6 @@ mod display;
 mod laws;
 mod links;
 mod mapping_back;
-mod reference;
 
 pub use cut::write_cut;
 pub use display::write_display;

@@ -8,8 +8,8 @@ ghost use Rattle.net_report.specs.References.{name_in, names_in};
 ghost use Rattle.net_report.specs.Links as lines;
 
 use crate::OutOfMemory;
-use crate::reference::push_name;
 use itoa::Buffer;
+use net_expr::push_reference;
 use net_inst::{Key, NameList, Names};
 use net_normal::{Link, Sense};
 use std::alloc::{AllocError, Global};
@@ -166,4 +166,22 @@ fn ends_line(byte: u8) -> bool
     ensures { result ≡ ends_line byte }
 {
     byte == b'\n' || byte == b'\r'
+}
+
+/// Appends the name of a node or an arc, followed by its key in brackets if it is indexed. Fails
+/// only if memory runs out.
+pub(crate) fn push_name(
+    alloc: Global,
+    text: &mut String,
+    list: &NameList<'_>,
+    key: &Key<'_>,
+) -> Result<(), AllocError>
+    ensures { OnOk result (string_bytes text.new ≡ string_bytes text.old ++ name_in list.now.declarations key.now) }
+{
+    match list.declarations().get(key.declaration) {
+        None => Ok(()),
+        Some(declared) => {
+            push_reference(alloc, text, &declared.name, declared.indexed, &key.tuple)
+        }
+    }
 }

@@ -8,7 +8,7 @@ use Rattle.net_tree.specs.declared.operator.Words.TheVariants.{One, Two}
 use Rattle.net_tree.specs.Operations.{operation, operations}
 use Rattle.net_tree.specs.Role.{role_of, marks, keys}
 use Rattle.net_tree.specs.Tree.{Tree, Braces, leaf, indexed, parens, tuple, braced, reduced, chain, none, link, absent, part, filled, valued, priced, Phrase, unsaid, Declaration, set, check, node, arc, objective}
-use Rattle.net_fault.specs.declared.error_code.ErrorCode.TheVariants as error_codes
+use Rattle.net_base.specs.declared.error_code.ErrorCode.TheVariants as error_codes
 use Rattle.net_resolve.specs.Reported.{Fault}
 use Rattle.net_resolve.specs.Names.{names_fault}
 

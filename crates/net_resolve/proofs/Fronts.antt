@@ -1,13 +1,13 @@
 -- Declarations before a place, and the names that they declare.
-use Rattle.std.specs.Prelude.{◌≡◌, ◌&&◌, List, [], ◌∷◌, ◌++◌, Option, None, Some, is_none, length, take}
-use Rattle.std.proofs.Common.{refl, ap, ◌∙◌}
+use Rattle.std.specs.Prelude.{◌≡◌, ◌&&◌, Bool, true, false, List, [], ◌∷◌, ◌++◌, Option, None, Some, if◌then◌else◌, is_none, length, take}
+use Rattle.std.specs.Str.{bytes_eq}
+use Rattle.std.proofs.Common.{refl, sym, ap, ◌∙◌}
 use Rattle.net_lex.specs.declared.token.Token.{Token}
 use Rattle.net_tree.specs.Tree.{Declaration}
 use Rattle.net_resolve.specs.declared.meaning.Meaning.{Meaning}
 use Rattle.net_resolve.specs.Scopes.{Name, Scope, meaning_in}
 use Rattle.net_resolve.specs.Reported.{Fault, first}
 use Rattle.net_resolve.specs.Names.{declaration_fault, declared, with_declared, with_declaration, declared_by, names_fault}
-use Rattle.net_resolve.proofs.Keeping.{else_in, meaning_in-append}
 use Rattle.net_resolve.proofs.Walking.{Begins, begins_same, begins_trans, taken_back}
 
 none_first : (f g : Option Fault) → first f g ≡ None → f ≡ None
@@ -39,6 +39,23 @@ pub front_named : (s : Scope) (done rest : List Declaration) → take (length (d
 front_named s done rest =
     ap (take (length (declared_by s done))) (after_others s done rest)
     ∙ taken_back (declared_by s done) (declared_by (declared_by s done) rest) (all_begin (declared_by s done) rest)
+
+-- behind a scope come other names
+abbrev else_in : Name → Scope → Option Meaning → Option Meaning
+else_in name s None = meaning_in name s
+else_in name s (Some m) = Some m
+
+-- the meaning in a scope that begins with a name, by whether it is that name
+abbrev at_first : Bool → Meaning → Option Meaning → Option Meaning
+at_first b m o = if b then Some m else o
+
+at_first-else : (b : Bool) (m : Meaning) (o : Option Meaning) (name : Name) (r : Scope) → else_in name r (at_first b m o) ≡ at_first b m (else_in name r o)
+at_first-else true m o name r = refl
+at_first-else false m o name r = refl
+
+meaning_in-append : (name : Name) (s r : Scope) → meaning_in name (s ++ r) ≡ else_in name r (meaning_in name s)
+meaning_in-append name [] r = refl
+meaning_in-append name (e ∷ s) r = ap (at_first (bytes_eq e.0 name) e.1) (meaning_in-append name s r) ∙ sym (at_first-else (bytes_eq e.0 name) e.1 (meaning_in name s) name r)
 
 none_in_both : (name : Name) (r : Scope) (o : Option Meaning) → is_none (else_in name r o) ≡ (is_none o && is_none (meaning_in name r))
 none_in_both name r None = refl

@@ -1,4 +1,3 @@
-pub mod Keeping
 pub mod Cases
 pub mod Walking
 pub mod Declaring

@@ -1,6 +1,5 @@
 pub mod Meanings
 pub mod Scopes
-pub mod Consistent
 pub mod Reported
 pub mod Dummies
 pub mod Names

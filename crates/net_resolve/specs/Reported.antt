@@ -3,16 +3,16 @@ use Rattle.std.specs.Prelude.{◌≡◌, Option, None, Some, Result, Ok, Err}
 use Rattle.net_lex.specs.declared.token.Token.{Token}
 use Rattle.net_resolve.specs.declared.meaning.Meaning.{Meaning}
 use Rattle.net_resolve.specs.declared.meaning.Need.{Need}
-use Rattle.net_fault.specs.declared.error_code.ErrorCode.{ErrorCode}
-use Rattle.net_fault.specs.declared.error_code.ErrorCode.TheVariants as error_codes
+use Rattle.net_base.specs.declared.error_code.ErrorCode.{ErrorCode}
+use Rattle.net_base.specs.declared.error_code.ErrorCode.TheVariants as error_codes
 use Rattle.net_resolve.specs.declared.fault.NameFault.{NameFault}
 use Rattle.net_resolve.specs.declared.fault.NameFault.TheVariants as faults
-use Rattle.net_fault.specs.declared.fault.Fault as outcomes
-use Rattle.net_fault.specs.declared.fault.Fault.TheVariants as reported_faults
-use Rattle.net_fault.specs.declared.detail.Detail.TheVariants.{Reported}
-use Rattle.net_fault.specs.declared.diagnostic.Diagnostic.{Diagnostic}
-use Rattle.net_fault.specs.declared.language.Language.TheVariants.{Model}
-use Rattle.net_fault.specs.Outcomes.{diagnostic_at}
+use Rattle.net_base.specs.declared.fault.Fault as outcomes
+use Rattle.net_base.specs.declared.fault.Fault.TheVariants as reported_faults
+use Rattle.net_base.specs.declared.diagnostic.Detail.TheVariants.{Reported}
+use Rattle.net_base.specs.declared.diagnostic.Diagnostic.{Diagnostic}
+use Rattle.net_base.specs.declared.diagnostic.Language.TheVariants.{Model}
+use Rattle.net_base.specs.Outcomes.{diagnostic_at}
 use Rattle.net_resolve.specs.Meanings.{error_code_of}
 use Rattle.net_resolve.specs.Scopes.{Scope, meaning_in}
 

@@ -14,10 +14,12 @@ ghost use Rattle.net_resolve.specs.Reported as reported;
 
 use crate::expressions::{check, check_name, read_braces};
 use crate::fault::NameFault;
+use crate::hints::Hints;
 use crate::meaning::{Meaning, Need};
 use crate::scope::Scope;
-use net_fault::{ErrorCode, Fault};
+use net_base::{ErrorCode, Fault};
 use net_lex::Token;
+use net_sets::HashKey;
 use net_tree::{Begins, Body, Braces, Decl, Expr, Model, NetCond, Part, Phrase, Role, role_of};
 use std::alloc::Global;
 
@@ -74,7 +76,7 @@ fn check_phrases<'s>(scope: &mut Scope<'s>, phrases: &[Phrase<'s>]) -> Result<()
     ensures kept { OnOk result (scope.new ≡ scope.old) }
 {
     for phrase in phrases {
-        check_body(need_after(role_of(&phrase.word)), scope, &phrase.body)?;
+        check_body(need_after(phrase.word.role()), scope, &phrase.body)?;
     }
     Ok(())
 }
@@ -274,17 +276,17 @@ fn check_declarations<'s>(
 }
 
 /// Checks the names of a model. Returns the first error, reported at the name and with it: E12,
-/// E13, or E14 for an `obj` phrase that names an objective with an expression.
+/// E13, or E14 for an `obj` phrase that names an objective with an expression. If there is none,
+/// returns what evaluation can use.
 ///
-/// A declaration is in the scope of those before it. Takes time proportional to the number of
-/// names, times the logarithm of the number of names in scope. Stack use grows only with the depth
-/// of the trees.
-pub fn check_names(alloc: Global, model: &Model<'_>) -> Result<(), Fault>
+/// A declaration is in the scope of those before it. `key` is that of the run. Takes time
+/// proportional to the number of tokens. Stack use grows only with the depth of the trees.
+pub fn check_names<'s>(alloc: Global, key: HashKey, model: &Model<'s>) -> Result<Hints<'s>, Fault>
     ensures { ReportsOf (names.names_fault [] (view.model model.now)) result }
 {
-    let mut scope = Scope::new(alloc);
+    let mut scope = Scope::new(alloc, key);
     match check_declarations(&mut scope, model.declarations.as_slice()) {
-        Ok(()) => Ok(()),
+        Ok(()) => Ok(scope.into_hints()),
         Err(fault) => Err(fault.reported(alloc)),
     }
 }

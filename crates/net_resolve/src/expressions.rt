@@ -13,12 +13,12 @@ ghost use Rattle.net_tree.specs.Tree as trees;
 
 use crate::dummies::{add_component, add_left, is_new};
 use crate::fault::NameFault;
+use crate::iteration::record_item;
 use crate::meaning::{Need, in_subscripts, misfit};
 use crate::scope::Scope;
-use net_fault::ErrorCode;
+use net_base::{Boxed, ErrorCode};
 use net_lex::Token;
 use net_tree::{Braces, Expr, Link, Part, Role, role_of, sides_of};
-use net_views::Boxed;
 
 /// Checks a name that is used.
 pub(crate) fn check_name<'s>(
@@ -57,7 +57,7 @@ pub(crate) fn check<'s>(
     ensures kept { OnOk result (scope.new ≡ scope.old) }
 {
     match expr {
-        Expr::Leaf(token) => check_leaf(need, scope, token),
+        Expr::Leaf(leaf) => check_leaf(need, scope, leaf.token()),
         Expr::Indexed(parts) => {
             let (name, _, series, _) = parts.get();
             check_subscripts(need, scope, name, &series.first, series.more.as_slice())
@@ -276,6 +276,7 @@ fn read_sides<'s>(
 {
     check_left(need, scope, left)?;
     check(need, scope, set)?;
+    record_item(scope, left, set)?;
     add_left(scope, left)?;
     Ok(())
 }

@@ -2,7 +2,7 @@
 
 ghost use Rattle.net_resolve.specs.Reported.{IsReportedOf};
 
-use net_fault::{Detail, ErrorCode, Fault, Language};
+use net_base::{Detail, ErrorCode, Fault, Language};
 use net_lex::Token;
 use std::alloc::{AllocError, AllocFailed, Global};
 

@@ -1,7 +1,7 @@
 //! Theorems about the rules for names.
 
 ghost use Rattle.std.specs.Prelude.{◌≡◌, ◌++◌, ◌∷◌, ◌&&◌, ℕ, [], List, None, is_none, length, take, IfSome};
-ghost use Rattle.net_fault.specs.Places.{IsSpanIn};
+ghost use Rattle.net_base.specs.Places.{IsSpanIn};
 ghost use Rattle.net_tree.specs.Standing.{DeclarationsHaveSpans};
 ghost use Rattle.net_tree.specs.Tree.{Declaration};
 ghost use Rattle.net_resolve.specs.Names.{declaration_fault, declared_by, names_fault, IsWellNamed};

@@ -3,7 +3,7 @@
 ghost use Rattle.std.specs.Prelude.{◌≡◌};
 ghost use Rattle.net_resolve.specs.Meanings as meanings;
 
-use net_fault::ErrorCode;
+use net_base::ErrorCode;
 
 /// The meaning of a name.
 #[derive(Clone, Copy)]

@@ -22,7 +22,7 @@ pub use cow::Cow;
 pub use cursor::Cursor;
 pub use fault::SetFault;
 pub use indexed_set::IndexedSet;
-pub use key::{HashKey, KeyDigest};
+pub use key::HashKey;
 pub use laws::{products_are_lists, range_has_what_it_lists, walks_those_that_agree};
 pub use member::Member;
 pub use name_map::NameMap;

@@ -8,7 +8,7 @@ ghost use Rattle.net_sets.specs.Names.{named};
 use crate::key::HashKey;
 use crate::text::hash_bytes;
 use indexmap::IndexMap;
-use net_views::Excerpt;
+use net_base::Excerpt;
 use std::alloc::{AllocError, Global};
 use std::hash::{Hash, Hasher};
 use std::marker::Model;
@@ -90,13 +90,18 @@ impl<'s, T> Model for NameMap<'s, T> {
 }
 
 impl<'s, T> NameMap<'s, T> {
-    /// Creates an empty map. The key has to come from all names that will be added.
+    /// Creates an empty map. The key has to be that of the run.
     pub fn new(alloc: Global, key: HashKey) -> NameMap<'s, T>
         ensures { result ≡ [] }
     {
         NameMap {
             entries: IndexMap::with_hasher(alloc, key),
         }
+    }
+
+    /// Returns the key of the hashes.
+    pub fn key(&self) -> HashKey {
+        *self.entries.hasher()
     }
 
     /// Returns the number of names.
@@ -162,5 +167,14 @@ impl<'s, T> NameMap<'s, T> {
             Ok(_) => Ok(()),
             Err(_) => Err(AllocError),
         }
+    }
+
+    /// Keeps the first `known` names.
+    pub fn truncate(&mut self, known: usize)
+    where
+        T: Drop,
+        ensures { self.new ≡ take known self.old }
+    {
+        self.entries.truncate(known);
     }
 }

@@ -4,10 +4,9 @@ ghost use Rattle.net_sets.specs.Limits.{arity_limit, tuples_limit};
 ghost use Rattle.net_sets.specs.Made.{IsMade, IsCrossed, with_set};
 ghost use Rattle.net_sets.specs.Operations.{union, product, difference, intersection, symmetric_difference, is_within, is_chosen, chosen, joined_to, widest};
 ghost use Rattle.net_sets.specs.Operations.{narrowest};
-ghost use Rattle.net_sets.specs.Sets.{has};
+ghost use Rattle.net_sets.specs.Sets.{added, has};
 
 use crate::fault::SetFault;
-use crate::key::HashKey;
 use crate::tuple::Tuple;
 use crate::tuple_set::{TUPLES_LIMIT, TupleSet};
 use std::alloc::{AllocError, Global};
@@ -21,8 +20,7 @@ pub fn union<'s>(
     ensures { IsMade (union first.now second.now) result }
 {
     let _few = first.len();
-    let key = HashKey::of_both(first.as_slice(), second.as_slice());
-    let mut all = first.with_key(alloc, key)?;
+    let mut all = first.copied(alloc)?;
     for tuple in second.as_slice() {
         all.add(tuple.copied())?;
     }
@@ -92,6 +90,37 @@ pub fn intersection<'s>(
     chosen(alloc, true, first, second)
 }
 
+/// Adds the tuples of the first set that the second does not contain.
+fn add_difference<'s>(
+    all: &mut TupleSet<'s>,
+    first: &TupleSet<'s>,
+    second: &TupleSet<'s>,
+) -> Result<(), SetFault>
+    ensures { IsMade (union all.old (difference first.now second.now)) (with_set result all.new) }
+{
+    let _few = all.len();
+    for tuple in first.as_slice() {
+        add_unless(second.contains(tuple), all, tuple)?;
+    }
+    Ok(())
+}
+
+/// Adds the tuple unless it is left out.
+fn add_unless<'s>(
+    is_left_out: bool,
+    all: &mut TupleSet<'s>,
+    tuple: &Tuple<'s>,
+) -> Result<(), SetFault>
+    requires { length all.old ≤ tuples_limit }
+    ensures { IsMade (if is_left_out then all.old else added all.old tuple.now) (with_set result all.new) }
+{
+    if is_left_out {
+        Ok(())
+    } else {
+        all.add(tuple.copied())
+    }
+}
+
 /// Returns the tuples that only the first set contains, then those that only the second contains.
 pub fn symmetric_difference<'s>(
     alloc: Global,
@@ -100,9 +129,10 @@ pub fn symmetric_difference<'s>(
 ) -> Result<TupleSet<'s>, SetFault>
     ensures { IsMade (symmetric_difference first.now second.now) result }
 {
-    let only_first = difference(alloc, first, second)?;
-    let only_second = difference(alloc, second, first)?;
-    union(alloc, &only_first, &only_second)
+    let _distinct = second.as_slice();
+    let mut all = difference(alloc, first, second)?;
+    add_difference(&mut all, second, first)?;
+    Ok(all)
 }
 
 /// Returns whether the second set contains every tuple of the first.
@@ -171,8 +201,7 @@ pub fn cross<'s>(
     if first.len() * second.len() > TUPLES_LIMIT {
         return Err(SetFault::TooMany);
     }
-    let key = HashKey::of_both(first.as_slice(), second.as_slice());
-    let mut all = TupleSet::new(alloc, key);
+    let mut all = TupleSet::new(alloc, first.key());
     for tuple in first.as_slice() {
         add_beside(&mut all, tuple, second)?;
     }

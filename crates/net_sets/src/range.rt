@@ -67,17 +67,9 @@ impl Range {
         self.first + place as i64 * self.by
     }
 
-    /// Derives the key for the set of the numbers.
-    fn key(&self) -> HashKey {
-        let mut ends = Tuple::single(Member::Number(self.first));
-        ends.add(Member::Number(self.last));
-        ends.add(Member::Number(self.by));
-        HashKey::of_numbers(self.len(), &ends)
-    }
-
     /// Returns the numbers as a set of tuples with one member. Returns `TooMany` before it builds a
     /// tuple.
-    pub fn listed<'s>(&self, alloc: Global) -> Result<TupleSet<'s>, SetFault>
+    pub fn listed<'s>(&self, alloc: Global, key: HashKey) -> Result<TupleSet<'s>, SetFault>
         ensures value { IsMade (singles (range self.now.first self.now.last self.now.by)) result }
         // Out of memory is only possible if the range is within the limit.
         ensures memory { IsErrOf result SetFault.OutOfMemory → length (singles (range self.now.first self.now.last self.now.by)) ≤ tuples_limit }
@@ -86,7 +78,7 @@ impl Range {
         if size > TUPLES_LIMIT as u64 {
             return Err(SetFault::TooMany);
         }
-        let mut all = TupleSet::new(alloc, self.key());
+        let mut all = TupleSet::new(alloc, key);
         for place in 0..size {
             all.push(Tuple::single(Member::Number(self.at(place))))?;
         }

@@ -1,6 +1,6 @@
 //! Maps from keys to values.
 
-ghost use Rattle.std.specs.Prelude.{◌≡◌, ◌<◌, ◌++◌, ◌∷◌, [], None, get_or, length, map, nat_eq, IfOk, OnOk, OnErr};
+ghost use Rattle.std.specs.Prelude.{◌≡◌, ◌<◌, ◌++◌, ◌∷◌, [], None, get_or, length, map, nat_eq, option_map, slice_get, IfOk, OnOk, OnErr};
 ghost use Rattle.std.specs.List.{IsDistinct};
 ghost use Rattle.std.specs.Map.{lookup};
 ghost use Rattle.std.specs.Option.{option_copied};
@@ -140,6 +140,16 @@ impl<'s> Table<'s> {
         ensures { result ≡ length self.now }
     {
         self.rows.len()
+    }
+
+    /// Returns the member of a row, counted from 0.
+    pub fn member(&self, row: usize) -> Option<&Member<'s>>
+        ensures { option_copied result ≡ option_map (λ row. row.1) (slice_get self.now row) }
+    {
+        match self.rows.get_index(row) {
+            None => None,
+            Some((_, member)) => Some(member),
+        }
     }
 
     /// Returns the position that the next key has in the set if keys are added in the set's order.

@@ -5,7 +5,7 @@ ghost use Rattle.net_lex.specs.Characters.{is_quote};
 ghost use Rattle.net_sets.specs.Hashes.{full_word, packed};
 ghost use Rattle.net_sets.specs.Texts.{text_of, spelled, single, same_text, without_close};
 
-use net_views::Excerpt;
+use net_base::Excerpt;
 use std::alloc::AllocError;
 use std::hash::{Hash, Hasher};
 use std::marker::Model;

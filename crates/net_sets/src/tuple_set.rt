@@ -48,8 +48,8 @@ fn is_at<'s>(tuples: &[Tuple<'s>], position: usize, tuple: &Tuple<'s>) -> bool
 }
 
 impl<'s> TupleSet<'s> {
-    /// Creates an empty set. The key has to come from all tuples that will be added: under another key, a sender of tuples can
-    /// choose ones with equal hashes, which are slow to add and to find.
+    /// Creates an empty set. The key has to be that of the run: under another one, the author of an input can choose tuples with
+    /// equal hashes, which are slow to add and to find.
     pub fn new(alloc: Global, key: HashKey) -> TupleSet<'s>
         ensures { result ≡ [] }
     {
@@ -59,10 +59,14 @@ impl<'s> TupleSet<'s> {
     }
 
     /// Creates the set of `tuples`, each at its first position. Returns `TooMany` if the set would exceed its limit.
-    pub fn from_tuples(alloc: Global, tuples: &[Tuple<'s>]) -> Result<TupleSet<'s>, SetFault>
+    pub fn from_tuples(
+        alloc: Global,
+        key: HashKey,
+        tuples: &[Tuple<'s>],
+    ) -> Result<TupleSet<'s>, SetFault>
         ensures { IsMade (union [] tuples.now) result }
     {
-        let mut all = TupleSet::new(alloc, HashKey::of_tuples(tuples));
+        let mut all = TupleSet::new(alloc, key);
         for tuple in tuples {
             all.add(tuple.copied())?;
         }
@@ -173,21 +177,14 @@ impl<'s> TupleSet<'s> {
         self.tuples.shrink_to_fit();
     }
 
-    /// Copies the set under another key.
-    pub(crate) fn with_key(&self, alloc: Global, key: HashKey) -> Result<TupleSet<'s>, AllocError>
-        ensures { IfOk result (λ copy. copy ≡ self.now) }
-    {
-        let mut copy = TupleSet::new(alloc, key);
-        for tuple in self.as_slice() {
-            copy.push(tuple.copied())?;
-        }
-        Ok(copy)
-    }
-
     /// Copies the set.
     pub fn copied(&self, alloc: Global) -> Result<TupleSet<'s>, AllocError>
         ensures { IfOk result (λ copy. copy ≡ self.now) }
     {
-        self.with_key(alloc, self.key())
+        let mut copy = TupleSet::new(alloc, self.key());
+        for tuple in self.as_slice() {
+            copy.push(tuple.copied())?;
+        }
+        Ok(copy)
     }
 }

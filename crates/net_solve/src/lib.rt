@@ -7,7 +7,6 @@
 mod amounts;
 mod balancing;
 mod carried;
-mod choice;
 mod discharging;
 mod ending;
 mod forest;
@@ -16,7 +15,6 @@ mod gaps;
 mod growing;
 mod lowering;
 mod machine;
-mod machine_start;
 mod phase_loop;
 mod primal_dual;
 mod pseudoflow;
@@ -25,7 +23,6 @@ mod pulling;
 mod pushing;
 mod reduced;
 mod rounding;
-mod row_building;
 mod row_tests;
 mod rows;
 mod run_laws;
@@ -37,11 +34,10 @@ mod slack;
 mod solver;
 mod solving;
 
-pub use choice::{FirstSolver, first_solver};
+pub use solving::{FirstSolver, first_solver, solve, solve_problem};
 /// What `solve` returns: a verified certificate of the problem.
 pub use net_check::Certificate as Settled;
 pub use net_guess::{Guess, find_guess};
 pub use primal_dual::settle;
 pub use scaling::{Scaling, ScalingRun};
 pub use solver::{Plain, Solver};
-pub use solving::{solve, solve_problem};

@@ -7,7 +7,7 @@ ghost use Rattle.net_solve.specs.ScalingRuns.{IsEnded, IsScalingRun};
 
 use crate::machine::Machine;
 use crate::reduced::greatest_cost;
-use crate::row_building::rows_of;
+use crate::rows::rows_of;
 use net_check::{Certificate, Verdict, check};
 use net_guess::{Cut, NodeQueue, find_cut};
 use net_normal::Problem;

@@ -7,13 +7,15 @@ ghost use Rattle.net_eval.specs.Binding.{AreNew};
 use crate::instances::network_shown;
 use crate::steps::line_of;
 use crate::values::{index_shown, members_shown, truth_shown, value_shown};
+use net_base::Excerpt;
 use net_data::{Tables, parse_data};
 use net_driver::well_named;
 use net_eval::{Member, Scope, World, bind, well_named_are_new};
 use net_lex::{Token, lex_data, lex_model};
-use net_model::{free_model, parse_declarations, parse_model};
+use net_model::{CheckedModel, free_model, parse_declarations, parse_model};
+use net_resolve::Hints;
+use net_sets::HashKey;
 use net_tree::{Braces, Decl, Expr, Model};
-use net_views::Excerpt;
 use std::alloc::{AllocError, Global};
 
 /// What is called with a world.
@@ -147,11 +149,12 @@ fn of_tables(
     alloc: Global,
     question: Option<Question>,
     model: &Model<'static>,
+    hints: &Hints<'static>,
     tables: &Tables<'_, 'static>,
 ) -> Result<String, AllocError>
     requires { AreNew [] (view.model model.now) }
 {
-    match bind(alloc, model, tables) {
+    match bind(alloc, model, hints, tables) {
         Ok(world) => of_world(alloc, question, model, &world),
         Err(fault) => line_of(alloc, &fault),
     }
@@ -160,13 +163,13 @@ fn of_tables(
 fn of_data_tokens(
     alloc: Global,
     question: Option<Question>,
-    model: &Model<'static>,
+    model: &CheckedModel<'static>,
     tokens: &[Token<'static>],
 ) -> Result<String, AllocError>
     requires { AreNew [] (view.model model.now) }
 {
     match parse_data(alloc, tokens) {
-        Ok(tables) => of_tables(alloc, question, model, &tables),
+        Ok(tables) => of_tables(alloc, question, model.model(), model.hints(), &tables),
         Err(fault) => line_of(alloc, &fault),
     }
 }
@@ -174,7 +177,7 @@ fn of_data_tokens(
 fn of_model(
     alloc: Global,
     question: Option<Question>,
-    model: &Model<'static>,
+    model: &CheckedModel<'static>,
     data: &'static str,
 ) -> Result<String, AllocError>
     requires { AreNew [] (view.model model.now) }
@@ -191,12 +194,12 @@ fn of_model_tokens(
     tokens: &[Token<'static>],
     data: &'static str,
 ) -> Result<String, AllocError> {
-    match parse_model(alloc, tokens) {
+    match parse_model(alloc, HashKey::of_texts(&[], data.as_bytes()), tokens) {
         Ok(model) => {
             well_named();
             well_named_are_new();
             let shown = of_model(alloc, question, &model, data);
-            free_model(model);
+            free_model(model.into_model());
             shown
         }
         Err(fault) => line_of(alloc, &fault),

@@ -1,10 +1,11 @@
 //! The calls that read a model and its data one after the other: tokens, trees, statements.
 
 use crate::comparison::expect;
-use net_data::{Cells, Given, Statement, Tables, parse_data};
-use net_fault::{Fault, Span};
+use net_base::{Fault, Span};
+use net_data::{Cells, Given, Statement, Tables, Word, parse_data};
 use net_lex::{Token, lex_data, lex_model};
 use net_model::{free_model, parse_model};
+use net_sets::HashKey;
 use net_tree::{Body, Decl, Model, Phrase, span_of};
 use std::alloc::{AllocError, Global};
 use std::test::Fail;
@@ -80,7 +81,7 @@ fn texts_have_tokens(rt: HostRuntime) -> Result<(), Fail> {
 }
 
 fn phrase_shown(alloc: Global, phrase: &Phrase<'_>) -> Result<String, AllocError> {
-    let word = phrase.word.text.as_str();
+    let word = phrase.word.token().text.as_str();
     match &phrase.body {
         Body::Plain => format!(in alloc; " {word}"),
         Body::Valued(value) => {
@@ -142,10 +143,10 @@ fn model_shown(alloc: Global, model: &Model<'_>) -> Result<String, AllocError> {
 
 /// The declarations that tokens of a model are.
 fn parsed(alloc: Global, tokens: &[Token<'_>]) -> Result<String, AllocError> {
-    match parse_model(alloc, tokens) {
+    match parse_model(alloc, HashKey::of_texts(&[], &[]), tokens) {
         Ok(model) => {
-            let shown = model_shown(alloc, &model);
-            free_model(model);
+            let shown = model_shown(alloc, model.model());
+            free_model(model.into_model());
             shown
         }
         Err(fault) => line_of(alloc, &fault),
@@ -183,20 +184,18 @@ fn models_have_declarations(rt: HostRuntime) -> Result<(), Fail> {
     Ok(())
 }
 
-fn cells_shown(alloc: Global, cells: &Cells<'_, '_>) -> Result<String, AllocError> {
+fn cells_shown(alloc: Global, cells: &[Word<'_, '_>]) -> Result<String, AllocError> {
     let mut out = String::new(alloc);
-    for place in 0..cells.len() {
-        if let Some(cell) = cells.behind(place).first() {
-            out.push_str(" ")?;
-            out.push_str(cell.text.as_str())?;
-        }
+    for cell in cells {
+        out.push_str(" ")?;
+        out.push_str(cell.token().text.as_str())?;
     }
     Ok(out)
 }
 
 fn given_shown(alloc: Global, given: &Option<Given<'_, '_>>) -> Result<String, AllocError> {
     match given {
-        Some(given) => cells_shown(alloc, &given.cells),
+        Some(given) => cells_shown(alloc, given.cells.as_slice()),
         None => String::from_str(alloc, " nothing"),
     }
 }
@@ -204,7 +203,11 @@ fn given_shown(alloc: Global, given: &Option<Given<'_, '_>>) -> Result<String, A
 /// The cells of a set's first item.
 fn item_shown(alloc: Global, first: &Option<Cells<'_, '_>>) -> Result<String, AllocError> {
     match first {
-        Some(cells) => cells_shown(alloc, cells),
+        Some(cells) => {
+            let mut words = Vec::new(alloc);
+            cells.push_to(&mut words)?;
+            cells_shown(alloc, words.as_slice())
+        }
         None => String::from_str(alloc, " nothing"),
     }
 }
@@ -213,8 +216,8 @@ fn statement_shown(alloc: Global, statement: &Statement<'_, '_>) -> Result<Strin
     let (name, cells) = match statement {
         Statement::Set(it) => (it.name.token(), item_shown(alloc, &it.items.first())?),
         Statement::List(it) => (it.name.token(), given_shown(alloc, &it.given)?),
-        Statement::Table(it) => (it.name.token(), cells_shown(alloc, &it.cells)?),
-        Statement::Columns(it) => (it.colon.token(), cells_shown(alloc, &it.cells)?),
+        Statement::Table(it) => (it.name.token(), cells_shown(alloc, it.cells.as_slice())?),
+        Statement::Columns(it) => (it.colon.token(), cells_shown(alloc, it.cells.as_slice())?),
     };
     let name = name.text.as_str();
     format!(in alloc; "{name}{cells};")

@@ -1,10 +1,10 @@
 //! What expressions come to in a world, as texts to compare.
 
 use crate::steps::line_of;
+use net_base::Excerpt;
 use net_eval::{Keys, Member, Scope, Tuple, World, holds, index_of, members, value};
 use net_expr::{Row, push_member};
 use net_tree::{Braces, Expr};
-use net_views::Excerpt;
 use std::alloc::{AllocError, Global};
 
 fn member_shown(alloc: Global, member: &Member<'_>) -> Result<String, AllocError> {

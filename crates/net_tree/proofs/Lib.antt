@@ -3,3 +3,4 @@ pub mod Lasts
 pub mod TreesStand
 pub mod ModelsStand
 pub mod Items
+pub mod Numerals

@@ -5,7 +5,7 @@ use Rattle.net_lex.specs.declared.token.Token.{Token}
 use Rattle.net_tree.specs.Print.{put_optional, put, put_part, put_indexing, put_body, put_phrases, put_condition, put_declaration, print}
 use Rattle.net_tree.specs.Spans.{closing, first, final, span_of, point}
 use Rattle.net_tree.specs.Tree.{Tree, Part, Braces, absent, part, Body, plain, valued, priced, Phrase, Condition, unsaid, one, between, Declaration, set, param, check, node, arc, objective}
-use Rattle.net_fault.specs.Places.{IsSpanIn}
+use Rattle.net_base.specs.Places.{IsSpanIn}
 use Rattle.net_tree.specs.Standing.{Stands, PartStands, IndexingHasSpans, BodyHasSpans, PhrasesHaveSpans, ConditionHasSpans, DeclarationHasSpans, DeclarationsHaveSpans, ModelHasSpans}
 use Rattle.net_lex.proofs.Rising.{Rise, rise_ends, rise_later}
 use Rattle.net_tree.proofs.TreesStand.{tree_rises, braces_rise}

@@ -7,7 +7,7 @@ use Rattle.net_tree.specs.declared.operator.Words.TheVariants.{One, Two}
 use Rattle.net_tree.specs.Print.{put_operator, put, put_links, put_part, put_braces}
 use Rattle.net_tree.specs.Spans.{opening, closing, first, final, final_of, final_part, span_between, span_of, braces_span}
 use Rattle.net_tree.specs.Tree.{Tree, Links, Part, Braces, leaf, indexed, parens, tuple, negated, braced, signed, reduced, chain, choice, net, none, link, absent, part, empty, filled}
-use Rattle.net_fault.specs.Places.{IsSpanIn}
+use Rattle.net_base.specs.Places.{IsSpanIn}
 use Rattle.net_tree.specs.Standing.{Stands, LinksStand, PartStands, BracesStand}
 use Rattle.net_lex.proofs.Rising.{Rise, rise_ends, rise_later}
 

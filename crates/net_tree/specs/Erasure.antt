@@ -1,25 +1,10 @@
 -- The abstract syntax of a syntax tree: the same expression or declaration without its punctuation, and with its operators decoded.
-use Rattle.std.specs.Prelude.{Bool, false, List, map, codes, Option, None, Some}
-use Rattle.std.specs.Str.{bytes_eq}
-use Rattle.net_lex.specs.declared.token.Token.{Token}
+use Rattle.std.specs.Prelude.{List, map, Option, None, Some}
 use Rattle.net_tree.specs.declared.operator.Words.TheVariants.{One}
-use Rattle.net_tree.specs.Operations.{operation, reduction, is_minus}
+use Rattle.net_tree.specs.Operations.{operation, reduction, is_minus, has_minus, is_outflow, is_minimize}
 use Rattle.net_tree.specs.Role.{role_of}
 use Rattle.net_tree.specs.Syntax as forms
 use Rattle.net_tree.specs.Tree.{Tree, Links, Part, Braces, leaf, indexed, parens, tuple, negated, braced, signed, reduced, chain, choice, net, none, link, absent, part, empty, filled, Body, plain, valued, priced, Phrase, Condition, unsaid, one, between, Declaration, set, param, check, node, arc, objective}
-
--- the term is `net_out`, which is the negation of `net_in`
-unfoldable pub is_outflow : Token → Bool
-is_outflow t = bytes_eq (codes "net_out") t.text
-
--- a `-` precedes the term
-abbrev pub has_minus : Option Token → Bool
-has_minus None = false
-has_minus (Some t) = is_minus t
-
--- the keyword of an objective that minimizes
-unfoldable pub is_minimize : Token → Bool
-is_minimize t = bytes_eq (codes "minimize") t.text
 
 abbrev mutual
   pub expression : Tree → forms.Expression

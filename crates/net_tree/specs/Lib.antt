@@ -1,5 +1,6 @@
 pub mod Role
 pub mod Operations
+pub mod Numerals
 pub mod Tree
 pub mod Print
 pub mod Weights
@@ -12,6 +13,7 @@ pub mod Precedence
 pub mod WellFormed
 pub mod Conditions
 pub mod Phrases
+pub mod PhraseValues
 pub mod Declarations
 pub mod Syntax
 pub mod Erasure

@@ -1,5 +1,5 @@
 -- The meaning of operators, from their text.
-use Rattle.std.specs.Prelude.{ℕ, Bool, true, false, List, [], ◌∷◌, codes, if◌then◌else◌}
+use Rattle.std.specs.Prelude.{ℕ, Bool, true, false, List, [], ◌∷◌, Option, None, Some, codes, if◌then◌else◌}
 use Rattle.std.specs.Str.{bytes_eq}
 use Rattle.net_lex.specs.declared.token.Token.{Token}
 use Rattle.net_tree.specs.declared.operator.BinOp.{BinOp}
@@ -44,3 +44,16 @@ reduction t =
 
 unfoldable pub is_minus : Token → Bool
 is_minus t = bytes_eq (codes "-") t.text
+
+-- a `-` precedes the term
+abbrev pub has_minus : Option Token → Bool
+has_minus None = false
+has_minus (Some t) = is_minus t
+
+-- the term is `net_out`, which is the negation of `net_in`
+unfoldable pub is_outflow : Token → Bool
+is_outflow t = bytes_eq (codes "net_out") t.text
+
+-- the keyword of an objective that minimizes
+unfoldable pub is_minimize : Token → Bool
+is_minimize t = bytes_eq (codes "minimize") t.text

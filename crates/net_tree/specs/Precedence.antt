@@ -1,5 +1,5 @@
 -- Precedence levels of trees: a greater number binds less tightly.
-use Rattle.std.specs.Prelude.{ℕ}
+use Rattle.std.specs.Prelude.{ℕ, zero, suc}
 
 -- atoms, and signed operands
 abbrev pub of_one : ℕ
@@ -49,3 +49,8 @@ of_if = 11
 
 abbrev pub of_net_term : ℕ
 of_net_term = 12
+
+-- the maximum precedence of the operands of an operator with this precedence
+abbrev pub of_operands : ℕ → ℕ
+of_operands zero = 0
+of_operands (suc m) = m

@@ -10,14 +10,14 @@ use Rattle.net_tree.specs.declared.role.Relation.{Relation}
 use Rattle.net_tree.specs.declared.role.Relation.TheVariants as relations
 use Rattle.net_tree.specs.declared.role.Role.{Role}
 use Rattle.net_tree.specs.declared.role.Role.TheVariants as roles
-use Rattle.net_tree.specs.Precedence.{of_reduction, of_range, of_cross, of_inter, of_relation, of_and}
+use Rattle.net_tree.specs.Precedence.{of_product, of_cross, of_inter, of_union, of_and, of_or}
 
 -- the punctuation tokens with their roles
 unfoldable pub marks : List (List ℕ × Role)
 marks =
     (codes ",", roles.Comma) ∷ (codes ";", roles.Semicolon) ∷ (codes "[", roles.OpenSquare) ∷ (codes "]", roles.CloseSquare) ∷ (codes "(", roles.Open)
     ∷ (codes ")", roles.Close) ∷ (codes "{", roles.OpenBrace) ∷ (codes "}", roles.CloseBrace) ∷ (codes ":", roles.Colon) ∷ (codes "+", roles.Sign)
-    ∷ (codes "-", roles.Sign) ∷ (codes "*", roles.Joining of_reduction) ∷ (codes "=", roles.Relation relations.Equal) ∷ (codes "<=", roles.Relation relations.AtMost)
+    ∷ (codes "-", roles.Sign) ∷ (codes "*", roles.Joining of_product) ∷ (codes "=", roles.Relation relations.Equal) ∷ (codes "<=", roles.Relation relations.AtMost)
     ∷ (codes ">=", roles.Relation relations.AtLeast) ∷ (codes "<", roles.Relation relations.Less) ∷ (codes ">", roles.Relation relations.Greater)
     ∷ (codes "..", roles.Range) ∷ (codes ":=", roles.Becomes) ∷ (codes "<>", roles.Relation relations.Unequal) ∷ (codes "==", roles.Relation relations.Equal)
     ∷ (codes "!=", roles.Relation relations.Unequal) ∷ (codes ".", roles.LeftOut) ∷ (codes "/", roles.LeftOut) ∷ (codes "**", roles.LeftOut)
@@ -27,14 +27,14 @@ marks =
 unfoldable pub keys : List (List ℕ × Role)
 keys =
     (codes "in", roles.Relation relations.In) ∷ (codes "sum", roles.Reduction) ∷ (codes "param", roles.Declaration declares.Param)
-    ∷ (codes "set", roles.Declaration declares.Set) ∷ (codes "cross", roles.Joining of_range) ∷ (codes "within", roles.Relation relations.Within)
-    ∷ (codes "and", roles.Joining of_relation) ∷ (codes "obj", roles.Phrase begins.Obj) ∷ (codes "from", roles.Phrase begins.From)
+    ∷ (codes "set", roles.Declaration declares.Set) ∷ (codes "cross", roles.Joining of_cross) ∷ (codes "within", roles.Relation relations.Within)
+    ∷ (codes "and", roles.Joining of_and) ∷ (codes "obj", roles.Phrase begins.Obj) ∷ (codes "from", roles.Phrase begins.From)
     ∷ (codes "to", roles.Phrase begins.To) ∷ (codes "if", roles.If) ∷ (codes "then", roles.Then) ∷ (codes "else", roles.Else)
-    ∷ (codes "or", roles.Joining of_and) ∷ (codes "not", roles.Not) ∷ (codes "arc", roles.Declaration declares.Arc)
+    ∷ (codes "or", roles.Joining of_or) ∷ (codes "not", roles.Not) ∷ (codes "arc", roles.Declaration declares.Arc)
     ∷ (codes "node", roles.Declaration declares.Node) ∷ (codes "net_in", roles.Net) ∷ (codes "net_out", roles.Net) ∷ (codes "by", roles.By)
-    ∷ (codes "check", roles.Declaration declares.Check) ∷ (codes "div", roles.Joining of_reduction) ∷ (codes "mod", roles.Joining of_reduction) ∷ (codes "min", roles.Reduction)
-    ∷ (codes "max", roles.Reduction) ∷ (codes "union", roles.Joining of_inter) ∷ (codes "diff", roles.Joining of_inter) ∷ (codes "symdiff", roles.Joining of_inter)
-    ∷ (codes "inter", roles.Joining of_cross) ∷ (codes "minimize", roles.Declaration declares.Objective)
+    ∷ (codes "check", roles.Declaration declares.Check) ∷ (codes "div", roles.Joining of_product) ∷ (codes "mod", roles.Joining of_product) ∷ (codes "min", roles.Reduction)
+    ∷ (codes "max", roles.Reduction) ∷ (codes "union", roles.Joining of_union) ∷ (codes "diff", roles.Joining of_union) ∷ (codes "symdiff", roles.Joining of_union)
+    ∷ (codes "inter", roles.Joining of_inter) ∷ (codes "minimize", roles.Declaration declares.Objective)
     ∷ (codes "maximize", roles.Declaration declares.Objective) ∷ (codes "default", roles.Phrase begins.Default)
     ∷ (codes "dimen", roles.Phrase begins.Dimen) ∷ (codes "symbolic", roles.Phrase begins.Symbolic) ∷ (codes "integer", roles.Phrase begins.Integer)
     ∷ (codes "exists", roles.LeftOut) ∷ (codes "forall", roles.LeftOut) ∷ (codes "Infinity", roles.LeftOut) ∷ (codes "less", roles.LeftOut)

@@ -1,7 +1,7 @@
 -- The span of a tree: from its first token to its last.
 use Rattle.std.specs.Prelude.{ℕ, Option, None, Some}
 use Rattle.net_lex.specs.declared.token.Token.{Token}
-use Rattle.net_fault.specs.declared.span.Span.{Span}
+use Rattle.net_base.specs.declared.diagnostic.Span.{Span}
 use Rattle.net_tree.specs.Tree.{Tree, Links, Part, Braces, leaf, indexed, parens, tuple, negated, braced, signed, reduced, chain, choice, net, none, link, absent, part, empty, filled, Condition, unsaid, one, between}
 
 abbrev pub opening : Braces → Token

@@ -1,6 +1,6 @@
 -- Trees all of whose spans satisfy a predicate P.
 use Rattle.std.specs.Prelude.{⊤, List, [], ◌∷◌, Option, None, Some}
-use Rattle.net_fault.specs.declared.span.Span.{Span}
+use Rattle.net_base.specs.declared.diagnostic.Span.{Span}
 use Rattle.net_tree.specs.Spans.{span_of, span_between, braces_span, from_to, point}
 use Rattle.net_tree.specs.Tree.{Tree, Links, Part, Braces, leaf, indexed, parens, tuple, negated, braced, signed, reduced, chain, choice, net, none, link, absent, part, empty, filled, Body, plain, valued, priced, Phrase, Condition, unsaid, one, between, Declaration, set, param, check, node, arc, objective}
 

@@ -7,7 +7,7 @@ use Rattle.net_tree.specs.declared.operator.Words.{Words as Operator}
 use Rattle.net_tree.specs.declared.operator.Words.TheVariants.{One, Two}
 use Rattle.net_tree.specs.declared.role.Role.{Role}
 use Rattle.net_tree.specs.declared.role.Role.TheVariants as roles
-use Rattle.net_tree.specs.Precedence.{of_one, of_comma, of_reduction, of_product, of_sum, of_union, of_relation, of_or, of_if, of_net_term}
+use Rattle.net_tree.specs.Precedence.{of_operands, of_one, of_comma, of_reduction, of_product, of_sum, of_union, of_relation, of_or, of_if, of_net_term}
 use Rattle.net_tree.specs.Tree.{Tree, Links, Part, Braces, leaf, indexed, parens, tuple, negated, braced, signed, reduced, chain, choice, net, none, link, absent, part, empty, filled}
 use Rattle.net_tree.specs.Role.{role_of, is_name, is_leaf, is_open, is_close, is_open_brace, is_close_brace, is_open_square, is_close_square, is_colon, is_sign, is_not, is_if, is_then, is_else, is_reduction, is_net, is_membership}
 
@@ -29,7 +29,7 @@ precedence (net s w) = of_net_term
 -- and then `by`, a comparison has one operator; 0 means the commas of a list
 abbrev pub joins : ℕ → ℕ → Role → Bool
 joins n k roles.Comma = nat_eq n of_comma
-joins n k (roles.Joining m) = nat_eq n m
+joins n k (roles.Joining m) = nat_eq n (of_operands m)
 joins n k roles.Sign = nat_eq n of_product
 joins n k roles.Range = nat_eq n of_sum && nat_eq k 0
 joins n k roles.By = nat_eq n of_sum && nat_eq k 1

@@ -1,8 +1,15 @@
 //! The trees of declarations, phrases and node conditions.
 
+ghost use Rattle.std.specs.Prelude.{◌≡◌, map, option_map};
+ghost use Rattle.std.specs.Option.{option_copied};
+ghost use Rattle.net_tree.specs.PhraseValues as values;
+ghost use Rattle.net_tree.specs.View.{tree, body_of, phrase_of};
+
 use crate::expr::{Braces, Expr, Part};
+use crate::role::{Begins, Relation, Role};
+use crate::terminal::Terminal;
+use net_base::Items;
 use net_lex::Token;
-use net_views::Items;
 
 /// The part of a phrase after its keyword.
 #[derive(Drop)]
@@ -20,7 +27,7 @@ pub enum Body<'s> {
 #[derive(Drop)]
 pub struct Phrase<'s> {
     pub comma: Option<Token<'s>>,
-    pub word: Token<'s>,
+    pub word: Terminal<'s>,
     pub body: Body<'s>,
 }
 
@@ -30,9 +37,9 @@ pub enum NetCond<'s> {
     /// Nothing.
     Absent,
     /// `: net_in = 3`
-    One(Token<'s>, Expr<'s>, Token<'s>, Expr<'s>),
+    One(Token<'s>, Expr<'s>, Terminal<'s>, Expr<'s>),
     /// `: 1 <= net_in <= 4`
-    Between(Token<'s>, Expr<'s>, Token<'s>, Expr<'s>, Token<'s>, Expr<'s>),
+    Between(Token<'s>, Expr<'s>, Terminal<'s>, Expr<'s>, Terminal<'s>, Expr<'s>),
 }
 
 /// A declaration. Its first token is its keyword, its last the semicolon.
@@ -56,4 +63,54 @@ pub enum Decl<'s> {
 #[derive(Drop)]
 pub struct Model<'s> {
     pub declarations: Items<Decl<'s>>,
+}
+
+/// The keyword of a phrase that has an expression and occurs at most once.
+#[derive(Clone, Copy)]
+pub enum PhraseWord {
+    /// `>=` of an arc
+    AtLeast,
+    /// `<=` of an arc
+    AtMost,
+    From,
+    To,
+    /// `:=`
+    Becomes,
+    Default,
+}
+
+fn is_word(word: PhraseWord, role: Role) -> bool
+    ensures { result ≡ values.is_word word role }
+{
+    match (word, role) {
+        (PhraseWord::AtLeast, Role::Relation(Relation::AtLeast)) => true,
+        (PhraseWord::AtMost, Role::Relation(Relation::AtMost)) => true,
+        (PhraseWord::From, Role::Phrase(Begins::From)) => true,
+        (PhraseWord::To, Role::Phrase(Begins::To)) => true,
+        (PhraseWord::Becomes, Role::Becomes) => true,
+        (PhraseWord::Default, Role::Phrase(Begins::Default)) => true,
+        _ => false,
+    }
+}
+
+fn body_value<'a, 's>(body: &'a Body<'s>) -> Option<&'a Expr<'s>>
+    ensures { option_map tree (option_copied result) ≡ values.expression_of (body_of body.entry.now) }
+{
+    match body {
+        Body::Valued(expr) => Some(expr),
+        Body::Plain => None,
+        Body::Priced(_, _) => None,
+    }
+}
+
+/// Returns the expression of the first phrase with this keyword.
+pub fn phrase_value<'a, 's>(word: PhraseWord, phrases: &'a [Phrase<'s>]) -> Option<&'a Expr<'s>>
+    ensures { option_map tree (option_copied result) ≡ values.phrase_value (values.is_word word) (map phrase_of phrases.entry.now) }
+{
+    for phrase in phrases {
+        if is_word(word, phrase.word.role()) {
+            return body_value(&phrase.body);
+        }
+    }
+    None
 }

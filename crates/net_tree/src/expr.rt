@@ -1,8 +1,9 @@
 //! The trees of expressions.
 
 use crate::operator::{Operator, Reducer, Sign};
+use crate::terminal::{Leaf, NetWord};
+use net_base::{Boxed, Items};
 use net_lex::Token;
-use net_views::{Boxed, Items};
 
 /// An expression of any kind: number, member, set or condition. It contains all its tokens,
 /// including brackets and commas.
@@ -10,7 +11,7 @@ use net_views::{Boxed, Items};
 #[cycle(tree)]
 pub enum Expr<'s> {
     /// `3`, `'NE'`, `i`
-    Leaf(Token<'s>),
+    Leaf(Leaf<'s>),
     /// `cost[i, j]`: the name, `[`, the subscripts, `]`
     Indexed(Boxed<(Token<'s>, Token<'s>, Operands<'s>, Token<'s>)>),
     /// `(a + b)`: `(`, the expression, `)`
@@ -31,7 +32,7 @@ pub enum Expr<'s> {
     /// `if a then b else c`: `if` and the condition, `then` and its branch, `else` and its branch
     If(Boxed<Part<'s>>, Boxed<Part<'s>>, Option<Boxed<Part<'s>>>),
     /// `net_in` in a node's condition, `- net_in` as its first term
-    Net(Boxed<(Option<Sign<'s>>, Token<'s>)>),
+    Net(Boxed<(Option<Sign<'s>>, NetWord<'s>)>),
 }
 
 /// A sequence of expressions, such as `a, b` and `a + b`: the first one, and the others with the

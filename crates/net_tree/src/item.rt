@@ -69,7 +69,7 @@ pub fn single_name<'a, 's>(component: &'a Expr<'s>) -> Option<&'a Token<'s>>
     ensures { option_map (λ t. t.now) result ≡ items.single_name (tree component.entry.now) }
 {
     match component {
-        Expr::Leaf(token) => if_name(token),
+        Expr::Leaf(leaf) => if_name(leaf.token()),
         Expr::Indexed(_) | Expr::Parens(_) | Expr::Tuple(_) | Expr::Negated(_) => None,
         Expr::Braced(_) | Expr::Signed(_) | Expr::Reduction(_, _) | Expr::Chain(_, _) => None,
         Expr::If(_, _, _) | Expr::Net(_) => None,

@@ -4,8 +4,8 @@ ghost use Rattle.std.specs.Prelude.{◌≡◌, map};
 ghost use Rattle.net_tree.specs.declared.operator.Words.TheVariants as words;
 ghost use Rattle.net_tree.specs.Operations as operations;
 
+use net_base::Boxed;
 use net_lex::Token;
-use net_views::Boxed;
 use std::marker::Model;
 
 /// The operation of a binary operator.

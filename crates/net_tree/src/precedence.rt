@@ -1,9 +1,9 @@
-//! Precedence levels of trees: a greater number binds less tightly. Atoms and signed operands have
-//! 0. Each position allows operands up to some precedence.
+//! Precedence levels of trees and operators: a greater number binds less tightly. Atoms and signed
+//! operands have 0. An operator joins operands that bind more tightly than itself.
 
 /// The operands of a list, joined by commas. A list has no precedence of its own.
 pub const COMMA: u8 = 0;
-/// `sum {i in A} a[i]`, and operators that bind as tightly
+/// `sum {i in A} a[i]`
 pub const REDUCTION: u8 = 1;
 /// `*`, `div`, `mod`
 pub const PRODUCT: u8 = 2;

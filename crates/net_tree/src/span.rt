@@ -8,9 +8,9 @@ ghost use Rattle.net_tree.specs.Weights.{weight, weights, part_weight};
 use crate::declaration::NetCond;
 use crate::expr::{Braces, Expr, Link, Part};
 use crate::operator::Sign;
-use net_fault::Span;
+use crate::terminal::NetWord;
+use net_base::{Boxed, Span};
 use net_lex::Token;
-use net_views::Boxed;
 
 /// Returns the start of the first token of a tree.
 #[tactic(auto, using(crate::proofs::Views::views))]
@@ -18,7 +18,7 @@ fn start_of(expr: &Expr<'_>) -> usize
     ensures { result ≡ (spans.first (tree expr.now)).span.start }
 {
     match expr {
-        Expr::Leaf(token) => token.span.start,
+        Expr::Leaf(leaf) => leaf.token().span.start,
         Expr::Indexed(parts) => parts.get().0.span.start,
         Expr::Parens(parts) => parts.get().0.span.start,
         Expr::Tuple(parts) => parts.get().0.span.start,
@@ -32,12 +32,12 @@ fn start_of(expr: &Expr<'_>) -> usize
     }
 }
 
-fn net_start(sign: &Option<Sign<'_>>, word: &Token<'_>) -> usize
+fn net_start(sign: &Option<Sign<'_>>, word: &NetWord<'_>) -> usize
     ensures { result ≡ (spans.first_or sign.now word.now).span.start }
 {
     match sign {
         Some(sign) => sign.token().span.start,
-        None => word.span.start,
+        None => word.token().span.start,
     }
 }
 
@@ -68,7 +68,7 @@ fn end_of(expr: &Expr<'_>) -> usize
     ensures { result ≡ (spans.final (tree expr.now)).span.end }
 {
     match expr {
-        Expr::Leaf(token) => token.span.end,
+        Expr::Leaf(leaf) => leaf.token().span.end,
         Expr::Indexed(parts) => parts.get().3.span.end,
         Expr::Parens(parts) => parts.get().2.span.end,
         Expr::Tuple(parts) => parts.get().2.span.end,
@@ -81,7 +81,7 @@ fn end_of(expr: &Expr<'_>) -> usize
             end_of(last_of(&series.first, series.more.as_slice()))
         }
         Expr::If(_, first, otherwise) => end_of(later_of(&first.get().value, otherwise)),
-        Expr::Net(parts) => parts.get().1.span.end,
+        Expr::Net(parts) => parts.get().1.token().span.end,
     }
 }
 

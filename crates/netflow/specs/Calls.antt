@@ -2,8 +2,8 @@
 use Rattle.std.specs.Prelude.{◌≡◌, ◌⊎◌, ℕ, Bool, true, List, Option, Some, None, Result, Ok, Err, ⊤}
 use Rattle.std.specs.Option.{option_copied}
 use Rattle.clap.specs.Words.{Text}
-use Rattle.net_driver.specs.declared.exit_kind.ExitKind.{ExitKind}
-use Rattle.net_driver.specs.declared.exit_kind.ExitKind.TheVariants.{Done}
+use Rattle.net_driver.specs.declared.solve_run.ExitKind.{ExitKind}
+use Rattle.net_driver.specs.declared.solve_run.ExitKind.TheVariants.{Done}
 use Rattle.net_driver.specs.declared.fault.Fault.{Fault}
 use Rattle.net_driver.specs.declared.fault.Fault.TheVariants.{Unread}
 use Rattle.net_driver.specs.declared.fault.TextName.{TextName}

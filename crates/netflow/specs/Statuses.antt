@@ -1,7 +1,7 @@
 -- Exit statuses.
 use Rattle.std.specs.Prelude.{ℕ}
-use Rattle.net_driver.specs.declared.exit_kind.ExitKind.{ExitKind}
-use Rattle.net_driver.specs.declared.exit_kind.ExitKind.TheVariants as endings
+use Rattle.net_driver.specs.declared.solve_run.ExitKind.{ExitKind}
+use Rattle.net_driver.specs.declared.solve_run.ExitKind.TheVariants as endings
 use Rattle.net_driver.specs.declared.fault.Fault.{Fault}
 use Rattle.net_driver.specs.declared.fault.Fault.TheVariants as faults
 use Rattle.netflow.specs.declared.status.Status.{Status}

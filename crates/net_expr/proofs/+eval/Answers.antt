@@ -9,7 +9,7 @@ use Rattle.net_tree.specs.declared.expr.Operands.{out-Operands}
 use Rattle.net_tree.specs.View.{tree, links_of, option_part}
 use Rattle.net_tree.proofs.Views.{views}
 use Rattle.net_tree.specs.Spans.{span_of}
-use Rattle.net_fault.specs.Outcomes.{and_then}
+use Rattle.net_base.specs.Outcomes.{and_then}
 use Rattle.net_expr.specs.Rows.{filter_rows, match_component, match_whole, reduce, reduced_to, keys}
 use Rattle.net_expr.specs.Operators.{tuple_of}
 use Rattle.net_expr.specs.Subscripts.{with_value}

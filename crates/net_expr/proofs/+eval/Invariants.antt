@@ -5,7 +5,7 @@ use Rattle.net_tree.specs.Weights.{weight, weights, braces_weight, part_weight}
 use Rattle.net_tree.specs.Spans.{span_of}
 use Rattle.net_tree.specs.declared.expr.Operands.{out-Operands}
 use Rattle.net_expr.specs.Frames.{still, steps_still, weight_of}
-use Rattle.net_fault.specs.Outcomes.{and_then}
+use Rattle.net_base.specs.Outcomes.{and_then}
 use Rattle.net_expr.specs.Rows.{filter_rows, gathered_over}
 use Rattle.net_expr.specs.Operators.{tuple_of}
 use Rattle.net_expr.specs.Values as values
@@ -47,7 +47,7 @@ abbrev pub decreases-eval::chain : goal.decreases-eval::chain
 decreases-eval::chain l = 12 * (weight (tree (out-Operands l.operands.now).first) + weights (links_of (out-Operands l.operands.now).more)) + 3
 
 abbrev pub decreases-eval::choice : goal.decreases-eval::choice
-decreases-eval::choice l = 12 * (weight (tree l.condition.now) + weight (tree l.branches.0.now) + part_weight (option_part l.branches.1.now)) + 2
+decreases-eval::choice l = 12 * (weight (tree l.condition.now) + weight (tree l.branches.first.now) + part_weight (option_part l.branches.otherwise.now)) + 2
 
 abbrev pub decreases-eval::other_branch : goal.decreases-eval::other_branch
 decreases-eval::other_branch l = 12 * part_weight (option_part l.otherwise.now) + 1
@@ -77,7 +77,7 @@ abbrev pub decreases-keys::collect : goal.decreases-keys::collect
 decreases-keys::collect l = 12 * (weight (tree l.items.now.first.now) + weights (links_of l.items.now.more.now)) + 8
 
 abbrev pub decreases-fitting::fit_all : goal.decreases-fitting::fit_all
-decreases-fitting::fit_all l = 12 * (weight (tree l.components.0.now) + weights (links_of l.components.1.now)) + 2
+decreases-fitting::fit_all l = 12 * (weight (tree l.components.first.now) + weights (links_of l.components.more.now)) + 2
 
 abbrev pub decreases-keys::walk : goal.decreases-keys::walk
 decreases-keys::walk l = 12 * weight_of l.first + 7

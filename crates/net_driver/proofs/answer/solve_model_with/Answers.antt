@@ -2,6 +2,7 @@ use Rattle.std.proofs.Common.{sym, subst}
 use Rattle.std.specs.Option.{option_copied}
 use Rattle.net_driver.specs.IsSolved.{IsSolved}
 use Rattle.net_driver.proofs.NoMemory.{model_may, no_memory}
+use Rattle.net_driver.proofs.Compilations.{solutions_are_sound}
 use Rattle.net_driver.proofs.answer.solve_model_with.Goals as goal
 
 pub solve_network-requires : goal.solve_network-requires
@@ -21,7 +22,7 @@ returns-clause-means c =
     let answers =
     subst (λ compiled. IsSolved c.args.options.now.lean wanted c.args.model.now c.args.data.now (record { compiled = compiled; outcome = c.in_ok-outcome.outcome }))
     (sym c.in_ok-compiled.ensures) (c.in_ok-outcome.ensures _ _ _ _ c.in_ok-network.ensures.value) in
-    c.solutions_are_sound.ensures.value c.args.options.now.lean wanted c.args.model.now c.args.data.now
+    solutions_are_sound c.args.options.now.lean wanted c.args.model.now c.args.data.now
     (record { compiled = c.in_ok-compiled.compiled; outcome = c.in_ok-outcome.outcome }) answers
 
 pub returns-in_err-outcome-clause-rejected : goal.returns-in_err-outcome-clause-rejected

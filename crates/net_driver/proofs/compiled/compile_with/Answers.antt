@@ -2,6 +2,7 @@ use Rattle.std.proofs.Common.{sym, subst}
 use Rattle.std.specs.Option.{option_copied}
 use Rattle.net_driver.specs.IsBuilt.{IsBuilt}
 use Rattle.net_driver.proofs.NoMemory.{model_may, no_memory}
+use Rattle.net_driver.proofs.Compilations.{compilations_are_sound}
 use Rattle.net_driver.proofs.compiled.compile_with.Goals as goal
 
 pub with_text-requires : goal.with_text-requires
@@ -14,7 +15,7 @@ returns-clause-value c =
 pub returns-clause-means : goal.returns-clause-means
 returns-clause-means c =
     let wanted = option_copied c.args.options.now.objective in
-    c.compilations_are_sound.ensures.value c.args.options.now.lean wanted c.args.model.now c.args.data.now c.in_ok-compiled.compiled
+    compilations_are_sound c.args.options.now.lean wanted c.args.model.now c.args.data.now c.in_ok-compiled.compiled
     (subst (IsBuilt c.args.options.now.lean wanted c.args.model.now c.args.data.now) (sym c.in_ok-compiled.ensures) c.in_ok-network.ensures.value)
 
 pub returns-in_err-compiled-clause-rejected : goal.returns-in_err-compiled-clause-rejected

@@ -4,6 +4,9 @@ use Rattle.net_driver.specs.CompiledNetwork.{written}
 use Rattle.net_driver.proofs.FaultPlaces.{stop_lies_there}
 use Rattle.net_driver.proofs.NoMemory.{model_may, no_memory}
 use Rattle.net_driver.proofs.Promise.{headline_of}
+use Rattle.net_inst.proofs.Aiming.{have_objective}
+use Rattle.net_inst.proofs.Written.{have_bounds, have_exact_ranges, have_names}
+use Rattle.net_inst.proofs.Corresponding.{correspond_as_written}
 use Rattle.net_driver.proofs.compiled_network.compile_network.Goals as goal
 
 pub reported-requires : goal.reported-requires
@@ -20,8 +23,8 @@ returns-in_err-problem-clause-rejected c =
 pub returns-clause-value : goal.returns-clause-value
 returns-clause-value c =
     let problem = c.in_ok-problem.problem in
-    headline_of _ _ c.args.model.now c.args.data.now (written record { problem = problem; link = c.in_ok-problem.link; names = c.in-Ok.named.names }) c.names_are_declared.ensures.value c.ranges_are_conditions.ensures.value
-    c.arcs_are_written.ensures.bounds c.objective_is_written.ensures.value c.flows_stand_for_assignments.ensures.value record {
+    headline_of _ _ c.args.model.now c.args.data.now (written record { problem = problem; link = c.in_ok-problem.link; names = c.in-Ok.named.names }) have_names have_exact_ranges
+    have_bounds have_objective correspond_as_written record {
       named = c.in-Ok.named;
       network = c.in-Ok.ensures.ok;
       names = refl;

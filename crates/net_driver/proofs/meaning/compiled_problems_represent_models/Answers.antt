@@ -1,5 +1,6 @@
 use Rattle.net_driver.proofs.ModelMeaning.{compiled_represent}
+use Rattle.net_inst.proofs.SoundProblems.{problems_represent}
 use Rattle.net_driver.proofs.meaning.compiled_problems_represent_models.Goals as goal
 
 pub returns : goal.returns
-returns c = record { value = compiled_represent c.problems_represent_networks.ensures.value }
+returns c = record { value = compiled_represent problems_represent }

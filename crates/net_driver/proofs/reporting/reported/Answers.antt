@@ -1,7 +1,7 @@
 use Rattle.std.specs.Prelude.{length}
 use Rattle.std.proofs.Common.{arith, refl, sym, subst}
 use Rattle.std.proofs.lemmas.Grind.{common_steps}
-use Rattle.net_fault.specs.Places.{IsSpanIn}
+use Rattle.net_base.specs.Places.{IsSpanIn}
 use Rattle.net_driver.specs.FirstFaults.{IsStop}
 use Rattle.net_driver.specs.Reporting.{IsSpanThere}
 use Rattle.net_driver.proofs.FaultPlaces.{detail_may}

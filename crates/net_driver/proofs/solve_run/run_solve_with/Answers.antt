@@ -6,6 +6,7 @@ use Rattle.net_driver.specs.CompiledNetwork.{written}
 use Rattle.net_driver.specs.Reporting.{IsRejection}
 use Rattle.net_driver.proofs.Reading.{read_whole}
 use Rattle.net_driver.proofs.Running.{texts_of, rejected_run, stopped_run}
+use Rattle.net_driver.proofs.Compilations.{solutions_are_sound}
 use Rattle.net_driver.proofs.solve_run.run_solve_with.Goals as goal
 
 pub returns-in-Ok-clause-run : goal.returns-in-Ok-clause-run
@@ -21,7 +22,7 @@ returns-in-Ok-clause-run g c =
         texts = texts_of m d [] [];
         read = (read_whole _ _ _ c.in_ok-model_text.ensures.value promise.accepts.model.read.short, (read_whole _ _ _ c.in_ok-data_text.ensures.value promise.accepts.statements.read.short, tt));
         text = text_of outcome;
-        answer = (record { compiled = compiled; outcome = outcome }, solved, c.solutions_are_sound.ensures.value _ _ m d (record { compiled = compiled; outcome = outcome }) solved, c.exit_kind_of-exit_kind.ensures, refl);
+        answer = (record { compiled = compiled; outcome = outcome }, solved, solutions_are_sound _ _ m d (record { compiled = compiled; outcome = outcome }) solved, c.exit_kind_of-exit_kind.ensures, refl);
         written = search rules;
       };
       err = tt;
@@ -46,7 +47,7 @@ returns-clause-run g c =
           texts = texts_of m d [] [];
           read = (read_whole _ _ _ c.in_ok-model_text.ensures.value promise.accepts.model.read.short, (read_whole _ _ _ c.in_ok-data_text.ensures.value promise.accepts.statements.read.short, tt));
           text = text_of outcome;
-          answer = (record { compiled = compiled; outcome = outcome }, solved, c.solutions_are_sound.ensures.value _ _ m d (record { compiled = compiled; outcome = outcome }) solved, refl, refl);
+          answer = (record { compiled = compiled; outcome = outcome }, solved, solutions_are_sound _ _ m d (record { compiled = compiled; outcome = outcome }) solved, refl, refl);
           written = search rules;
         },
       );

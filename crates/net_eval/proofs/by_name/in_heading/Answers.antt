@@ -2,8 +2,8 @@ use Rattle.std.proofs.Common.{arith}
 use Rattle.std.proofs.lemmas.Grind.{common_steps}
 use Rattle.net_eval.proofs.by_name.in_heading.Goals as goal
 
-pub returns-in_err-headed : goal.returns-in_err-headed
-returns-in_err-headed c = grind (arith, common_steps)
+pub returns-in_err-add : goal.returns-in_err-add
+returns-in_err-add c = grind (arith, common_steps)
 
 pub returns : goal.returns
 returns c = grind (arith, common_steps)

@@ -1,7 +1,10 @@
-use Rattle.std.specs.Prelude.{◌≡◌, drop, []}
-use Rattle.std.specs.List.{fold}
-use Rattle.net_eval.specs.SetData.{with_item, items}
+use Rattle.std.specs.Prelude.{ℕ, length}
+use Rattle.net_eval.specs.SetData.{set_rows}
+use Rattle.net_eval.proofs.Items.{AreLeft}
 use Rattle.net_eval.proofs.item.set_rows.Given as goal
 
 abbrev pub invariant-loop-item : goal.invariant-loop-item
-invariant-loop-item l = fold (with_item l.fn.dimension) l.rows (drop l.item-index l.item-items) ≡ fold (with_item l.fn.dimension) (record { rows = []; alone = [] }) (items l.fn.members)
+invariant-loop-item l = (turns : ℕ) × AreLeft l.fn.dimension turns l.all.rows.items l.all.alone l.all.left.now l.left (set_rows l.fn.dimension l.fn.members)
+
+abbrev pub decreases-loop-item : goal.decreases-loop-item
+decreases-loop-item l = length l.left

@@ -1,4 +1,4 @@
-use Rattle.net_fault.specs.Places.{IsInFiles}
+use Rattle.net_base.specs.Places.{IsInFiles}
 use Rattle.net_eval.proofs.WorldFaults.{finds_world}
 use Rattle.net_eval.proofs.laws.errors_are_in_model_or_data.Goals as goal
 

@@ -1,6 +1,6 @@
 use Rattle.std.specs.Prelude.{◌≡◌, drop, None}
 use Rattle.net_expr.specs.Worlds.{key_count}
-use Rattle.net_fault.specs.Outcomes.{each}
+use Rattle.net_base.specs.Outcomes.{each}
 use Rattle.net_eval.specs.Rows.{with_statement}
 use Rattle.net_eval.proofs.param_data.data_of.Given as goal
 

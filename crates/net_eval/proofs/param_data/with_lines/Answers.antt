@@ -8,5 +8,5 @@ returns c = grind (arith, common_steps)
 pub loop-line-preserved : goal.loop-line-preserved
 loop-line-preserved c = grind (arith, common_steps)
 
-pub returns-in_err-with_line : goal.returns-in_err-with_line
-returns-in_err-with_line c = grind (arith, common_steps)
+pub returns-in_err-across : goal.returns-in_err-across
+returns-in_err-across c = grind (arith, common_steps)

@@ -1,5 +1,5 @@
 use Rattle.std.specs.Prelude.{◌≡◌, drop}
-use Rattle.net_fault.specs.Outcomes.{each}
+use Rattle.net_base.specs.Outcomes.{each}
 use Rattle.net_eval.specs.Rows.{with_line}
 use Rattle.net_eval.proofs.param_data.with_lines.Given as goal
 

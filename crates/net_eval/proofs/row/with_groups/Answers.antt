@@ -8,5 +8,5 @@ returns c = grind (arith, common_steps)
 pub loop-group-preserved : goal.loop-group-preserved
 loop-group-preserved c = grind (arith, common_steps)
 
-pub returns-in_err-with_group : goal.returns-in_err-with_group
-returns-in_err-with_group c = grind (arith, common_steps)
+pub returns-in_err-with_cell : goal.returns-in_err-with_cell
+returns-in_err-with_cell c = grind (arith, common_steps)

@@ -1,5 +1,5 @@
 use Rattle.std.specs.Prelude.{◌≡◌, drop}
-use Rattle.net_fault.specs.Outcomes.{each}
+use Rattle.net_base.specs.Outcomes.{each}
 use Rattle.net_eval.specs.Rows.{with_group}
 use Rattle.net_eval.proofs.row.with_groups.Given as goal
 

@@ -1,7 +1,7 @@
 use Rattle.std.specs.Prelude.{◌≡◌, drop, map}
 use Rattle.net_tree.specs.View.{phrase_of}
 use Rattle.net_tree.specs.Role.{role_of}
-use Rattle.net_fault.specs.Outcomes.{each}
+use Rattle.net_base.specs.Outcomes.{each}
 use Rattle.net_eval.specs.SetPhrases.{set_phrases, in_body, set_word}
 use Rattle.net_eval.proofs.set_phrase.set_phrases.Given as goal
 

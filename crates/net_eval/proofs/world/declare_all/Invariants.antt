@@ -1,6 +1,6 @@
 use Rattle.std.specs.Prelude.{◌≡◌, drop, map, []}
 use Rattle.net_tree.specs.View.{declaration_of}
-use Rattle.net_fault.specs.Outcomes.{each}
+use Rattle.net_base.specs.Outcomes.{each}
 use Rattle.net_eval.specs.Binding.{declare, widths}
 use Rattle.net_eval.proofs.Fresh.{IsFreshFrom}
 use Rattle.net_eval.proofs.world.declare_all.Given as goal

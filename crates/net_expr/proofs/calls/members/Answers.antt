@@ -1,7 +1,7 @@
 use Rattle.std.proofs.Common.{ap, sym}
 use Rattle.net_tree.specs.View.{tree}
 use Rattle.net_expr.specs.Items.{tuples_of}
-use Rattle.net_fault.specs.Outcomes.{and_then}
+use Rattle.net_base.specs.Outcomes.{and_then}
 use Rattle.net_expr.specs.Values.{value}
 use Rattle.net_expr.proofs.Walking.{answers_by}
 use Rattle.net_expr.proofs.calls.members.Goals as goal

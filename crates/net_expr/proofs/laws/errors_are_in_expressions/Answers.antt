@@ -1,4 +1,4 @@
-use Rattle.net_fault.specs.Places.{IsInFiles}
+use Rattle.net_base.specs.Places.{IsInFiles}
 use Rattle.net_expr.proofs.ValueFaults.{finds_value, finds_index}
 use Rattle.net_expr.proofs.laws.errors_are_in_expressions.Goals as goal
 

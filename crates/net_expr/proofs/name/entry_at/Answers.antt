@@ -11,8 +11,5 @@ returns-else-len-eq0 c = grind (arith, common_steps)
 pub returns-else-len-key_count : goal.returns-else-len-key_count
 returns-else-len-key_count c = grind (arith)
 
-pub returns-then-len-key_count : goal.returns-then-len-key_count
-returns-then-len-key_count c = grind (arith)
-
 pub returns-then-len-eq0 : goal.returns-then-len-eq0
 returns-then-len-eq0 c = grind (arith)

@@ -4,7 +4,7 @@ use Rattle.std.proofs.lemmas.Result.{err_from_is_err_and}
 use Rattle.net_tree.specs.Spans.{span_of}
 use Rattle.net_tree.specs.View.{tree}
 use Rattle.net_expr.specs.Numbers.{number, gathered}
-use Rattle.net_fault.specs.Outcomes.{and_then}
+use Rattle.net_base.specs.Outcomes.{and_then}
 use Rattle.net_expr.proofs.Walking.{stops, goes, and_then-assoc}
 use Rattle.net_expr.proofs.number.one_more.Goals as goal
 

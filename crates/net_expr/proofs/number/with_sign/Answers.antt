@@ -3,7 +3,7 @@ use Rattle.std.proofs.lemmas.Result.{err_from_is_err_and}
 use Rattle.net_tree.specs.Spans.{span_of}
 use Rattle.net_tree.specs.View.{tree}
 use Rattle.net_expr.specs.Numbers.{number, sized, turned}
-use Rattle.net_fault.specs.Outcomes.{and_then}
+use Rattle.net_base.specs.Outcomes.{and_then}
 use Rattle.net_expr.specs.Values.{with_sign}
 use Rattle.net_expr.proofs.Walking.{answers_by, stops, goes, and_then-assoc}
 use Rattle.net_expr.proofs.number.with_sign.Goals as goal

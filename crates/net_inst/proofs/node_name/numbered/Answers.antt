@@ -3,8 +3,8 @@ use Rattle.std.proofs.lemmas.Grind.{common_steps}
 use Rattle.net_inst.proofs.Steps.{place_below}
 use Rattle.net_inst.proofs.node_name.numbered.Goals as goal
 
-pub number_after-number-requires : goal.number_after-number-requires
-number_after-number-requires c = place_below c.args.keys.now.index c.args.key c.in-Some.place c.in-Some.ensures
+pub at-requires : goal.at-requires
+at-requires c = place_below c.args.keys.now.index c.args.key c.in-Some.place c.in-Some.ensures
 
 pub returns-in-Some : goal.returns-in-Some
 returns-in-Some c = grind (arith, common_steps)

@@ -1,6 +1,6 @@
 use Rattle.std.proofs.Common.{ℕ, ◌+◌, Ok, Err, take, subst, ap, arith}
 use Rattle.net_lex.specs.Scanning.{IsKindOf}
-use Rattle.net_fault.specs.declared.span.Span.{Span}
+use Rattle.net_base.specs.declared.diagnostic.Span.{Span}
 use Rattle.net_lex.proofs.ScanLemmas.{front_found, numeral_error_code, found_token}
 use Rattle.net_lex.proofs.scan.token_of.Goals as goal
 

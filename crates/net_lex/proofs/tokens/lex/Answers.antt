@@ -2,7 +2,7 @@ use Rattle.std.proofs.Common.{◌+◌, sym, subst, refl, arith, Vec}
 use Rattle.std.proofs.lemmas.Grind.{common_steps}
 use Rattle.std.proofs.Common.{Global}
 use Rattle.std.specs.Str.{IsValidUpTo}
-use Rattle.net_fault.specs.declared.error_code.ErrorCode.TheVariants.{NotUtf8}
+use Rattle.net_base.specs.declared.error_code.ErrorCode.TheVariants.{NotUtf8}
 use Rattle.net_lex.specs.declared.token.Token.{Token}
 use Rattle.net_lex.specs.Faults.{not_utf8}
 use Rattle.net_lex.proofs.Reporting.{Reported, reported_lexes, rejected_at}

@@ -2,7 +2,7 @@ use Rattle.std.proofs.Common.{ℤ, subst, arith}
 use Rattle.std.proofs.lemmas.Grind.{common_steps}
 use Rattle.net_tree.specs.Spans.{span_of}
 use Rattle.net_tree.specs.View.{tree}
-use Rattle.net_fault.specs.Outcomes.{Refines}
+use Rattle.net_base.specs.Outcomes.{Refines}
 use Rattle.net_linear.specs.Forms.{just, sized}
 use Rattle.net_linear.proofs.Terms.{plain_number}
 use Rattle.net_linear.proofs.term.plain_term.Goals as goal

@@ -1,7 +1,6 @@
 use Rattle.std.proofs.Common.{arith}
-use Rattle.std.proofs.lemmas.Grind.{common_steps}
 use Rattle.net_tree.proofs.Views.{views}
 use Rattle.net_model.proofs.braces.reduced.Goals as goal
 
 pub returns : goal.returns
-returns c = grind (arith, common_steps, views)
+returns c = grind (arith, views)

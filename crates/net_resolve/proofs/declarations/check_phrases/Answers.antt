@@ -13,7 +13,7 @@ returns-in_err-check_body-clause-value c =
     rw y.1 (rw y.2
     (stops_first _ _ (phrases_fault c.args.scope.now (map phrase_of c.args.phrases.now)) c.in_err-check_body.field-0.0
     (phrases_left c.need_after.result c.args.scope.now c.loop-phrase.scope c.args.phrases.now c.loop-phrase.phrase-index c.phrase-item.result _ c.loop-phrase-test.true c.phrase-item.is c.loop-phrase.invariant.kept
-    (c.need_after.ensures ∙ ap need_after c.role_of.ensures) c.loop-phrase.invariant.fault)
+    (c.need_after.ensures ∙ ap need_after c.role.ensures) c.loop-phrase.invariant.fault)
     c.in_err-check_body.ensures.value))
 
 pub loop-phrase-preserved : goal.loop-phrase-preserved
@@ -21,7 +21,7 @@ loop-phrase-preserved c = record {
   fault =
       after_none _ _ (phrases_fault c.args.scope.now (map phrase_of c.args.phrases.now))
       (phrases_left c.need_after.result c.args.scope.now c.loop-phrase.scope c.args.phrases.now c.loop-phrase.phrase-index c.phrase-item.result _ c.loop-phrase-test.true c.phrase-item.is c.loop-phrase.invariant.kept
-      (c.need_after.ensures ∙ ap need_after c.role_of.ensures) c.loop-phrase.invariant.fault)
+      (c.need_after.ensures ∙ ap need_after c.role.ensures) c.loop-phrase.invariant.fault)
       c.in_ok-check_body.ensures.value;
   kept = c.in_ok-check_body.ensures.kept ∙ c.loop-phrase.invariant.kept;
 }

@@ -1,6 +1,6 @@
 use Rattle.std.proofs.Common.{[], Option, None, Some, IfSome}
-use Rattle.net_fault.specs.declared.span.Span.{Span}
-use Rattle.net_fault.specs.Places.{IsSpanIn}
+use Rattle.net_base.specs.declared.diagnostic.Span.{Span}
+use Rattle.net_base.specs.Places.{IsSpanIn}
 use Rattle.net_resolve.specs.Reported.{Fault}
 use Rattle.net_resolve.specs.Names.{names_fault}
 use Rattle.net_resolve.proofs.NamesStand.{FaultStands, names_stand}

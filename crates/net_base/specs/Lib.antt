@@ -1,0 +1,5 @@
+pub mod ErrorCodes
+pub mod ErrorLines
+pub mod Outcomes
+pub mod Places
+pub mod formers

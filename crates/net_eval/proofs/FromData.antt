@@ -1,0 +1,177 @@
+-- Parameters whose values all come from the data.
+use Rattle.std.specs.Prelude.{◌≡◌, ◌&&◌, ◌||◌, ℕ, zero, suc, drop, option_map, slice_get, Bool, true, false, List, [], ◌∷◌, Option, None, Some, is_some, if◌then◌else◌, Result, Ok, Err}
+use Rattle.std.specs.List.{AllByRecursion}
+use Rattle.std.proofs.Common.{refl, ap, sym, subst, ◌∙◌}
+use Rattle.net_base.specs.declared.diagnostic.Detail.{Detail}
+use Rattle.net_base.specs.declared.diagnostic.Span.{Span}
+use Rattle.net_base.specs.declared.fault.Fault.{Fault}
+use Rattle.net_base.specs.Outcomes.{Outcome, and_then, each}
+use Rattle.net_lex.specs.declared.token.Token.{Token}
+use Rattle.net_sets.specs.declared.member.Member.{Member}
+use Rattle.net_sets.specs.Sets.{Tuple, at_key, same_tuple}
+use Rattle.net_tree.specs.declared.role.Relation.{Relation}
+use Rattle.net_tree.specs.declared.role.Role.{Role}
+use Rattle.net_tree.specs.declared.role.Role.TheVariants as roles
+use Rattle.net_tree.specs.Numerals.{number_as, number_of}
+use Rattle.net_tree.specs.Phrases.{is_becomes, is_default}
+use Rattle.net_tree.specs.PhraseValues.{phrase_value}
+use Rattle.net_tree.specs.Role.{role_of}
+use Rattle.net_tree.specs.Spans.{span_of, braces_span}
+use Rattle.net_tree.specs.Tree.{Tree, leaf, indexed, parens, tuple, negated, braced, signed, reduced, chain, choice, net, Body, plain, valued, priced, Phrase, Braces}
+use Rattle.net_expr.specs.declared.row.Row.{Row}
+use Rattle.net_expr.specs.declared.world.Entry.{Entry}
+use Rattle.net_expr.specs.declared.world.Entry.TheVariants.{Parameter}
+use Rattle.net_expr.specs.Values.{value, token_value}
+use Rattle.net_expr.specs.Worlds.{World, Scope, reference}
+use Rattle.net_eval.specs.declared.given.NamedData.{NamedData}
+use Rattle.net_eval.specs.BoundParameters.{KeyedParameter, PlacedValues, Source, source, source_in, with_key, fit_kind, is_number, takes_texts, cell_of, keys_with, fit_value, fit_row, fit_values, data_of, placed, valued_by, values, with_data, bound_parameter}
+use Rattle.net_eval.specs.DeclaredKeys.{HasKeys}
+use Rattle.net_eval.specs.FromData.{is_numeral, compares, are_constant, Fits, Answers}
+use Rattle.net_eval.specs.Restrictions.{relation, related, holding, restricted, restricted_by, restricted_in}
+use Rattle.net_eval.specs.Rows.{Table, Taken}
+use Rattle.net_eval.proofs.RowsTaken.{then_ok}
+
+both_true : (a b : Bool) → (a && b) ≡ true → (a ≡ true) × (b ≡ true)
+both_true true b h = (refl, h)
+both_true false b h = cc
+
+-- ---- numerals have the same value everywhere
+
+same_token : (w : World) (s q : Scope) (t : Token) (r : Role) → is_some (number_as r t.text) ≡ true → token_value w s t r ≡ token_value w q t r
+same_token w s q t roles.Name h = cc
+same_token w s q t roles.Number h = refl
+same_token w s q t roles.Text h = refl
+same_token w s q t roles.Open h = refl
+same_token w s q t roles.Close h = refl
+same_token w s q t roles.OpenBrace h = refl
+same_token w s q t roles.CloseBrace h = refl
+same_token w s q t roles.OpenSquare h = refl
+same_token w s q t roles.CloseSquare h = refl
+same_token w s q t roles.Comma h = refl
+same_token w s q t roles.Colon h = refl
+same_token w s q t roles.Semicolon h = refl
+same_token w s q t roles.Becomes h = refl
+same_token w s q t roles.Sign h = refl
+same_token w s q t roles.Range h = refl
+same_token w s q t roles.By h = refl
+same_token w s q t (roles.Joining n) h = refl
+same_token w s q t (roles.Relation r) h = refl
+same_token w s q t roles.Not h = refl
+same_token w s q t roles.If h = refl
+same_token w s q t roles.Then h = refl
+same_token w s q t roles.Else h = refl
+same_token w s q t roles.Reduction h = refl
+same_token w s q t roles.Net h = refl
+same_token w s q t (roles.Declaration d) h = refl
+same_token w s q t (roles.Phrase b) h = refl
+same_token w s q t roles.LeftOut h = refl
+same_token w s q t roles.Unknown h = refl
+
+same_value : (w : World) (s q : Scope) (x : Tree) → is_numeral x ≡ true → value w s x ≡ value w q x
+unfolding number_of
+same_value w s q (leaf t) h = same_token w s q t (role_of t) h
+same_value w s q (indexed n o x l c) h = cc
+same_value w s q (parens o x c) h = cc
+same_value w s q (tuple o x l c) h = cc
+same_value w s q (negated n o x c) h = cc
+same_value w s q (braced b) h = cc
+same_value w s q (signed t x) h = cc
+same_value w s q (reduced r b x) h = cc
+same_value w s q (chain n x l) h = cc
+same_value w s q (choice i x t y e) h = cc
+same_value w s q (net t u) h = cc
+
+-- ---- so phrases that compare with numerals allow the same values at each key
+
+holds_true : (at : Span) (d : Detail) (b : Bool) (u : Unit {0}) → holding at d b ≡ Ok u → b ≡ true
+holds_true at d true u h = refl
+holds_true at d false u h = cc
+
+by_same : (w : World) (s : Scope) (d e : Detail) (m : Member) (o : Option Relation) (x : Tree) (u : Unit {0}) → compares o (valued x) ≡ true → restricted_by w [] e m o x ≡ Ok u → restricted_by w s d m o x ≡ Ok tt
+by_same w s d e m None x u c h = refl
+by_same w s d e m (Some r) x u c h =
+    then_ok (value w [] x) (λ v. and_then (related (span_of x) r m v) (holding (span_of x) e)) u h (λ v i j.
+    then_ok (related (span_of x) r m v) (holding (span_of x) e) u j (λ b k l.
+    ap (λ o. and_then o (λ v. and_then (related (span_of x) r m v) (holding (span_of x) d))) (same_value w s [] x c ∙ i)
+    ∙ ap (λ o. and_then o (holding (span_of x) d)) (k ∙ ap Ok (holds_true (span_of x) e b u l))))
+
+in_same : (w : World) (s : Scope) (d e : Detail) (m : Member) (word : Token) (b : Body) (u : Unit {0}) → compares (relation word) b ≡ true → restricted_in w [] e m word b ≡ Ok u → restricted_in w s d m word b ≡ Ok tt
+in_same w s d e m word plain u c h = refl
+in_same w s d e m word (valued x) u c h = by_same w s d e m (relation word) x u c h
+in_same w s d e m word (priced n x) u c h = refl
+
+allowed_same : (w : World) (s : Scope) (d e : Detail) (m : Member) (ps : List Phrase) → are_constant ps ≡ true → restricted w [] e m ps ≡ Ok tt → restricted w s d m ps ≡ Ok tt
+allowed_same w s d e m [] c h = refl
+allowed_same w s d e m (p ∷ ps) c h =
+    let (here, rest) = both_true (compares (relation p.word) p.body) (are_constant ps) c in
+    then_ok (restricted_in w [] e m p.word p.body) (λ u. restricted w [] e m ps) tt h (λ u i j.
+    ap (λ o. and_then o (λ u. restricted w s d m ps)) (in_same w s d e m p.word p.body u here i) ∙ allowed_same w s d e m ps rest j)
+
+-- ---- all values fit
+
+found_fits : (P : Member → Type 0) (t : Table) (key : Tuple) (m : Member) → AllByRecursion (λ row. P row.1) t → at_key t key ≡ Some m → P m
+found_fits P [] key m h e = cc
+found_fits P (row ∷ t) key m h e = go (same_tuple key row.0) e (found_fits P t key m h.1)
+  where
+    go : (b : Bool) → (if b then Some row.1 else at_key t key) ≡ Some m → (at_key t key ≡ Some m → P m) → P m
+    go true k more = subst P (some_is row.1 m k) h.0
+      where
+        some_is : (x y : Member) → Some x ≡ Some y → x ≡ y
+        some_is x y k = cc
+    go false k more = more k
+
+fits_value : (w : World) (p : KeyedParameter) (v : PlacedValues) (r : Row) (m : Member) → are_constant p.phrases ≡ true → Fits w p m → fit_value w p v r (Some m) ≡ Ok tt
+fits_value w p v r m c fits =
+    let allowed = allowed_same w r.scope (reference p.name.text p.keys r.key) (reference p.name.text p.keys []) m p.phrases c fits.1 in
+    rw fits.0 allowed
+
+rows_fit : (w : World) (p : KeyedParameter) (v : PlacedValues) (rows : List Row) → are_constant p.phrases ≡ true → AllByRecursion (λ row. Fits w p row.1) v.table → fit_values w p v rows ≡ Ok tt
+rows_fit w p v [] c all = refl
+rows_fit w p v (r ∷ rows) c all = ap (λ o. and_then o (λ u. fit_values w p v rows)) (go (at_key v.table r.key) refl) ∙ rows_fit w p v rows c all
+  where
+    go : (o : Option Member) → at_key v.table r.key ≡ o → fit_value w p v r o ≡ Ok tt
+    go None e = refl
+    go (Some m) e = fits_value w p v r m c (found_fits (Fits w p) v.table r.key m all e)
+
+-- ---- nothing else has a value
+
+no_source : (w : World) (at : Span) (rows : List Row) (t : Table) → each (with_key w at (None, None)) rows t ≡ Ok t
+no_source w at [] t = refl
+no_source w at (r ∷ rows) t = ap (λ o. and_then o (each (with_key w at (None, None)) rows)) (go (is_some (at_key t r.key))) ∙ no_source w at rows t
+  where
+    go : (b : Bool) → (if b then (let o : Outcome Table = Ok t in o) else Ok t) ≡ Ok t
+    go true = refl
+    go false = refl
+
+pub from_data : (w : World) (ws : List ℕ) (p : KeyedParameter) (ms : List NamedData) (rows : List Row) (taken : Taken) → are_constant p.phrases ≡ true → phrase_value is_becomes p.phrases ≡ None → phrase_value is_default p.phrases ≡ None
+    → data_of ws p.keys p.index (is_some (phrase_value is_becomes p.phrases)) ms ≡ Ok (taken, None) → AllByRecursion (λ row. Fits w p row.1) taken.0 → with_data w ws p ms rows ≡ Ok (Parameter p.keys p.index taken.0)
+from_data w ws p ms rows taken c becomes default said fits =
+    let finish : Table → Outcome Entry = λ t. Ok (Parameter p.keys p.index t) in
+    ap (λ o. and_then (and_then o (λ all. values w p (source_in p all.1) rows all.0)) finish) said
+    ∙ ap (λ x. and_then (values w p x rows taken) finish) (ap (λ a. source a None (phrase_value is_default p.phrases)) becomes ∙ ap (λ b. source None None b) default)
+    ∙ ap (λ o. and_then (and_then o (valued_by w p (None, None) rows taken)) finish) (no_source w p.name.span rows taken.0)
+    ∙ ap (λ o. and_then (and_then o (λ u. Ok taken.0)) finish) (rows_fit w p (placed p (None, None) taken taken.0) rows c fits)
+
+-- ---- over the keys of declared sets
+
+abbrev at_keys : Token → List Phrase → ℕ → List Tuple → KeyedParameter
+at_keys name ps count index = record { name = name; keys = Some count; index = index; phrases = ps }
+
+pub bound_over : (w : World) (ws : List ℕ) (name : Token) (b : Braces) (ps : List Phrase) (ms : List NamedData) (count : ℕ) (index : List Tuple) (h : HasKeys w b count index)
+    → bound_parameter w ws name (Some b) ps ms ≡ with_data w ws (at_keys name ps count index) ms h.indexing.rows
+bound_over w ws name b ps ms count index h =
+    rw (h.indexed, h.listed (braces_span b))
+    (ap (λ k. with_data w ws (record { name = name; keys = k; index = index; phrases = ps }) ms h.indexing.rows) h.counted)
+
+pub answers_moved : (wanted other : Outcome Entry) (r : Result (Option Entry) Fault) → wanted ≡ other → Answers other r → Answers wanted r
+answers_moved wanted other r e h = subst (λ o. Answers o r) (sym e) h
+
+-- ---- row by row
+
+pub next_row : (P : Member → Type 0) (t : Table) (i : ℕ) (m : Member) → Some m ≡ option_map (λ (row : Tuple × Member). row.1) (slice_get t i) → P m → AllByRecursion (λ row. P row.1) (drop (suc i) t) → AllByRecursion (λ row. P row.1) (drop i t)
+next_row P [] i m e fits rest = cc
+next_row P (row ∷ t) zero m e fits rest = (subst P (same m row.1 e) fits, rest)
+  where
+    same : (x y : Member) → Some x ≡ Some y → x ≡ y
+    same x y h = cc
+next_row P (row ∷ t) (suc i) m e fits rest = next_row P t i m e fits rest

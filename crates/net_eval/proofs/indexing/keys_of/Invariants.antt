@@ -1,6 +1,0 @@
-use Rattle.std.specs.Prelude.{◌≡◌, take}
-use Rattle.net_expr.specs.Rows.{keys_of}
-use Rattle.net_eval.proofs.indexing.keys_of.Given as goal
-
-abbrev pub invariant-loop-row : goal.invariant-loop-row
-invariant-loop-row l = l.all.items ≡ keys_of (take l.row-index l.fn.rows)

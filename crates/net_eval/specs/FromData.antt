@@ -1,0 +1,38 @@
+-- Parameters whose values all come from the data: nothing is evaluated at a key.
+use Rattle.std.specs.Prelude.{◌≡◌, Bool, true, false, ◌&&◌, ◌||◌, List, [], ◌∷◌, Option, None, Some, is_some, Result, Ok, Err, ⊤}
+use Rattle.net_base.specs.declared.fault.Fault.{Fault}
+use Rattle.net_base.specs.declared.fault.Fault.TheVariants.{OutOfMemory, At}
+use Rattle.net_base.specs.Outcomes.{Outcome}
+use Rattle.net_sets.specs.declared.member.Member.{Member}
+use Rattle.net_tree.specs.declared.role.Relation.{Relation}
+use Rattle.net_tree.specs.Numerals.{number_of}
+use Rattle.net_tree.specs.Tree.{Tree, leaf, Body, plain, valued, priced, Phrase}
+use Rattle.net_expr.specs.declared.world.Entry.{Entry}
+use Rattle.net_expr.specs.Worlds.{World, reference}
+use Rattle.net_eval.specs.BoundParameters.{KeyedParameter, is_number, takes_texts}
+use Rattle.net_eval.specs.Restrictions.{relation, restricted}
+
+-- a numeral, which has the same value at each key
+abbrev pub is_numeral : Tree → Bool
+is_numeral (leaf t) = is_some (number_of t)
+is_numeral _ = false
+
+abbrev pub compares : Option Relation → Body → Bool
+compares (Some r) (valued x) = is_numeral x
+compares _ _ = true
+
+-- each phrase that restricts values compares them with a numeral
+abbrev pub are_constant : List Phrase → Bool
+are_constant [] = true
+are_constant (p ∷ ps) = compares (relation p.word) p.body && are_constant ps
+
+-- a value is of the parameter's kind, and its phrases allow it
+abbrev pub Fits : World → KeyedParameter → Member → Type 0
+Fits w p m = ((takes_texts p.phrases || is_number m) ≡ true) × (restricted w [] (reference p.name.text p.keys []) m p.phrases ≡ Ok tt)
+
+-- what is returned, if anything is, is what is wanted
+abbrev pub Answers : Outcome Entry → Result (Option Entry) Fault → Type 0
+Answers wanted (Ok (Some e)) = wanted ≡ Ok e
+Answers wanted (Ok None) = ⊤
+Answers wanted (Err OutOfMemory) = ⊤
+Answers wanted (Err (At r)) = wanted ≡ Err r

@@ -1,4 +1,0 @@
-pub mod ErrorCodes
-pub mod ErrorLines
-pub mod Outcomes
-pub mod Places

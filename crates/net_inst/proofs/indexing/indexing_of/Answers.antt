@@ -1,6 +1,0 @@
-use Rattle.std.proofs.Common.{arith}
-use Rattle.std.proofs.lemmas.Grind.{common_steps}
-use Rattle.net_inst.proofs.indexing.indexing_of.Goals as goal
-
-pub returns-in_ok-indexing-in-None : goal.returns-in_ok-indexing-in-None
-returns-in_ok-indexing-in-None c = grind (arith, common_steps)
