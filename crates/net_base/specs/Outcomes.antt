@@ -7,8 +7,8 @@ use Rattle.net_base.specs.declared.error_code.ErrorCode.{ErrorCode}
 use Rattle.net_base.specs.declared.diagnostic.Detail.{Detail}
 use Rattle.net_base.specs.declared.diagnostic.Detail.TheVariants.{Nothing}
 use Rattle.net_base.specs.declared.diagnostic.Diagnostic.{Diagnostic}
-use Rattle.net_base.specs.declared.fault.Fault.{Fault}
-use Rattle.net_base.specs.declared.fault.Fault.TheVariants.{OutOfMemory, At}
+use Rattle.net_base.specs.declared.diagnostic.Fault.{Fault}
+use Rattle.net_base.specs.declared.diagnostic.Fault.TheVariants.{OutOfMemory, At}
 
 abbrev pub diagnostic_at : Language → ErrorCode → Span → Detail → Diagnostic
 diagnostic_at text d at x = record { error_code = d; text = text; at = at; detail = x }

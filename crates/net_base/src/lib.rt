@@ -6,14 +6,10 @@ mod boxed;
 mod diagnostic;
 mod error_code;
 mod excerpt;
-mod fault;
 mod items;
-mod owned_text;
 
 pub use boxed::Boxed;
-pub use diagnostic::{Detail, Diagnostic, Language, Span};
+pub use diagnostic::{Detail, Diagnostic, Fault, Language, Span};
 pub use error_code::ErrorCode;
-pub use excerpt::Excerpt;
-pub use fault::Fault;
+pub use excerpt::{Excerpt, OwnedText};
 pub use items::Items;
-pub use owned_text::OwnedText;

@@ -8,10 +8,10 @@ use Rattle.net_check.specs.FirstFaults.{IsFirstFailing, IsFirstFault, IsFirstFau
 use Rattle.net_check.specs.declared.certificate.Side.{Side}
 use Rattle.net_check.specs.declared.certificate.Certificate.{Certificate}
 use Rattle.net_check.specs.declared.certificate.Certificate.TheVariants.{Optimal, Cut}
-use Rattle.net_check.specs.declared.verdict.Reason.{Reason}
-use Rattle.net_check.specs.declared.verdict.Reason.TheVariants.{Shape, Bounds, Balance, Value, Positive, Negative, NotViolated}
-use Rattle.net_check.specs.declared.verdict.Verdict.{Verdict}
-use Rattle.net_check.specs.declared.verdict.Verdict.TheVariants.{Yes, No}
+use Rattle.net_check.specs.declared.checker.Reason.{Reason}
+use Rattle.net_check.specs.declared.checker.Reason.TheVariants.{Shape, Bounds, Balance, Value, Positive, Negative, NotViolated}
+use Rattle.net_check.specs.declared.checker.Verdict.{Verdict}
+use Rattle.net_check.specs.declared.checker.Verdict.TheVariants.{Yes, No}
 use Rattle.net_check.proofs.Pairs.{zipped-keeps, zipped-lengths}
 
 -- a failing arc is slack in one of the two ways

@@ -10,8 +10,8 @@ use Rattle.net_check.specs.Certificates.{HasFlowShape, IsComplementary, IsViolat
 use Rattle.net_check.specs.declared.certificate.Side.{Side}
 use Rattle.net_check.specs.declared.certificate.Certificate.{Certificate}
 use Rattle.net_check.specs.declared.certificate.Certificate.TheVariants.{Optimal, Cut}
-use Rattle.net_check.specs.declared.verdict.Reason.{Reason}
-use Rattle.net_check.specs.declared.verdict.Reason.TheVariants.{Shape, Bounds, Balance, Value, Positive, Negative, NotViolated}
+use Rattle.net_check.specs.declared.checker.Reason.{Reason}
+use Rattle.net_check.specs.declared.checker.Reason.TheVariants.{Shape, Bounds, Balance, Value, Positive, Negative, NotViolated}
 
 -- the first index at which P fails is number - 1
 pub record IsFirstFailing (P : ℕ → Type 0) (number : ℕ) : Type 0 where

@@ -1,18 +1,19 @@
 //! Checking a certificate.
 
-ghost use Rattle.std.specs.Prelude.{◌≡◌, ℕ, ◌↔◌, ◌≤◌, IsTrue, IfSome, IfNone, length};
+ghost use Rattle.std.specs.Prelude.{◌≡◌, ℕ, ◌↔◌, ◌≤◌, IsTrue, IfSome, IfNone, length, Bool, List, ℤ, ◌≤ℤ◌};
 ghost use Rattle.net_check.specs.Certificates.{IsCertificate, IsOptimal, IsViolatedCut};
 ghost use Rattle.net_check.specs.FirstFaults.{IsFirstFault, IsFirstFaultOfFlow, IsFirstFaultOfCut, IsFirstFailing, ArcKeeps};
 ghost use Rattle.std.specs.List.{AllZip};
-ghost use Rattle.net_normal.specs.Flows.{IsWithinCapacity};
+ghost use Rattle.net_normal.specs.Flows.{IsWithinCapacity, IsFeasibleFlow, cost_of};
 ghost use Rattle.net_normal.specs.Limits.{flow_arc_limit};
+ghost use Rattle.net_normal.specs.declared.problem.Problem.{Problem};
+ghost use Rattle.net_check.specs.declared.certificate.Side.{Side};
 
 use crate::balance::first_unbalanced;
 use crate::certificate::{Certificate, Side};
 use crate::cost::cost;
 use crate::cut::is_violated;
 use crate::slackness::check_slackness;
-use crate::verdict::{Reason, Verdict};
 use net_normal::{FlowArc, Problem};
 
 /// Checks a flow with potentials; returns the first condition that fails.
@@ -94,3 +95,50 @@ pub fn first_out_of_bounds(arcs: &[FlowArc], flows: &[i64]) -> Option<u32>
     }
     None
 }
+
+/// The condition that fails.
+#[derive(Clone, Copy, Debug, PartialEq, Eq)]
+pub enum Reason {
+    /// The number of flows, potentials or flags differs from the problem's number of arcs or nodes.
+    Shape,
+    /// An arc's flow is below LOW or above CAP.
+    Bounds,
+    /// A node's net outflow differs from its supply.
+    Balance,
+    /// The value is not the cost of the flow.
+    Value,
+    /// An arc with positive reduced cost has a flow above LOW.
+    Positive,
+    /// An arc with negative reduced cost has a flow below CAP.
+    Negative,
+    /// The set's supply is within the range that its arcs allow.
+    NotViolated,
+}
+
+/// The result of checking a certificate.
+#[derive(Clone, Copy, Debug, PartialEq, Eq)]
+pub enum Verdict {
+    /// The certificate settles the problem.
+    Yes,
+    /// The first condition that fails, and the number of its arc or node, counted from 1, or 0 if
+    /// it concerns neither.
+    No(Reason, u32),
+}
+
+/// Theorem: no feasible flow costs less than the value of an optimality certificate.
+pub fn least_cost()
+    ensures value { (problem : Problem) (value : ℤ) (flows potentials others : List ℤ)
+        → IsOptimal problem value flows potentials → IsFeasibleFlow problem others → value ≤ℤ cost_of problem others }
+{}
+
+/// Theorem: if a cut is violated, no feasible flow exists.
+pub fn no_flow()
+    ensures value { (problem : Problem) (flags : List Bool) (side : Side) (flows : List ℤ)
+        → IsViolatedCut problem flags side → ¬ IsFeasibleFlow problem flows }
+{}
+
+/// Theorem: no problem has both an optimality certificate and a violated cut.
+pub fn never_both()
+    ensures value { (problem : Problem) (value : ℤ) (flows potentials : List ℤ) (flags : List Bool) (side : Side)
+        → IsOptimal problem value flows potentials → ¬ IsViolatedCut problem flags side }
+{}

@@ -6,13 +6,9 @@ mod certificate;
 mod checker;
 pub mod cost;
 pub mod cut;
-mod laws;
 mod slackness;
-mod verdict;
 pub mod wide;
 
 pub use certificate::{Certificate, Side};
-pub use checker::check;
-pub use laws::{least_cost, never_both, no_flow};
+pub use checker::{Reason, Verdict, check, least_cost, never_both, no_flow};
 pub use slackness::reduced_cost;
-pub use verdict::{Reason, Verdict};

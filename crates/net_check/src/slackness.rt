@@ -6,7 +6,7 @@ ghost use Rattle.net_normal.specs.Limits.{IsSized, IsFlowArcOf, cost_limit, flow
 ghost use Rattle.net_check.specs.Certificates.{IsComplementary, reduced_cost};
 ghost use Rattle.net_check.specs.FirstFaults.{IsFirstFailing, ArcKeeps, IsSlack};
 
-use crate::verdict::{Reason, Verdict};
+use crate::checker::{Reason, Verdict};
 use crate::wide::wide;
 use net_normal::FlowArc;
 

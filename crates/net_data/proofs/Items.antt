@@ -6,11 +6,11 @@ use Rattle.std.proofs.Math.Seq.{take-suc}
 use Rattle.net_data.specs.Commas.{in_set, bare}
 use Rattle.net_data.specs.Spots.{outside}
 use Rattle.net_lex.specs.declared.token.Token.{Token}
-use Rattle.net_data.specs.declared.spot.Spot.{Spot}
+use Rattle.net_data.specs.declared.members.Spot.{Spot}
 use Rattle.net_base.specs.declared.error_code.ErrorCode.TheVariants.{DataSyntax}
 use Rattle.net_data.specs.Spots.{spot_after, rests}
 use Rattle.net_data.specs.Reading.{Read, stop, with_token, items_from, items}
-use Rattle.net_data.specs.declared.parse_error.ParseError.{ParseError}
+use Rattle.net_data.specs.declared.data_parser.ParseError.{ParseError}
 
 -- these tokens, and then what is read
 abbrev pub with_tokens : List Token → Read (List Token) → Read (List Token)

@@ -8,9 +8,9 @@ use Rattle.net_lex.specs.declared.token.Token.{Token}
 use Rattle.net_lex.specs.declared.token.Kind.{Kind}
 use Rattle.net_lex.specs.declared.token.Kind.TheVariants as tokens_of
 use Rattle.net_base.specs.declared.error_code.ErrorCode.TheVariants.{DataSyntax}
-use Rattle.net_data.specs.declared.spot.Spot.{Spot}
-use Rattle.net_data.specs.declared.spot.Spot.TheVariants.{Outside, Opened, First, Parted, Later}
-use Rattle.net_data.specs.declared.parse_error.ParseError.{ParseError}
+use Rattle.net_data.specs.declared.members.Spot.{Spot}
+use Rattle.net_data.specs.declared.members.Spot.TheVariants.{Outside, Opened, First, Parted, Later}
+use Rattle.net_data.specs.declared.data_parser.ParseError.{ParseError}
 use Rattle.net_data.specs.Commas.{in_set, elsewhere, skips, bare}
 use Rattle.net_data.specs.Meaning.{AreItems}
 use Rattle.net_data.specs.Reading.{Read, stop, run, items, items_from, items_of, with_token, ◌>>=◌}

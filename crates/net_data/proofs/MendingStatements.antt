@@ -7,7 +7,7 @@ use Rattle.net_data.specs.declared.statement.DefaultValue.{DefaultValue}
 use Rattle.net_data.specs.declared.statement.Transposed.{Transposed}
 use Rattle.net_data.specs.declared.statement.Statement.{Statement}
 use Rattle.net_data.specs.declared.statement.Statement.TheVariants as kinds
-use Rattle.net_data.specs.declared.parse_error.ParseError.{ParseError}
+use Rattle.net_data.specs.declared.data_parser.ParseError.{ParseError}
 use Rattle.net_data.specs.Commas.{Place, before, in_set, elsewhere, bare}
 use Rattle.net_data.specs.Meaning.{AreItems, IsDefault, IsTransposed, IsStatement}
 use Rattle.net_data.specs.Printing.{put, put_default, put_transposed}

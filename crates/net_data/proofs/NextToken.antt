@@ -4,7 +4,7 @@ use Rattle.std.specs.Prelude.{is_some, if◌then◌else◌}
 use Rattle.std.specs.Option.{option_map}
 use Rattle.net_lex.specs.declared.token.Token.{Token}
 use Rattle.net_base.specs.declared.error_code.ErrorCode.TheVariants.{DataSyntax}
-use Rattle.net_data.specs.declared.parse_error.ParseError.{ParseError}
+use Rattle.net_data.specs.declared.data_parser.ParseError.{ParseError}
 use Rattle.net_data.specs.Tests.{is_comma}
 use Rattle.net_data.specs.Reading.{Read, stop, span_of, front, met_by, met, rejected, wanted_by, wanted}
 use Rattle.net_data.proofs.Lookahead.{ok_parts, some_parts, err_is, place_is, looked, looked_join, looked_token, Local, same_local}

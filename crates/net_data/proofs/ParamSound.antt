@@ -1,7 +1,7 @@
 -- What is read as a statement is its printing.
 use Rattle.std.proofs.Common.{◌≡◌, ℕ, zero, suc, true, List, ◌∷◌, Option, Some, None, IfSome, Result, Ok, Err, refl, ap, ◌∙◌, subst, codes}
 use Rattle.net_lex.specs.declared.token.Token.{Token}
-use Rattle.net_data.specs.declared.parse_error.ParseError.{ParseError}
+use Rattle.net_data.specs.declared.data_parser.ParseError.{ParseError}
 use Rattle.net_data.specs.declared.statement.DefaultValue.{DefaultValue}
 use Rattle.net_data.specs.declared.statement.NamedSet.{NamedSet}
 use Rattle.net_data.specs.declared.statement.Statement.{Statement}

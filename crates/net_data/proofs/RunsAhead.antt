@@ -4,9 +4,9 @@ use Rattle.std.specs.Prelude.{◌||◌, if◌then◌else◌}
 use Rattle.net_base.specs.declared.diagnostic.Span.{Span}
 use Rattle.net_lex.specs.declared.token.Token.{Token}
 use Rattle.net_base.specs.declared.error_code.ErrorCode.TheVariants.{DataSyntax}
-use Rattle.net_data.specs.declared.spot.Spot.{Spot}
-use Rattle.net_data.specs.declared.spot.Spot.TheVariants.{Outside, Opened, First as FirstMember, Parted, Later}
-use Rattle.net_data.specs.declared.parse_error.ParseError.{ParseError}
+use Rattle.net_data.specs.declared.members.Spot.{Spot}
+use Rattle.net_data.specs.declared.members.Spot.TheVariants.{Outside, Opened, First as FirstMember, Parted, Later}
+use Rattle.net_data.specs.declared.data_parser.ParseError.{ParseError}
 use Rattle.net_data.specs.Commas.{in_set, bare}
 use Rattle.net_data.specs.Reading.{Read, stop, run, items_after, items_from, items_of, items, spot_or, with_token, ◌>>=◌}
 use Rattle.net_data.specs.Spots.{spot_after, rests, outside}

@@ -2,12 +2,12 @@
 use Rattle.std.proofs.Common.{◌≡◌, Bool, true, false, cond, ◌&&◌, ◌||◌, List, [], ◌∷◌, ◌++◌, Option, Some, None, Ok, Err, refl, ap, sym, ◌∙◌, codes, ◌⊎◌, inl, inr, subst}
 use Rattle.std.proofs.lemmas.Bool.{or_cases}
 use Rattle.net_lex.specs.declared.token.Token.{Token}
-use Rattle.net_data.specs.declared.spot.Spot.{Spot}
-use Rattle.net_data.specs.declared.spot.Spot.TheVariants.{Outside, Opened, First, Parted, Later}
+use Rattle.net_data.specs.declared.members.Spot.{Spot}
+use Rattle.net_data.specs.declared.members.Spot.TheVariants.{Outside, Opened, First, Parted, Later}
 use Rattle.net_data.specs.Tests.{is_member, is_mark, is_comma}
 use Rattle.net_data.specs.Commas.{Place, in_set, in_tuple, place_after, skips, bare}
 use Rattle.net_data.specs.Spots.{spot_after, rests}
-use Rattle.net_data.specs.declared.parse_error.ParseError.{ParseError}
+use Rattle.net_data.specs.declared.data_parser.ParseError.{ParseError}
 use Rattle.net_base.specs.declared.error_code.ErrorCode.TheVariants.{DataSyntax}
 use Rattle.std.specs.Prelude.{if◌then◌else◌}
 use Rattle.net_data.specs.Reading.{stop, Read, items_from, items, items_of, with_token, items_after, semicolon, ◌>>=◌}

@@ -1,7 +1,7 @@
 -- What is read as a statement that gives a set is its printing, and the other way round.
 use Rattle.std.proofs.Common.{◌≡◌, true, List, ◌∷◌, ◌++◌, Result, Ok, refl, subst, codes}
 use Rattle.net_lex.specs.declared.token.Token.{Token}
-use Rattle.net_data.specs.declared.parse_error.ParseError.{ParseError}
+use Rattle.net_data.specs.declared.data_parser.ParseError.{ParseError}
 use Rattle.net_data.specs.declared.statement.SetStatement.{SetStatement}
 use Rattle.net_data.specs.declared.statement.Statement.{Statement}
 use Rattle.net_data.specs.declared.statement.Statement.TheVariants as kinds

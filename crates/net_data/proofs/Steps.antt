@@ -2,7 +2,7 @@
 use Rattle.std.proofs.Common.{◌≡◌, ℕ, Bool, true, false, List, ◌∷◌, Option, Some, Result, Ok, Err, refl, ap, sym, ◌∙◌, codes}
 use Rattle.std.specs.Str.{bytes_eq}
 use Rattle.net_lex.specs.declared.token.Token.{Token}
-use Rattle.net_data.specs.declared.parse_error.ParseError.{ParseError}
+use Rattle.net_data.specs.declared.data_parser.ParseError.{ParseError}
 use Rattle.net_data.specs.Tests.{is_name, is_member, is_word, is_mark}
 use Rattle.net_data.specs.Commas.{Place, before, in_set, elsewhere, place_after, skips, bare}
 use Rattle.net_data.specs.Reading.{wanted, met, semicolon, ◌>>=◌}

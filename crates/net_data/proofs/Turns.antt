@@ -3,10 +3,10 @@ use Rattle.std.proofs.Common.{◌≡◌, ℕ, suc, ◌+◌, ◌≤◌, ◌<◌, 
 use Rattle.std.proofs.lemmas.List.{append-nil}
 use Rattle.net_lex.specs.declared.token.Token.{Token}
 use Rattle.net_data.specs.declared.statement.Statement.{Statement}
-use Rattle.net_data.specs.declared.parse_error.ParseError.{ParseError}
-use Rattle.net_base.specs.declared.fault.Fault.{Fault}
-use Rattle.net_data.specs.declared.parse_error.StatementStop.{StatementStop}
-use Rattle.net_data.specs.declared.parse_error.StatementStop.TheVariants as statement_stops
+use Rattle.net_data.specs.declared.data_parser.ParseError.{ParseError}
+use Rattle.net_base.specs.declared.diagnostic.Fault.{Fault}
+use Rattle.net_data.specs.declared.data_parser.StatementStop.{StatementStop}
+use Rattle.net_data.specs.declared.data_parser.StatementStop.TheVariants as statement_stops
 use Rattle.net_data.specs.Reading.{Read, statement, statements, with_statement, fault_of, statement_fault, Stops, Fails}
 
 -- these statements, and then what is read

@@ -13,7 +13,7 @@ use Rattle.net_data.specs.declared.statement.TableStatement.{TableStatement}
 use Rattle.net_data.specs.declared.statement.ColumnsStatement.{ColumnsStatement}
 use Rattle.net_data.specs.declared.statement.Statement.{Statement}
 use Rattle.net_data.specs.declared.statement.Statement.TheVariants as kinds
-use Rattle.net_data.specs.declared.parse_error.ParseError.{ParseError}
+use Rattle.net_data.specs.declared.data_parser.ParseError.{ParseError}
 use Rattle.net_data.specs.declared.statement.Single.{Single}
 use Rattle.net_data.specs.Commas.{Place, before, elsewhere, place_after, skips, bare}
 use Rattle.net_data.specs.Meaning.{IsTransposed, IsTableHeading, IsColumnsHeading, IsStatement, judged, all_judged, and_then}

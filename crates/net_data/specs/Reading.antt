@@ -7,13 +7,13 @@ use Rattle.net_base.specs.declared.diagnostic.Span.{Span}
 use Rattle.net_lex.specs.declared.token.Token.{Token}
 use Rattle.net_base.specs.declared.error_code.ErrorCode.{ErrorCode}
 use Rattle.net_base.specs.declared.error_code.ErrorCode.TheVariants.{DataSyntax, RowWidth, TableWidth}
-use Rattle.net_base.specs.declared.fault.Fault.{Fault}
+use Rattle.net_base.specs.declared.diagnostic.Fault.{Fault}
 use Rattle.net_base.specs.declared.diagnostic.Language.TheVariants.{Data}
 use Rattle.net_base.specs.Outcomes as outcomes
-use Rattle.net_base.specs.declared.fault.Fault.TheVariants.{OutOfMemory, At}
-use Rattle.net_data.specs.declared.parse_error.ParseError.{ParseError}
-use Rattle.net_data.specs.declared.parse_error.StatementStop.{StatementStop}
-use Rattle.net_data.specs.declared.parse_error.StatementStop.TheVariants as statement_stops
+use Rattle.net_base.specs.declared.diagnostic.Fault.TheVariants.{OutOfMemory, At}
+use Rattle.net_data.specs.declared.data_parser.ParseError.{ParseError}
+use Rattle.net_data.specs.declared.data_parser.StatementStop.{StatementStop}
+use Rattle.net_data.specs.declared.data_parser.StatementStop.TheVariants as statement_stops
 use Rattle.net_data.specs.declared.statement.DefaultValue.{DefaultValue}
 use Rattle.net_data.specs.declared.statement.Given.{Given}
 use Rattle.net_data.specs.declared.statement.Transposed.{Transposed}
@@ -24,7 +24,7 @@ use Rattle.net_data.specs.declared.statement.Single.{Single}
 use Rattle.net_data.specs.declared.statement.Tables.{Tables}
 use Rattle.net_data.specs.Tests.{is_name, is_member, is_cell, is_word, is_mark, is_comma}
 use Rattle.net_data.specs.Commas.{in_set, bare, uncommaed}
-use Rattle.net_data.specs.declared.spot.Spot.{Spot}
+use Rattle.net_data.specs.declared.members.Spot.{Spot}
 use Rattle.net_data.specs.Spots.{outside, spot_after, rests}
 
 infixl 10 ◌>>=◌

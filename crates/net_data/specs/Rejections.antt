@@ -5,10 +5,10 @@ use Rattle.net_base.specs.declared.diagnostic.Span.{Span}
 use Rattle.net_lex.specs.declared.token.Token.{Token}
 use Rattle.net_base.specs.declared.error_code.ErrorCode.{ErrorCode}
 use Rattle.net_base.specs.declared.error_code.ErrorCode.TheVariants.{DataSyntax, RowWidth, TableWidth}
-use Rattle.net_base.specs.declared.fault.Fault.{Fault}
+use Rattle.net_base.specs.declared.diagnostic.Fault.{Fault}
 use Rattle.net_base.specs.declared.diagnostic.Language.TheVariants.{Data}
 use Rattle.net_base.specs.Outcomes as outcomes
-use Rattle.net_base.specs.declared.fault.Fault.TheVariants.{OutOfMemory, At}
+use Rattle.net_base.specs.declared.diagnostic.Fault.TheVariants.{OutOfMemory, At}
 use Rattle.net_data.specs.declared.statement.TableStatement.{TableStatement}
 use Rattle.net_data.specs.declared.statement.ColumnsStatement.{ColumnsStatement}
 use Rattle.net_data.specs.declared.statement.Statement.{Statement}

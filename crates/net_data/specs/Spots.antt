@@ -1,8 +1,8 @@
 -- The position of a token among the members and tuples of a set.
 use Rattle.std.specs.Prelude.{Bool, true, false, ◌||◌, if◌then◌else◌, codes, Option, Some, None}
 use Rattle.net_lex.specs.declared.token.Token.{Token}
-use Rattle.net_data.specs.declared.spot.Spot.{Spot}
-use Rattle.net_data.specs.declared.spot.Spot.TheVariants.{Outside, Opened, First, Parted, Later}
+use Rattle.net_data.specs.declared.members.Spot.{Spot}
+use Rattle.net_data.specs.declared.members.Spot.TheVariants.{Outside, Opened, First, Parted, Later}
 use Rattle.net_data.specs.Tests.{is_member, is_mark, is_comma}
 
 -- the position after a token, or None if the token is not allowed

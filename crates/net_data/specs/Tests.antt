@@ -5,8 +5,8 @@ use Rattle.std.specs.Str.{bytes_eq}
 use Rattle.net_lex.specs.declared.token.Kind.{Kind}
 use Rattle.net_lex.specs.declared.token.Kind.TheVariants.{Name, Num, Str, Mark, Dot}
 use Rattle.net_lex.specs.declared.token.Token.{Token}
-use Rattle.net_data.specs.declared.expected.Expected.{Expected}
-use Rattle.net_data.specs.declared.expected.Expected.TheVariants as sorts
+use Rattle.net_data.specs.declared.expected_token.Expected.{Expected}
+use Rattle.net_data.specs.declared.expected_token.Expected.TheVariants as sorts
 
 abbrev pub names : Kind → Bool
 names Name = true

@@ -3,11 +3,10 @@ ghost use Rattle.std.specs.Prelude.{◌≡◌, ◌<◌, ◌≤◌, ◌+◌, ◌^
 ghost use Rattle.net_data.specs.Tests.{is_of};
 ghost use Rattle.net_data.specs.Reading.{cells, heading, headed, check_rows, Reads, ReadsPair};
 
-use crate::cells::{Cells, Word};
-use crate::expected::Expected;
+use crate::cells::{Cells, Word, run};
+use crate::data_parser::ParseError;
+use crate::expected_token::Expected;
 use crate::next_token::wanted;
-use crate::parse_error::ParseError;
-use crate::runs::run;
 use net_base::ErrorCode;
 use net_lex::Token;
 

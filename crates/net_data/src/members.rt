@@ -4,9 +4,10 @@ ghost use Rattle.std.specs.Prelude.{◌≡◌, ◌≤◌, length, drop};
 ghost use Rattle.net_data.specs.Meaning.{AreItems};
 ghost use Rattle.net_data.specs.Rows.{first_item, begins_tuple, more_items, inside_len};
 ghost use Rattle.net_data.specs.Commas.{in_set, bare};
+ghost use Rattle.net_data.specs.Spots.{spot_after, rests};
 
 use crate::cells::Cells;
-use crate::expected::is_mark;
+use crate::expected_token::{is_comma, is_mark, is_member};
 use crate::next_token::front;
 use net_lex::Token;
 use std::marker::Model;
@@ -126,4 +127,51 @@ fn after_first<'t, 's>(tokens: &'t [Token<'s>]) -> &'t [Token<'s>]
     ensures { result.now ≡ drop 1 tokens.entry.now }
 {
     tokens.get(1..).unwrap_or(tokens)
+}
+
+/// The position of a token in the items of a set, as far as it determines which tokens can follow.
+#[derive(Clone, Copy)]
+pub enum Spot {
+    /// Outside tuples.
+    Outside,
+    /// After the `(` of a tuple.
+    Opened,
+    /// After the first member of a tuple.
+    First,
+    /// After a comma of a tuple.
+    Parted,
+    /// After a later member of a tuple.
+    Later,
+}
+
+impl Spot {
+    /// Returns the position after a token, or `None` if the token is not allowed here.
+    pub fn after(self, token: &Token<'_>) -> Option<Spot>
+        ensures { result ≡ spot_after self token.now }
+    {
+        match self {
+            Spot::Outside if is_member(token) || is_comma(token) => Some(Spot::Outside),
+            Spot::Outside if is_mark(b"(", token) => Some(Spot::Opened),
+            Spot::Outside => None,
+            Spot::Opened if is_member(token) => Some(Spot::First),
+            Spot::Opened => None,
+            Spot::First if is_comma(token) => Some(Spot::Parted),
+            Spot::First => None,
+            Spot::Parted if is_member(token) => Some(Spot::Later),
+            Spot::Parted => None,
+            Spot::Later if is_comma(token) => Some(Spot::Parted),
+            Spot::Later if is_mark(b")", token) => Some(Spot::Outside),
+            Spot::Later => None,
+        }
+    }
+
+    /// Returns whether no tuple is open.
+    pub fn rests(self) -> bool
+        ensures { result ≡ rests self }
+    {
+        match self {
+            Spot::Outside => true,
+            Spot::Opened | Spot::First | Spot::Parted | Spot::Later => false,
+        }
+    }
 }

@@ -5,8 +5,8 @@ ghost use Rattle.net_data.specs.Tests.{is_comma, is_of};
 ghost use Rattle.net_data.specs.Reading.{front, met, wanted, rejected, Reads, Finds};
 
 use crate::cells::Word;
-use crate::expected::{Expected, is_comma, is_of};
-use crate::parse_error::ParseError;
+use crate::data_parser::ParseError;
+use crate::expected_token::{Expected, is_comma, is_of};
 use net_base::ErrorCode;
 use net_lex::Token;
 

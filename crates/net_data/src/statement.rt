@@ -1,8 +1,15 @@
 //! The statements, each with all its tokens except the commas outside tuples.
 
+ghost use Rattle.std.specs.Prelude.{◌≡◌, [], ◌∷◌, ◌++◌, OnOk, IfOk, IfErr};
+ghost use Rattle.net_base.specs.declared.diagnostic.Fault.TheVariants.{OutOfMemory};
+ghost use Rattle.net_data.specs.declared.data_parser.StatementStop.TheVariants as statement_stops;
+
 use crate::cells::Word;
+use crate::data_parser::StatementStop;
 use crate::members::Members;
-use net_base::Items;
+use net_base::{Boxed, Fault, Items};
+use net_lex::Token;
+use std::alloc::Global;
 
 /// `set NAME := items ;`
 #[derive(Drop)]
@@ -107,4 +114,32 @@ pub struct Tables<'t, 's> {
     pub statements: Items<Statement<'t, 's>>,
     /// `end;`
     pub ending: Option<Single<'t, 's>>,
+}
+
+/// A statement, and the remaining tokens.
+pub(crate) type Stated<'t, 's> = (Boxed<Statement<'t, 's>>, &'t [Token<'s>]);
+
+/// Boxes a parsed statement, since it has many forms. Fails only if memory runs out.
+pub(crate) fn stated<'t, 's, T: Drop>(
+    alloc: Global,
+    statement: T,
+    tokens: &'t [Token<'s>],
+) -> Result<(Boxed<T>, &'t [Token<'s>]), StatementStop>
+    ensures value { IfOk result (λ x. x.0 ≡ statement) }
+    ensures rest { IfOk result (λ x. x.1.now ≡ tokens.entry.now) }
+    ensures memory { IfErr result (λ e. e ≡ statement_stops.OutOfMemory) }
+{
+    match Box::new(alloc, statement) {
+        Ok(boxed) => Ok((Boxed::new(boxed), tokens)),
+        Err(_) => Err(StatementStop::OutOfMemory),
+    }
+}
+
+/// Appends a statement. Fails only if memory runs out.
+pub(crate) fn push<T: Drop>(statements: &mut Vec<T>, statement: Boxed<T>) -> Result<(), Fault>
+    ensures items { OnOk result (statements.new.items ≡ statements.old.items ++ (statement ∷ [])) }
+    ensures memory { IfErr result (λ e. e ≡ OutOfMemory) }
+{
+    statements.push(Box::into_inner(statement.into_box()))?;
+    Ok(())
 }

@@ -4,7 +4,7 @@ use Rattle.std.specs.Prelude.{Option, filter, filter_map, map}
 use Rattle.std.specs.List.{AllByRecursion, cons_option}
 use Rattle.std.proofs.lemmas.List.Elements.{All-from_recursion}
 use Rattle.std.proofs.lemmas.List.Splits.{slice_split_at}
-use Rattle.net_dimacs.specs.declared.statement.Statement.{Statement}
+use Rattle.net_dimacs.specs.declared.problem_line.Statement.{Statement}
 use Rattle.net_dimacs.specs.Lines.{is_blank, has_byte, word_of}
 use Rattle.net_dimacs.specs.Reading.{statement_of, line_statement}
 use Rattle.net_dimacs.specs.Problems.{statements_of}

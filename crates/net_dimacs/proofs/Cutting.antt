@@ -4,8 +4,8 @@ use Rattle.std.specs.Prelude.{Option, Result, int_lt, int_le, nat_le, unsigned_a
 use Rattle.std.specs.Option.{option_map}
 use Rattle.std.proofs.lemmas.Bool.Decides.{nat_tests}
 use Rattle.net_normal.specs.Limits.{flow_node_limit, flow_arc_limit, flow_limit, cost_limit}
-use Rattle.net_dimacs.specs.declared.statement.Statement.{Statement}
-use Rattle.net_dimacs.specs.declared.statement.Statement.TheVariants as statements
+use Rattle.net_dimacs.specs.declared.problem_line.Statement.{Statement}
+use Rattle.net_dimacs.specs.declared.problem_line.Statement.TheVariants as statements
 use Rattle.net_dimacs.specs.declared.problem_fault.LineFault.{LineFault}
 use Rattle.net_dimacs.specs.declared.problem_fault.LineFault.TheVariants.{LineOrder, DoubleNode, Count, Bounds, TooLarge}
 use Rattle.net_dimacs.specs.Numbers.{greatest_signed, cut, cut_statement}

@@ -7,8 +7,8 @@ use Rattle.std.proofs.lemmas.Bool.Decides.{nat_tests}
 use Rattle.std.proofs.Math.ListN.{length-set, length-replicate}
 use Rattle.net_normal.specs.Limits.{flow_node_limit, flow_arc_limit, flow_limit}
 use Rattle.net_normal.specs.declared.problem.FlowArc.{FlowArc}
-use Rattle.net_dimacs.specs.declared.statement.Statement.{Statement}
-use Rattle.net_dimacs.specs.declared.statement.Statement.TheVariants as statements
+use Rattle.net_dimacs.specs.declared.problem_line.Statement.{Statement}
+use Rattle.net_dimacs.specs.declared.problem_line.Statement.TheVariants as statements
 use Rattle.net_dimacs.specs.declared.problem_fault.LineFault.{LineFault}
 use Rattle.net_dimacs.specs.declared.problem_fault.LineFault.TheVariants.{LineOrder, Count}
 use Rattle.net_dimacs.specs.Reading.{Sketch, place_of, new_sketch, is_past, with_node, with_node_at, bounds_fault, with_arc, with_arc_at, with_arc_or, State, Start, Open, Rejected, state_from, with_optional_statement}

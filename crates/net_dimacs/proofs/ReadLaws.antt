@@ -6,8 +6,8 @@ use Rattle.std.proofs.lemmas.Bool.Decides.{nat_tests}
 use Rattle.net_normal.specs.Limits.{IsFlowArcOf}
 use Rattle.net_normal.specs.declared.problem.FlowArc.{FlowArc}
 use Rattle.net_normal.specs.declared.problem.Problem.{Problem}
-use Rattle.net_dimacs.specs.declared.statement.Statement.{Statement}
-use Rattle.net_dimacs.specs.declared.statement.Statement.TheVariants as statements
+use Rattle.net_dimacs.specs.declared.problem_line.Statement.{Statement}
+use Rattle.net_dimacs.specs.declared.problem_line.Statement.TheVariants as statements
 use Rattle.net_dimacs.specs.declared.problem_fault.LineFault.{LineFault}
 use Rattle.net_dimacs.specs.declared.problem_fault.LineFault.TheVariants.{TooLarge, Count, NoProblemLine}
 use Rattle.net_dimacs.specs.declared.problem_fault.Rejection.{Rejection}

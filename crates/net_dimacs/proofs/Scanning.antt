@@ -4,10 +4,10 @@ use Rattle.std.specs.Prelude.{Option, Result, filter_map, IsOk, OnErr, option_to
 use Rattle.std.specs.List.{cons_option}
 use Rattle.std.specs.Option.{option_map}
 use Rattle.std.specs.Str.Lines.{lines}
-use Rattle.net_dimacs.specs.declared.statement.Statement.{Statement}
-use Rattle.net_dimacs.specs.declared.statement.Statement.TheVariants as statements
+use Rattle.net_dimacs.specs.declared.problem_line.Statement.{Statement}
+use Rattle.net_dimacs.specs.declared.problem_line.Statement.TheVariants as statements
 use Rattle.net_dimacs.specs.declared.problem_fault.LineFault.{LineFault}
-use Rattle.net_dimacs.specs.declared.scan.Scan.{Scan}
+use Rattle.net_dimacs.specs.declared.line_scan.Scan.{Scan}
 use Rattle.net_dimacs.specs.declared.progress.Progress.{Progress}
 use Rattle.net_dimacs.specs.declared.progress.Progress.TheVariants as progresses
 use Rattle.net_dimacs.specs.Numbers.{cut_statement}

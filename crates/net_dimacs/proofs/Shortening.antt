@@ -6,7 +6,7 @@ use Rattle.std.specs.Str.Lines.{lines, lines_of_parts, strip_carriage_return}
 use Rattle.std.proofs.lemmas.Bool.Decides.{nat_tests}
 use Rattle.std.proofs.lemmas.List.{take-append-drop, length-append}
 use Rattle.net_dimacs.specs.declared.problem_fault.Rejection.{Rejection}
-use Rattle.net_dimacs.specs.declared.scan.Scan.{Scan}
+use Rattle.net_dimacs.specs.declared.line_scan.Scan.{Scan}
 use Rattle.net_dimacs.specs.Limits.{text_limit}
 use Rattle.net_dimacs.specs.Lines.{is_feed, HasNone}
 use Rattle.net_dimacs.specs.OpenLines.{IsSameStatement}

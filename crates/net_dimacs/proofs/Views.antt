@@ -3,10 +3,10 @@ use Rattle.std.proofs.Common.{◌≡◌, ◌≤◌, ℕ, Bool, true, false, List
 use Rattle.std.specs.Prelude.{Option, if◌then◌else◌}
 use Rattle.std.specs.Option.{option_map}
 use Rattle.net_dimacs.specs.Lines.{fields_of, is_text}
-use Rattle.net_dimacs.specs.declared.statement.Statement.{Statement}
-use Rattle.net_dimacs.specs.declared.statement.Statement.TheVariants as statements
-use Rattle.net_dimacs.specs.declared.statement.Kind.{Kind}
-use Rattle.net_dimacs.specs.declared.statement.Kind.TheVariants as kinds
+use Rattle.net_dimacs.specs.declared.problem_line.Statement.{Statement}
+use Rattle.net_dimacs.specs.declared.problem_line.Statement.TheVariants as statements
+use Rattle.net_dimacs.specs.declared.problem_line.Kind.{Kind}
+use Rattle.net_dimacs.specs.declared.problem_line.Kind.TheVariants as kinds
 use Rattle.net_dimacs.specs.Numbers.{cut_statement, Numerals, cut_number, two_in, arc_in, node_in, kind_of, or_other, statement_of_kind}
 use Rattle.net_dimacs.specs.OpenLines.{View, view}
 use Rattle.net_dimacs.specs.Reading.{line_statement}

@@ -12,8 +12,8 @@ use Rattle.net_normal.specs.Limits.{IsSized, IsFlowArcOf, flow_node_limit, flow_
 use Rattle.net_normal.specs.declared.problem.FlowArc.{FlowArc}
 use Rattle.net_dimacs.specs.Words.{Word}
 use Rattle.net_dimacs.specs.Words as words
-use Rattle.net_dimacs.specs.declared.statement.Statement.{Statement}
-use Rattle.net_dimacs.specs.declared.statement.Statement.TheVariants as statements
+use Rattle.net_dimacs.specs.declared.problem_line.Statement.{Statement}
+use Rattle.net_dimacs.specs.declared.problem_line.Statement.TheVariants as statements
 use Rattle.net_dimacs.specs.Lines.{is_blank, has_byte, fields_of, word_of}
 use Rattle.net_dimacs.specs.Written.{row, line, node_number, node_line, node_lines, arc_line, problem_text}
 use Rattle.net_dimacs.specs.Reading.{statement_of, line_statement}

@@ -5,7 +5,7 @@ use Rattle.net_check.specs.declared.certificate.Certificate.{Certificate}
 use Rattle.net_dimacs.specs.declared.problem_fault.LineFault.{LineFault}
 use Rattle.net_dimacs.specs.declared.problem_fault.ProblemFault.{ProblemFault}
 use Rattle.net_dimacs.specs.declared.problem_fault.ProblemFault.TheVariants as faults
-use Rattle.net_dimacs.specs.declared.line_stop.LineStop.{LineStop}
+use Rattle.net_dimacs.specs.declared.progress.LineStop.{LineStop}
 use Rattle.net_dimacs.specs.Drafts.{FailsLine}
 use Rattle.net_dimacs.specs.Certificates.{Account, account_of}
 use Rattle.net_dimacs.specs.CertificateReading.{Progress, Start, Open, Rejected}

@@ -2,10 +2,10 @@
 use Rattle.std.specs.Prelude.{◌≡◌, ◌∷◌, [], Result, Ok, Err, IsOk}
 use Rattle.std.specs.declared.alloc.AllocError.{AllocError}
 use Rattle.net_dimacs.specs.declared.problem_fault.LineFault.{LineFault}
-use Rattle.net_dimacs.specs.declared.statement.Statement.{Statement}
-use Rattle.net_dimacs.specs.declared.draft.Draft.{Draft}
-use Rattle.net_dimacs.specs.declared.line_stop.LineStop.{LineStop}
-use Rattle.net_dimacs.specs.declared.line_stop.LineStop.TheVariants as line_stops
+use Rattle.net_dimacs.specs.declared.problem_line.Statement.{Statement}
+use Rattle.net_dimacs.specs.declared.problem_draft.Draft.{Draft}
+use Rattle.net_dimacs.specs.declared.progress.LineStop.{LineStop}
+use Rattle.net_dimacs.specs.declared.progress.LineStop.TheVariants as line_stops
 use Rattle.net_dimacs.specs.declared.progress.Progress.{Progress}
 use Rattle.net_dimacs.specs.declared.progress.Progress.TheVariants as progresses
 use Rattle.net_dimacs.specs.Reading.{Sketch, State, Start, Open, Rejected}

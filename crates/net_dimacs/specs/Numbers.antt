@@ -4,10 +4,10 @@ use Rattle.std.specs.Prelude.{◌≡◌, ℕ, ◌-◌, ◌^◌, ◌<◌, ◌≤�
 use Rattle.std.specs.Option.{option_map, option_and_then}
 use Rattle.std.specs.Str.{all_ascii_digits}
 use Rattle.net_dimacs.specs.Lines.{is_blank, value_after, fields_of, number_of, is_text, begins_with}
-use Rattle.net_dimacs.specs.declared.statement.Statement.{Statement}
-use Rattle.net_dimacs.specs.declared.statement.Statement.TheVariants as statements
-use Rattle.net_dimacs.specs.declared.statement.Kind.{Kind}
-use Rattle.net_dimacs.specs.declared.statement.Kind.TheVariants as kinds
+use Rattle.net_dimacs.specs.declared.problem_line.Statement.{Statement}
+use Rattle.net_dimacs.specs.declared.problem_line.Statement.TheVariants as statements
+use Rattle.net_dimacs.specs.declared.problem_line.Kind.{Kind}
+use Rattle.net_dimacs.specs.declared.problem_line.Kind.TheVariants as kinds
 
 abbrev pub greatest_signed : ℕ
 greatest_signed = 2 ^ 63 - 1

@@ -8,7 +8,7 @@ use Rattle.net_dimacs.specs.Lines.{is_blank, is_feed, is_text, HasNone}
 use Rattle.net_dimacs.specs.Numbers.{cut_statement, cut_number, kind_of}
 use Rattle.net_dimacs.specs.Numerals.{size_of}
 use Rattle.net_dimacs.specs.Reading.{line_statement}
-use Rattle.net_dimacs.specs.declared.statement.Kind.{Kind}
+use Rattle.net_dimacs.specs.declared.problem_line.Kind.{Kind}
 
 -- with any continuation, both prefixes give a line with the same meaning
 abbrev pub IsSameStatement : List ℕ → List ℕ → Type 0

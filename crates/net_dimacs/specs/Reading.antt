@@ -9,8 +9,8 @@ use Rattle.net_dimacs.specs.Limits.{text_limit}
 use Rattle.net_dimacs.specs.Lines.{fields_of, word_of}
 use Rattle.net_dimacs.specs.Words.{Word}
 use Rattle.net_dimacs.specs.Words.{Comment, Problem, Node, Arc, Min, Number}
-use Rattle.net_dimacs.specs.declared.statement.Statement.{Statement}
-use Rattle.net_dimacs.specs.declared.statement.Statement.TheVariants as statements
+use Rattle.net_dimacs.specs.declared.problem_line.Statement.{Statement}
+use Rattle.net_dimacs.specs.declared.problem_line.Statement.TheVariants as statements
 use Rattle.net_dimacs.specs.declared.problem_fault.LineFault.{LineFault}
 use Rattle.net_dimacs.specs.declared.problem_fault.LineFault.TheVariants.{BadLine, NoProblemLine, LineOrder, NodeNumber, DoubleNode, Count, Bounds, TooLarge}
 use Rattle.net_dimacs.specs.declared.problem_fault.Rejection.{Rejection}

@@ -2,7 +2,7 @@
 use Rattle.std.specs.Prelude.{◌≡◌, ℕ, ◌≤◌, ◌-◌, ◌^◌, min, List, ◌++◌, length, Result}
 use Rattle.std.specs.Str.Lines.{lines}
 use Rattle.net_dimacs.specs.declared.problem_fault.Rejection.{Rejection}
-use Rattle.net_dimacs.specs.declared.scan.Scan.{Scan}
+use Rattle.net_dimacs.specs.declared.line_scan.Scan.{Scan}
 use Rattle.net_dimacs.specs.declared.reading.Reading.{Reading}
 use Rattle.net_dimacs.specs.Limits.{text_limit}
 use Rattle.net_dimacs.specs.Reading.{Start, Numbers, read_lines}

@@ -7,8 +7,8 @@ ghost use Rattle.net_dimacs.specs.CertificateReading.{with_claim, completed, Giv
 ghost use Rattle.net_dimacs.specs.CertificateDrafts.{GivesList, GivesPart, progress_of, Comes};
 
 use crate::claim::Claim;
-use crate::line_stop::LineStop;
 use crate::problem_fault::{LineFault, ProblemFault};
+use crate::progress::LineStop;
 use net_check::{Certificate, Side};
 use net_normal::{FlowArc, Problem};
 use std::alloc::{AllocError, Global};

@@ -6,6 +6,7 @@ ghost use Rattle.net_check.specs.Certificates.{HasShape};
 ghost use Rattle.net_dimacs.specs.Limits.{text_limit};
 ghost use Rattle.net_dimacs.specs.Certificates.{account_of, claims_of, BeginsCertificate, IsCertificateText, IsOnlyCertificate, IsNoCertificateText};
 ghost use Rattle.net_dimacs.specs.CertificateReading.{read_text, Gives, IfRejected};
+ghost use Rattle.net_dimacs.specs.ReadBack as read_back;
 
 use crate::certificate_draft::{completed, with_claim};
 use crate::claim::claim_of;
@@ -82,3 +83,10 @@ fn read_whole_certificate(
         Some(certificate) => completed(problem, number, certificate),
     }
 }
+
+/// Theorem: the text written for a problem within the limits, or for a certificate of one, is
+/// within the size limit and is read back as the same problem or certificate.
+pub fn written_texts_are_read_back()
+    ensures problems { read_back.AreProblemsReadBack }
+    ensures certificates { read_back.AreCertificatesReadBack }
+{}

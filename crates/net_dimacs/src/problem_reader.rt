@@ -6,9 +6,9 @@ ghost use Rattle.net_dimacs.specs.Limits.{text_limit};
 ghost use Rattle.net_dimacs.specs.Reading.{read_text, Gives, IfRejected};
 ghost use Rattle.net_dimacs.specs.Problems.{BeginsProblem, statements_of, IsProblemText, IsOnlyProblem, IsNoProblemText};
 
+use crate::line_scan::Scan;
 use crate::problem_fault::{LineFault, ProblemFault};
 use crate::reading::TEXT_LIMIT;
-use crate::scan::Scan;
 use net_normal::Problem;
 use std::alloc::Global;
 

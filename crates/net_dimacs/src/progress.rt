@@ -1,13 +1,13 @@
 //! The state after the lines read so far.
 
 ghost use Rattle.std.specs.Prelude.{◌≡◌, OnOk, OnErr, IsErrOf, option_to_list};
+ghost use Rattle.net_dimacs.specs.declared.progress.LineStop.TheVariants as line_stops;
 
-use crate::draft::Draft;
-use crate::line_stop::LineStop;
+use crate::problem_draft::Draft;
 use crate::problem_fault::{LineFault, ProblemFault, Rejection};
-use crate::statement::Statement;
+use crate::problem_line::Statement;
 use net_normal::Problem;
-use std::alloc::{AllocError, Global};
+use std::alloc::{AllocError, AllocFailed, Global};
 
 /// The state after the lines read so far.
 #[derive(Drop)]
@@ -83,5 +83,36 @@ impl Progress {
                 Ok(draft.problem())
             }
         }
+    }
+}
+
+/// Why a line was not accepted.
+#[derive(Clone, Copy)]
+pub enum LineStop {
+    OutOfMemory,
+    Line(LineFault),
+}
+
+impl From<LineFault> for LineStop {
+    ghost from_gives = { λ fault e. e ≡ line_stops.Line fault };
+
+    fn from(fault: LineFault) -> LineStop {
+        LineStop::Line(fault)
+    }
+}
+
+impl From<AllocError> for LineStop {
+    ghost from_gives = { λ _ e. e ≡ line_stops.OutOfMemory };
+
+    fn from(_fault: AllocError) -> LineStop {
+        LineStop::OutOfMemory
+    }
+}
+
+impl<T: Drop> From<AllocFailed<T>> for LineStop {
+    ghost from_gives = { λ _ e. e ≡ line_stops.OutOfMemory };
+
+    fn from(_fault: AllocFailed<T>) -> LineStop {
+        LineStop::OutOfMemory
     }
 }

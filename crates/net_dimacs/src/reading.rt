@@ -7,9 +7,9 @@ ghost use Rattle.net_dimacs.specs.Lines.{is_feed, HasNone};
 
 use crate::OutOfMemory;
 use crate::fields::after_last_feed;
+use crate::line_scan::Scan;
 use crate::open_line::shorten;
 use crate::problem_fault::{LineFault, ProblemFault};
-use crate::scan::Scan;
 use net_normal::Problem;
 use std::alloc::Global;
 

@@ -12,7 +12,7 @@ use Rattle.net_check.specs.declared.certificate.Certificate.{Certificate}
 use Rattle.net_check.specs.declared.certificate.Certificate.TheVariants as certificates
 use Rattle.net_check.specs.declared.certificate.Side.{Side}
 use Rattle.net_check.specs.declared.certificate.Side.TheVariants.{Over, Under}
-use Rattle.net_check.specs.declared.verdict.Verdict.{Verdict}
+use Rattle.net_check.specs.declared.checker.Verdict.{Verdict}
 use Rattle.net_dimacs.specs.Certificates.{Account, Optimal, Cut, account_of, IsCertificateText}
 use Rattle.net_dimacs.specs.Limits.{text_limit}
 use Rattle.net_dimacs.specs.declared.problem_fault.LineFault.{LineFault}
@@ -21,10 +21,10 @@ use Rattle.net_driver.specs.Accepted.{AreAnswersAccepted}
 use Rattle.net_driver.specs.Checked.{Judges, IsFirstLineFault, IsLineRejection}
 use Rattle.net_driver.specs.LineTexts.{IsProblemOf}
 use Rattle.net_driver.specs.Settled.{Settles}
-use Rattle.net_driver.specs.declared.fault.Fault.{Fault}
-use Rattle.net_driver.specs.declared.fault.Fault.TheVariants.{OutOfMemory, Rejected, RejectedLine, Unread, Unwritten}
-use Rattle.net_driver.specs.declared.fault.TextName.{TextName}
-use Rattle.net_driver.specs.declared.fault.TextName.TheVariants as texts
+use Rattle.net_driver.specs.declared.driver_fault.Fault.{Fault}
+use Rattle.net_driver.specs.declared.driver_fault.Fault.TheVariants.{OutOfMemory, Rejected, RejectedLine, Unread, Unwritten}
+use Rattle.net_driver.specs.declared.driver_fault.TextName.{TextName}
+use Rattle.net_driver.specs.declared.driver_fault.TextName.TheVariants as texts
 
 -- ---- a certificate by the numbers alone
 

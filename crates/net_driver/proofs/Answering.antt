@@ -6,8 +6,8 @@ use Rattle.net_check.specs.declared.certificate.Certificate.TheVariants as certi
 use Rattle.net_check.specs.Certificates.{IsCertificate, HasShape}
 use Rattle.net_driver.specs.LineTexts.{IsProblemOf}
 use Rattle.net_check.specs.declared.certificate.Certificate.{Certificate}
-use Rattle.net_driver.specs.declared.fault.Fault.{Fault}
-use Rattle.net_driver.specs.declared.fault.Fault.TheVariants as faults
+use Rattle.net_driver.specs.declared.driver_fault.Fault.{Fault}
+use Rattle.net_driver.specs.declared.driver_fault.Fault.TheVariants as faults
 use Rattle.net_driver.specs.Checked.{IsFirstLineFault, IsLineRejection, IsCertificateStop}
 use Rattle.net_driver.proofs.Counts.{zip_length}
 

@@ -10,7 +10,7 @@ use Rattle.net_tree.specs.Tree.{Declaration}
 use Rattle.net_model.specs.Models.{Decided, model, rejected}
 use Rattle.net_model.proofs.Deciding as parser
 use Rattle.net_model.proofs.NamedModels.{meant_well_named}
-use Rattle.net_data.specs.declared.parse_error.ParseError.{ParseError as DataStop}
+use Rattle.net_data.specs.declared.data_parser.ParseError.{ParseError as DataStop}
 use Rattle.net_data.specs.declared.statement.Tables.{Tables}
 use Rattle.net_data.specs.Reading as data_reading
 use Rattle.net_data.proofs.TablesMean.{tables-sound}

@@ -3,8 +3,8 @@ use Rattle.std.specs.Prelude.{◌≡◌, ℕ, List, length, Option, Result, Ok, 
 use Rattle.std.proofs.Common.{refl, sym, subst}
 use Rattle.net_base.specs.declared.diagnostic.Detail.TheVariants.{Nothing}
 use Rattle.net_base.specs.declared.diagnostic.Diagnostic.{Diagnostic}
-use Rattle.net_base.specs.declared.fault.Fault.{Fault}
-use Rattle.net_base.specs.declared.fault.Fault.TheVariants.{OutOfMemory, At}
+use Rattle.net_base.specs.declared.diagnostic.Fault.{Fault}
+use Rattle.net_base.specs.declared.diagnostic.Fault.TheVariants.{OutOfMemory, At}
 use Rattle.net_base.specs.declared.diagnostic.Language.{Language}
 use Rattle.net_base.specs.declared.diagnostic.Language.TheVariants.{Model, Data}
 use Rattle.net_base.specs.declared.diagnostic.Span.{Span}

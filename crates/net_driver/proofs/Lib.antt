@@ -18,6 +18,7 @@ pub mod Accepted
 pub mod OneAnswer
 mod ModelPlaces
 pub mod FaultPlaces
+mod Networks
 pub mod NoMemory
 mod NamedOnce
 mod OneNetwork

@@ -25,8 +25,8 @@ use Rattle.net_meaning.proofs.TextNetworks.{network_holds}
 use Rattle.net_meaning.proofs.TextTokens.{declaration_and, declarations_hold, statements_hold}
 use Rattle.net_meaning.proofs.TextWorlds.{world_holds}
 use Rattle.net_inst.specs.AsWritten as written
-use Rattle.net_inst.specs.declared.names.Declared.{Declared}
-use Rattle.net_inst.specs.declared.names.Key.{Key}
+use Rattle.net_inst.specs.declared.network_names.Declared.{Declared}
+use Rattle.net_inst.specs.declared.network_names.Key.{Key}
 use Rattle.net_inst.specs.Laws.{IsKeyOf, AreNames}
 use Rattle.net_inst.specs.Lists.{Listed}
 use Rattle.net_report.specs.LineNames.{AreWithinLine, HasLineNames}

@@ -12,7 +12,7 @@ use Rattle.net_normal.specs.NormalForm.{is_left_out, numbers_from}
 use Rattle.net_normal.specs.declared.instance.InstArc.{InstArc}
 use Rattle.net_normal.specs.declared.instance.Sense.{Sense}
 use Rattle.net_normal.specs.declared.instance.Sense.TheVariants.{Minimise, Maximise}
-use Rattle.net_normal.specs.declared.link.Link.{Link}
+use Rattle.net_normal.specs.declared.problem.Link.{Link}
 use Rattle.net_normal.specs.declared.problem.FlowArc.{FlowArc}
 use Rattle.net_normal.specs.declared.profile.Profile.{Profile}
 use Rattle.net_dimacs.specs.Problems.{statements_of, IsProblemText, IsOnlyProblem}

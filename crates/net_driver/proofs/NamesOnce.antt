@@ -12,7 +12,7 @@ use Rattle.net_resolve.specs.Scopes.{Scope, meaning_in}
 use Rattle.net_resolve.specs.Reported.{Fault, first, declared_before}
 use Rattle.net_expr.proofs.Walked.{all_as}
 use Rattle.net_eval.proofs.NewNames.{firsts, none_before, parts}
-use Rattle.net_inst.specs.declared.names.Declared.{Declared}
+use Rattle.net_inst.specs.declared.network_names.Declared.{Declared}
 use Rattle.net_inst.specs.AsWritten.{node_declared, arc_declared}
 use Rattle.net_inst.specs.Laws.{same_name}
 

@@ -4,8 +4,8 @@ use Rattle.std.specs.Result.{IsErrAnd}
 use Rattle.std.proofs.Common.{sym, subst}
 use Rattle.net_tree.specs.Tree.{Declaration}
 use Rattle.net_expr.specs.Worlds.{Name}
-use Rattle.net_driver.specs.declared.fault.Fault.{Fault}
-use Rattle.net_driver.specs.declared.fault.Fault.TheVariants.{OutOfMemory}
+use Rattle.net_driver.specs.declared.driver_fault.Fault.{Fault}
+use Rattle.net_driver.specs.declared.driver_fault.Fault.TheVariants.{OutOfMemory}
 use Rattle.net_driver.specs.FirstFaults.{MayBeModel}
 use Rattle.net_driver.specs.Reading.{IsModel}
 use Rattle.net_driver.specs.Reporting.{IsRejection}

@@ -6,7 +6,7 @@ use Rattle.net_dimacs.specs.Written.{problem_text}
 use Rattle.net_linear.specs.declared.condition.Sides.{Sides}
 use Rattle.net_inst.specs.Instances.{Network, seen_as}
 use Rattle.net_inst.specs.Nodes.{sides_of}
-use Rattle.net_inst.specs.declared.names.Names.{Names}
+use Rattle.net_inst.specs.declared.network_names.Names.{Names}
 use Rattle.net_normal.specs.declared.instance.Instance.{Instance}
 use Rattle.net_normal.specs.declared.instance.InstArc.{InstArc}
 use Rattle.net_normal.specs.declared.instance.NodeRange.{NodeRange}

@@ -5,7 +5,7 @@ use Rattle.std.proofs.lemmas.List.{length-map}
 use Rattle.net_dimacs.specs.Problems.{statements_of}
 use Rattle.net_dimacs.specs.Written.{problem_text}
 use Rattle.net_expr.specs.Worlds.{Name}
-use Rattle.net_inst.specs.declared.names.Names.{Names}
+use Rattle.net_inst.specs.declared.network_names.Names.{Names}
 use Rattle.net_inst.specs.AsWritten.{nodes, arcs, node_declared, arc_declared}
 use Rattle.net_inst.specs.ByName.{CorrespondsByName, CorrespondAsWritten}
 use Rattle.net_inst.specs.Instances.{seen_as}

@@ -2,10 +2,10 @@
 use Rattle.std.proofs.Common.{◌≡◌, ℕ, true, List, [], ◌∷◌, Result, Ok, Err, sym, ◌∙◌, subst}
 use Rattle.std.specs.Prelude.{◌↔◌, IsErrOf}
 use Rattle.std.specs.Result.{IsErrAnd}
-use Rattle.net_driver.specs.declared.fault.Fault.{Fault}
-use Rattle.net_driver.specs.declared.fault.Fault.TheVariants.{OutOfMemory, Rejected, RejectedLine, Unread, Unwritten}
-use Rattle.net_driver.specs.declared.fault.TextName.{TextName}
-use Rattle.net_driver.specs.declared.fault.TextName.TheVariants.{Model, Data, Problem, Certificate}
+use Rattle.net_driver.specs.declared.driver_fault.Fault.{Fault}
+use Rattle.net_driver.specs.declared.driver_fault.Fault.TheVariants.{OutOfMemory, Rejected, RejectedLine, Unread, Unwritten}
+use Rattle.net_driver.specs.declared.driver_fault.TextName.{TextName}
+use Rattle.net_driver.specs.declared.driver_fault.TextName.TheVariants.{Model, Data, Problem, Certificate}
 use Rattle.net_driver.specs.Runs.{ReadsUpTo, Input, Sink, Each, Texts, Reports, IsAskedFew, IsRun}
 
 -- these are the texts of the names

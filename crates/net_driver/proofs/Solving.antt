@@ -10,7 +10,7 @@ use Rattle.net_normal.specs.Links.{mapped_back, mapped_back_by, value_at, signed
 use Rattle.net_normal.specs.Sums.{price_of}
 use Rattle.net_normal.specs.declared.instance.Sense.{Sense}
 use Rattle.net_normal.specs.declared.instance.Sense.TheVariants.{Minimise, Maximise}
-use Rattle.net_normal.specs.declared.link.Link.{Link}
+use Rattle.net_normal.specs.declared.problem.Link.{Link}
 use Rattle.net_normal.specs.declared.problem.FlowArc.{FlowArc}
 use Rattle.net_normal.specs.declared.problem.Problem.{Problem}
 use Rattle.net_normal.proofs.WholeNumbers.{sized-mul}

@@ -3,8 +3,8 @@ use Rattle.std.specs.Prelude.{◌≡◌, ℕ, List, Option, Result, Ok, Err, IfE
 use Rattle.std.specs.Result.{IsErrAnd}
 use Rattle.std.proofs.Common.{sym, ap, subst, ◌∙◌}
 use Rattle.net_base.specs.declared.diagnostic.Diagnostic.{Diagnostic}
-use Rattle.net_base.specs.declared.fault.Fault.{Fault}
-use Rattle.net_base.specs.declared.fault.Fault.TheVariants.{OutOfMemory, At}
+use Rattle.net_base.specs.declared.diagnostic.Fault.{Fault}
+use Rattle.net_base.specs.declared.diagnostic.Fault.TheVariants.{OutOfMemory, At}
 use Rattle.net_base.specs.declared.diagnostic.Language.TheVariants as languages
 use Rattle.net_base.specs.declared.diagnostic.Span.{Span}
 use Rattle.net_base.specs.declared.error_code.ErrorCode.{ErrorCode}
@@ -78,6 +78,6 @@ data_parse wanted m d ds tokens (At f) is read (e, stopped, reported) =
     faults.statements ds f is (subst (faults.IsDataFault d) (sym (is_bare f e.error_code _ reported)) (faults.statement tokens e read stopped))
 
 -- an error that `?` passes on
-pub passed_on : {A : Type 0} (Q : Fault → Type 0) (fault : Fault) (r : Result A Fault) (P : Fault → Type 0) → ((e : Fault) → P e → e ≡ fault) → Q fault → IsErrAnd r P → IfErr r Q
+pub passed_on : {A E : Type 0} (Q : E → Type 0) (fault : E) (r : Result A E) (P : E → Type 0) → ((e : E) → P e → e ≡ fault) → Q fault → IsErrAnd r P → IfErr r Q
 passed_on Q fault (Ok x) P f q h = absurd h
 passed_on Q fault (Err e) P f q h = subst Q (sym (f e h)) q

@@ -1,11 +1,11 @@
 -- The certificates that `solve_min` writes are accepted by `check_bytes` (First DIMACS
 -- Implementation Challenge, minimum-cost flow).
 use Rattle.std.specs.Prelude.{◌≡◌, ℕ, List}
-use Rattle.net_check.specs.declared.verdict.Verdict.{Verdict}
-use Rattle.net_check.specs.declared.verdict.Verdict.TheVariants.{Yes}
+use Rattle.net_check.specs.declared.checker.Verdict.{Verdict}
+use Rattle.net_check.specs.declared.checker.Verdict.TheVariants.{Yes}
 use Rattle.net_check.specs.declared.certificate.Certificate.{Certificate}
-use Rattle.net_driver.specs.declared.fault.Fault.{Fault}
-use Rattle.net_driver.specs.declared.fault.Fault.TheVariants.{OutOfMemory}
+use Rattle.net_driver.specs.declared.driver_fault.Fault.{Fault}
+use Rattle.net_driver.specs.declared.driver_fault.Fault.TheVariants.{OutOfMemory}
 use Rattle.net_driver.specs.Checked.{Judges, IsLineRejection}
 use Rattle.net_driver.specs.Settled.{Settles}
 

@@ -3,10 +3,10 @@
 use Rattle.std.specs.Prelude.{◌≡◌, ◌↔◌, ℕ, List, [], ◌∷◌, ◌++◌, codes, decimal}
 use Rattle.net_normal.specs.declared.problem.Problem.{Problem}
 use Rattle.net_check.specs.declared.certificate.Certificate.{Certificate}
-use Rattle.net_check.specs.declared.verdict.Reason.{Reason}
-use Rattle.net_check.specs.declared.verdict.Reason.TheVariants.{Shape, Bounds, Balance, Value, Positive, Negative, NotViolated}
-use Rattle.net_check.specs.declared.verdict.Verdict.{Verdict}
-use Rattle.net_check.specs.declared.verdict.Verdict.TheVariants.{Yes, No}
+use Rattle.net_check.specs.declared.checker.Reason.{Reason}
+use Rattle.net_check.specs.declared.checker.Reason.TheVariants.{Shape, Bounds, Balance, Value, Positive, Negative, NotViolated}
+use Rattle.net_check.specs.declared.checker.Verdict.{Verdict}
+use Rattle.net_check.specs.declared.checker.Verdict.TheVariants.{Yes, No}
 use Rattle.net_check.specs.Certificates.{IsCertificate}
 use Rattle.net_check.specs.FirstFaults.{IsFirstFault}
 use Rattle.net_dimacs.specs.declared.problem_fault.LineFault.{LineFault}
@@ -15,10 +15,10 @@ use Rattle.net_dimacs.specs.declared.problem_fault.ProblemFault.TheVariants as r
 use Rattle.net_driver.specs.LineTexts.{IsProblemOf, IsCertificateOf, IsProblemFault, IsCertificateFault}
 use Rattle.net_driver.specs.declared.solve_run.ExitKind.{ExitKind}
 use Rattle.net_driver.specs.declared.solve_run.ExitKind.TheVariants.{Done, Refuted}
-use Rattle.net_driver.specs.declared.fault.Fault.{Fault}
-use Rattle.net_driver.specs.declared.fault.Fault.TheVariants.{OutOfMemory, Rejected, RejectedLine, Unread, Unwritten}
-use Rattle.net_driver.specs.declared.fault.TextName.{TextName}
-use Rattle.net_driver.specs.declared.fault.TextName.TheVariants as texts
+use Rattle.net_driver.specs.declared.driver_fault.Fault.{Fault}
+use Rattle.net_driver.specs.declared.driver_fault.Fault.TheVariants.{OutOfMemory, Rejected, RejectedLine, Unread, Unwritten}
+use Rattle.net_driver.specs.declared.driver_fault.TextName.{TextName}
+use Rattle.net_driver.specs.declared.driver_fault.TextName.TheVariants as texts
 
 -- the error of an input with this name
 abbrev pub fault_of : TextName → ProblemFault → Fault

@@ -2,12 +2,12 @@
 use Rattle.std.specs.Prelude.{ℕ, List, [], ◌∷◌, ◌++◌, codes, decimal, string_bytes}
 use Rattle.net_dimacs.specs.Faults.{line_fault_text}
 use Rattle.net_base.specs.ErrorLines.{error_code_shown}
-use Rattle.net_driver.specs.declared.fault.Fault.{Fault}
-use Rattle.net_driver.specs.declared.fault.Fault.TheVariants.{OutOfMemory, Rejected, RejectedLine, Unread, Unwritten}
-use Rattle.net_driver.specs.declared.fault.Rejection.{Rejection}
-use Rattle.net_driver.specs.declared.fault.LineRejection.{LineRejection}
-use Rattle.net_driver.specs.declared.fault.TextName.{TextName}
-use Rattle.net_driver.specs.declared.fault.TextName.TheVariants.{Model, Data, Problem, Certificate}
+use Rattle.net_driver.specs.declared.driver_fault.Fault.{Fault}
+use Rattle.net_driver.specs.declared.driver_fault.Fault.TheVariants.{OutOfMemory, Rejected, RejectedLine, Unread, Unwritten}
+use Rattle.net_driver.specs.declared.driver_fault.Rejection.{Rejection}
+use Rattle.net_driver.specs.declared.driver_fault.LineRejection.{LineRejection}
+use Rattle.net_driver.specs.declared.driver_fault.TextName.{TextName}
+use Rattle.net_driver.specs.declared.driver_fault.TextName.TheVariants.{Model, Data, Problem, Certificate}
 
 abbrev pub text_word : TextName → List ℕ
 text_word Model = codes "model"

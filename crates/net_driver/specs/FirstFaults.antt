@@ -12,15 +12,15 @@ use Rattle.net_lex.specs.Lexing.{AreTokensOf}
 use Rattle.net_lex.specs.Limits.{text_limit}
 use Rattle.net_tree.specs.Tree.{Declaration}
 use Rattle.net_model.specs.Models.{meant}
-use Rattle.net_data.specs.declared.parse_error.ParseError.{ParseError as DataStop}
+use Rattle.net_data.specs.declared.data_parser.ParseError.{ParseError as DataStop}
 use Rattle.net_data.specs.declared.statement.Tables.{Tables}
 use Rattle.net_data.specs.Reading as data_reading
 use Rattle.net_base.specs.declared.diagnostic.Diagnostic.{Diagnostic}
 use Rattle.net_eval.specs.Binding as binding
 use Rattle.net_expr.specs.Worlds.{Name, World}
 use Rattle.net_inst.specs.Instances.{network}
-use Rattle.net_base.specs.declared.fault.Fault.{Fault}
-use Rattle.net_base.specs.declared.fault.Fault.TheVariants.{OutOfMemory, At}
+use Rattle.net_base.specs.declared.diagnostic.Fault.{Fault}
+use Rattle.net_base.specs.declared.diagnostic.Fault.TheVariants.{OutOfMemory, At}
 use Rattle.net_base.specs.Outcomes.{bare}
 use Rattle.net_driver.specs.Reading.{IsModel, IsData}
 

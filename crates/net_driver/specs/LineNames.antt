@@ -2,7 +2,7 @@
 use Rattle.std.specs.Prelude.{◌≡◌, ℕ, Bool, List, Option}
 use Rattle.std.specs.List.{AllByRecursion}
 use Rattle.net_expr.specs.Worlds.{Name}
-use Rattle.net_inst.specs.declared.names.Names.{Names}
+use Rattle.net_inst.specs.declared.network_names.Names.{Names}
 use Rattle.net_inst.specs.Lists.{Listed}
 use Rattle.net_report.specs.LineNames.{HasLineNames}
 use Rattle.net_report.specs.Links.{in_line}

@@ -16,8 +16,8 @@ use Rattle.net_dimacs.specs.Problems.{IsProblemText, IsOnlyProblem}
 use Rattle.net_dimacs.specs.Written.{problem_text}
 use Rattle.net_expr.specs.Worlds.{Name, World}
 use Rattle.net_inst.specs.AsWritten as written
-use Rattle.net_inst.specs.declared.names.Declared.{Declared}
-use Rattle.net_inst.specs.declared.names.Names.{Names}
+use Rattle.net_inst.specs.declared.network_names.Declared.{Declared}
+use Rattle.net_inst.specs.declared.network_names.Names.{Names}
 use Rattle.net_inst.specs.Laws.{AreNames}
 use Rattle.net_meaning.specs.Network.{Label, Node, Arc, Objective, Assignment, IsNetwork, IsEvaluated, IsFeasible, HasValue}
 use Rattle.net_meaning.specs.Represents.{Represents, by_label}

@@ -2,7 +2,7 @@
 use Rattle.std.specs.Prelude.{◌≡◌, ℕ, Bool, List, Option}
 use Rattle.net_tree.specs.Erasure.{declarations}
 use Rattle.net_tree.specs.Syntax.{Declaration}
-use Rattle.net_normal.specs.declared.link.Link.{Link}
+use Rattle.net_normal.specs.declared.problem.Link.{Link}
 use Rattle.net_normal.specs.declared.problem.Problem.{Problem}
 use Rattle.net_expr.specs.Worlds.{Name, World}
 use Rattle.net_meaning.specs.Network.{Node, Arc, Objective, IsNetwork}

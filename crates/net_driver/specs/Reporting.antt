@@ -3,19 +3,19 @@ use Rattle.std.specs.Prelude.{◌≡◌, ℕ, List, Option, length, take, string
 use Rattle.net_base.specs.declared.diagnostic.Language.{Language}
 use Rattle.net_base.specs.declared.diagnostic.Language.TheVariants as languages
 use Rattle.net_lex.specs.Places.{line_of, column_of}
-use Rattle.net_base.specs.declared.fault.Fault.{Fault as TextFault}
-use Rattle.net_base.specs.declared.fault.Fault.TheVariants as text_faults
+use Rattle.net_base.specs.declared.diagnostic.Fault.{Fault as TextFault}
+use Rattle.net_base.specs.declared.diagnostic.Fault.TheVariants as text_faults
 use Rattle.net_base.specs.Places.{IsSpanIn}
 use Rattle.net_expr.specs.Worlds.{Name}
 use Rattle.net_expr.specs.References.{detail_text}
 use Rattle.net_base.specs.declared.diagnostic.Diagnostic.{Diagnostic}
 use Rattle.net_driver.specs.FirstFaults.{IsFirstFault, MayBeModel}
 use Rattle.net_report.specs.Links.{in_line}
-use Rattle.net_driver.specs.declared.fault.Fault.{Fault}
-use Rattle.net_driver.specs.declared.fault.Fault.TheVariants.{OutOfMemory, Rejected, RejectedLine, Unread, Unwritten}
-use Rattle.net_driver.specs.declared.fault.Rejection.{Rejection}
-use Rattle.net_driver.specs.declared.fault.TextName.{TextName}
-use Rattle.net_driver.specs.declared.fault.TextName.TheVariants.{Model, Data}
+use Rattle.net_driver.specs.declared.driver_fault.Fault.{Fault}
+use Rattle.net_driver.specs.declared.driver_fault.Fault.TheVariants.{OutOfMemory, Rejected, RejectedLine, Unread, Unwritten}
+use Rattle.net_driver.specs.declared.driver_fault.Rejection.{Rejection}
+use Rattle.net_driver.specs.declared.driver_fault.TextName.{TextName}
+use Rattle.net_driver.specs.declared.driver_fault.TextName.TheVariants.{Model, Data}
 
 abbrev pub name_of : Language → TextName
 name_of languages.Model = Model

@@ -8,12 +8,12 @@ use Rattle.net_dimacs.specs.Limits as dimacs
 use Rattle.net_io.specs.Ends.{ReadsToLimit, WritesFront}
 use Rattle.net_driver.specs.declared.answer.Answer.{Answer}
 use Rattle.net_driver.specs.declared.compiled.Compiled.{Compiled}
-use Rattle.net_driver.specs.declared.fault.Fault.{Fault}
-use Rattle.net_driver.specs.declared.fault.TextName.{TextName}
-use Rattle.net_driver.specs.declared.fault.TextName.TheVariants.{Model, Data, Problem, Certificate}
-use Rattle.net_driver.specs.declared.fault.Fault.TheVariants.{OutOfMemory, Rejected, RejectedLine, Unread, Unwritten}
+use Rattle.net_driver.specs.declared.driver_fault.Fault.{Fault}
+use Rattle.net_driver.specs.declared.driver_fault.TextName.{TextName}
+use Rattle.net_driver.specs.declared.driver_fault.TextName.TheVariants.{Model, Data, Problem, Certificate}
+use Rattle.net_driver.specs.declared.driver_fault.Fault.TheVariants.{OutOfMemory, Rejected, RejectedLine, Unread, Unwritten}
 use Rattle.net_driver.specs.Reporting.{IsRejection}
-use Rattle.net_check.specs.declared.verdict.Verdict.{Verdict}
+use Rattle.net_check.specs.declared.checker.Verdict.{Verdict}
 use Rattle.net_check.specs.declared.certificate.Certificate as certificates
 use Rattle.net_driver.specs.declared.solve_run.ExitKind.{ExitKind}
 use Rattle.net_driver.specs.Checked.{Judges, IsLineRejection, IsProblemRejection, exit_kind_of, verdict_line}

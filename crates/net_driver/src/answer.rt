@@ -16,7 +16,9 @@ ghost use Rattle.net_driver.specs.Reporting.{IsRejection};
 
 use crate::compiled::{Compiled, Options, with_text};
 use crate::compiled_network::{CompiledNetwork, compile_network};
-use crate::fault::Fault;
+use crate::driver_fault::Fault;
+use crate::network_reader::read_network;
+use crate::reporting::reported;
 use net_check::Side;
 use net_report::{map_back, write_cut, write_display};
 use net_solve::{Settled, solve_problem};
@@ -84,7 +86,9 @@ pub fn solve_model_with<'s>(
     ensures means { IfOk result (IsSolution (option_copied options.now.objective) model.entry.now «data».entry.now) }
     ensures rejected { IfErr result (IsRejection (option_copied options.now.objective) model.entry.now «data».entry.now) }
 {
-    let network = compile_network(alloc, options, model, data)?;
+    let read = read_network(alloc, model, data, options.objective);
+    let named = reported(alloc, model, data, read)?;
+    let network = compile_network(alloc, options.lean, named)?;
     let outcome = solve_network(alloc, &network)?;
     let compiled = with_text(alloc, network)?;
     Ok(Answer { compiled, outcome })

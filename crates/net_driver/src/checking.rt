@@ -4,7 +4,7 @@ ghost use Rattle.std.specs.Prelude.{◌≡◌, ◌++◌, List, ℕ, IfOk, IfErr,
 ghost use Rattle.net_driver.specs.LineTexts.{IsProblemOf, IsCertificateOf, MayBeProblem};
 ghost use Rattle.net_driver.specs.Checked.{Judges, IsLineRejection, IsProblemRejection, IsCertificateStop, fault_of, reason_word, verdict_line};
 
-use crate::fault::{Fault, LineRejection, TextName};
+use crate::driver_fault::{Fault, LineRejection, TextName};
 use itoa::Buffer;
 use net_check::{Certificate, Reason, Verdict, check};
 use net_dimacs::{ProblemFault, read_certificate, read_problem};

@@ -8,7 +8,9 @@ ghost use Rattle.net_driver.specs.Runs.{IsCompileRun, IsAskedFew};
 
 use crate::compiled::Options;
 use crate::compiled_network::{compile_network, write_text};
-use crate::fault::{Fault, TextName};
+use crate::driver_fault::{Fault, TextName};
+use crate::network_reader::read_network;
+use crate::reporting::reported;
 use net_io::{ReadFault, Sink, Source, read_to_limit};
 use net_lex::{DATA_LIMIT, MODEL_LIMIT};
 use net_report::write_links;
@@ -57,7 +59,9 @@ pub fn run_compile_with<M: Source, D: Source, W: Sink>(
 {
     let model_text = read_text(alloc, model, MODEL_LIMIT, TextName::Model)?;
     let data_text = read_text(alloc, data, DATA_LIMIT, TextName::Data)?;
-    let network = compile_network(alloc, options, &model_text, &data_text)?;
+    let read = read_network(alloc, &model_text, &data_text, options.objective);
+    let named = reported(alloc, &model_text, &data_text, read)?;
+    let network = compile_network(alloc, options.lean, named)?;
     let name_map = write_links(alloc, &network.names, &network.link)?;
     match write_text(output, &name_map, &network) {
         Ok(()) => Ok(()),

@@ -9,7 +9,9 @@ ghost use Rattle.net_driver.specs.IsBuilt.{IsBuilt};
 ghost use Rattle.net_driver.specs.Meaning.{IsCompilation};
 
 use crate::compiled_network::{CompiledNetwork, compile_network};
-use crate::fault::Fault;
+use crate::driver_fault::Fault;
+use crate::network_reader::read_network;
+use crate::reporting::reported;
 use net_dimacs::write_problem_to;
 use net_inst::Names;
 use net_io::GrowingSink;
@@ -74,7 +76,9 @@ pub fn compile_with<'s>(
     ensures means { IfOk result (IsCompilation (option_copied options.now.objective) model.entry.now «data».entry.now) }
     ensures rejected { IfErr result (IsRejection (option_copied options.now.objective) model.entry.now «data».entry.now) }
 {
-    let network = compile_network(alloc, options, model, data)?;
+    let read = read_network(alloc, model, data, options.objective);
+    let named = reported(alloc, model, data, read)?;
+    let network = compile_network(alloc, options.lean, named)?;
     let compiled = with_text(alloc, network)?;
     Ok(compiled)
 }

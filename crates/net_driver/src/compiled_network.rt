@@ -1,23 +1,20 @@
 //! Compiled models without their text.
 
-ghost use Rattle.std.specs.Prelude.{◌≡◌, ◌||◌, IfOk, IfErr, OnOk, OnErr, is_err};
-ghost use Rattle.std.specs.Option.{option_copied};
+ghost use Rattle.std.specs.Prelude.{◌≡◌, ◌||◌, ℕ, List, Option, IfOk, OnOk, OnErr, is_err};
 ghost use Rattle.std.specs.Io.KnownBytes.{Appends};
 ghost use Rattle.net_io.specs.Ends.{WritesFront};
+ghost use Rattle.net_expr.specs.Worlds.{Name};
+ghost use Rattle.net_inst.specs.Instances.{seen_as};
 ghost use Rattle.net_normal.specs.NormalForm.{IsFormIn};
 ghost use Rattle.net_normal.specs.Correspondence.{CorrespondsOneToOne};
 ghost use Rattle.net_report.specs.Links.{link_text};
 ghost use Rattle.net_driver.specs.IsBuilt.{IsBuilt};
 ghost use Rattle.net_driver.specs.CompiledNetwork.{written};
 ghost use Rattle.net_driver.specs.Made.{profile_of};
-ghost use Rattle.net_driver.specs.Reporting.{IsRejection};
+ghost use Rattle.net_driver.specs.Reading.{IsNetworkOf};
 
-use crate::compiled::Options;
-use crate::fault::Fault;
-use crate::network::read_network;
-use crate::reporting::reported;
 use net_dimacs::write_problem_to;
-use net_inst::Names;
+use net_inst::{Named, Names};
 use net_io::{Failed, Sink, write_whole};
 use net_normal::{Instance, Link, Problem, normalise, normalise_lean};
 use std::alloc::{AllocError, Global};
@@ -30,25 +27,21 @@ pub(crate) struct CompiledNetwork<'s> {
     pub names: Names<'s>,
 }
 
-/// Compiles a model with its data and options, except for the text.
-pub(crate) fn compile_network<'s>(
+/// Compiles a network to its normal form, or to its lean form if requested. Fails only if memory
+/// runs out.
+pub(crate) fn compile_network(
     alloc: Global,
-    options: &Options<'_>,
-    model: &'s [u8],
-    data: &'s [u8],
-) -> Result<CompiledNetwork<'s>, Fault>
-    ensures value { IfOk result (λ u. IsBuilt options.now.lean (option_copied options.now.objective) model.entry.now «data».entry.now (written u)) }
-    ensures rejected { IfErr result (IsRejection (option_copied options.now.objective) model.entry.now «data».entry.now) }
+    lean: bool,
+    network: Named<'_>,
+) -> Result<CompiledNetwork<'_>, AllocError>
+    ensures { (wanted : Option Name) (m d : List ℕ) → IsNetworkOf wanted m d (seen_as network.entry)
+        → IfOk result (λ u. IsBuilt lean wanted m d (written u)) }
 {
-    let named = match read_network(alloc, model, data, options.objective) {
-        Ok(named) => named,
-        Err(stop) => return Err(reported(alloc, model, data, &stop)),
-    };
-    let (problem, link) = form_of(alloc, options.lean, &named.instance)?;
+    let (problem, link) = form_of(alloc, lean, &network.instance)?;
     Ok(CompiledNetwork {
         problem,
         link,
-        names: named.names,
+        names: network.names,
     })
 }
 

@@ -6,11 +6,10 @@ mod checking;
 mod compile_run;
 mod compiled;
 mod compiled_network;
-mod fault;
-mod laws;
+mod driver_fault;
+mod driver_laws;
 mod line_runs;
-mod meaning;
-mod network;
+mod network_reader;
 mod problem_source;
 mod reporting;
 mod solve_run;
@@ -19,17 +18,15 @@ pub use answer::{Answer, Outcome, solve_model, solve_model_with};
 pub use checking::check_bytes;
 pub use compile_run::{run_compile, run_compile_with};
 pub use compiled::{Compiled, Options, Text, compile, compile_with};
-pub use fault::{Fault, LineRejection, Rejection, TextName};
-pub use laws::{
-    answers_are_accepted, first_error_is_in_its_file, line_names_are_exact,
-    names_are_declared_once, nodes_and_arcs_are_apart, one_first_fault, one_of_network_and_error,
-    read_or_rejected, texts_have_one_answer, well_named,
+pub use driver_fault::{Fault, LineRejection, Rejection, TextName};
+pub use driver_laws::{
+    answers_are_accepted, answers_solve_models, compilations_are_sound,
+    compiled_problems_represent_models, first_error_is_in_its_file, line_names_are_exact,
+    models_have_one_network, names_are_declared_once, nodes_and_arcs_are_apart, one_first_fault,
+    one_of_network_and_error, read_or_rejected, solutions_are_sound, texts_have_one_answer,
+    well_named,
 };
 pub use line_runs::{run_check, run_min, solve_min};
-pub use meaning::{
-    answers_solve_models, compilations_are_sound, compiled_problems_represent_models,
-    models_have_one_network, solutions_are_sound,
-};
 pub use net_base::{ErrorCode, Span};
 pub use net_check::{Reason, Side, Verdict};
 pub use net_dimacs::LineFault;
@@ -37,6 +34,6 @@ pub use net_inst::{Named, Names};
 pub use net_io::{Failed, Sink, Source};
 pub use net_normal::{Link, Problem};
 pub use net_solve::Settled;
-pub use network::read_network;
+pub use network_reader::read_network;
 pub use solve_run::{ExitKind, run_solve, run_solve_with};
 pub use std::alloc::AllocError as OutOfMemory;

@@ -12,7 +12,7 @@ ghost use Rattle.net_driver.specs.LineTexts.{IsProblemOf, MayBeProblem};
 
 use crate::checking::{judge, problem_of, verdict_line};
 use crate::compile_run::read_text;
-use crate::fault::{Fault, TextName};
+use crate::driver_fault::{Fault, TextName};
 use crate::problem_source::{finished, read_problem_from};
 use crate::solve_run::ExitKind;
 use net_check::Verdict;

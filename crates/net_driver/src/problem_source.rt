@@ -8,7 +8,7 @@ ghost use Rattle.net_driver.specs.ProblemSources.{GivesText};
 ghost use Rattle.net_driver.specs.Runs.{IsAskedFew, lines_limit};
 
 use crate::checking::fault_of;
-use crate::fault::{Fault, TextName};
+use crate::driver_fault::{Fault, TextName};
 use net_dimacs::{Reading, TEXT_LIMIT};
 use net_io::{ReadFault, Source};
 use net_normal::Problem;

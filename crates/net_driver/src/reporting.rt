@@ -1,6 +1,6 @@
 //! Reporting errors in a model or its data.
 
-ghost use Rattle.std.specs.Prelude.{◌≡◌, Option, IfOk, IsErr, length, string_bytes};
+ghost use Rattle.std.specs.Prelude.{◌≡◌, Option, Ok, IfOk, IfErr, IsErr, length, string_bytes};
 ghost use Rattle.net_base.specs.declared.diagnostic.Detail.TheVariants.{Nothing};
 ghost use Rattle.net_expr.specs.References.{detail_text};
 ghost use Rattle.net_expr.specs.Worlds.{Name};
@@ -9,8 +9,9 @@ ghost use Rattle.net_base.specs.Places.{IsSpanIn};
 ghost use Rattle.net_report.specs.Links.{in_line};
 ghost use Rattle.net_driver.specs.Reporting.{IsReported, IsRejection, IsSpanThere, name_of, text_of};
 
-use crate::fault::{Fault, Rejection, TextName};
+use crate::driver_fault::{Fault, Rejection, TextName};
 use net_base::{Detail, Diagnostic, Fault as TextFault, Language};
+use net_inst::Named;
 use net_lex::line_column;
 use net_report::push_in_line;
 use std::alloc::{AllocError, Global};
@@ -71,18 +72,24 @@ fn rejection_of(
     })
 }
 
-/// Returns the error as it is reported to the user, given the two files.
-pub(crate) fn reported(alloc: Global, model: &[u8], data: &[u8], fault: &TextFault) -> Fault
-    requires { IsSpanThere model.now «data».now fault.now }
-    ensures { (wanted : Option Name) → IsStop wanted model.now «data».now fault.now → IsRejection wanted model.now «data».now result }
+/// Returns a network that was read from two files, or the error as it is reported to the user.
+pub(crate) fn reported<'s>(
+    alloc: Global,
+    model: &[u8],
+    data: &[u8],
+    read: Result<Named<'s>, TextFault>,
+) -> Result<Named<'s>, Fault>
+    requires { IfErr read (IsSpanThere model.now «data».now) }
+    ensures ok { IfOk result (λ named. read.entry ≡ Ok named) }
+    ensures rejected { (wanted : Option Name) → IfErr read.entry (IsStop wanted model.now «data».now) → IfErr result (IsRejection wanted model.now «data».now) }
 {
-    match fault {
-        TextFault::OutOfMemory => Fault::OutOfMemory,
-        TextFault::At(diagnostic) => {
-            match rejection_of(alloc, text_of(model, data, diagnostic.text), diagnostic) {
-                Ok(rejection) => Fault::Rejected(rejection),
-                Err(_) => Fault::OutOfMemory,
-            }
-        }
+    let diagnostic = match read {
+        Ok(named) => return Ok(named),
+        Err(TextFault::OutOfMemory) => return Err(Fault::OutOfMemory),
+        Err(TextFault::At(diagnostic)) => diagnostic,
+    };
+    match rejection_of(alloc, text_of(model, data, diagnostic.text), &diagnostic) {
+        Ok(rejection) => Err(Fault::Rejected(rejection)),
+        Err(_) => Err(Fault::OutOfMemory),
     }
 }

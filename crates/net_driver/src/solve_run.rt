@@ -10,7 +10,9 @@ use crate::answer::{Outcome, solve_network};
 use crate::compile_run::read_text;
 use crate::compiled::Options;
 use crate::compiled_network::compile_network;
-use crate::fault::{Fault, TextName};
+use crate::driver_fault::{Fault, TextName};
+use crate::network_reader::read_network;
+use crate::reporting::reported;
 use net_io::{Sink, Source, write_whole};
 use net_lex::{DATA_LIMIT, MODEL_LIMIT};
 use std::alloc::Global;
@@ -68,7 +70,9 @@ pub fn run_solve_with<M: Source, D: Source, W: Sink>(
 {
     let model_text = read_text(alloc, model, MODEL_LIMIT, TextName::Model)?;
     let data_text = read_text(alloc, data, DATA_LIMIT, TextName::Data)?;
-    let network = compile_network(alloc, options, &model_text, &data_text)?;
+    let read = read_network(alloc, &model_text, &data_text, options.objective);
+    let named = reported(alloc, &model_text, &data_text, read)?;
+    let network = compile_network(alloc, options.lean, named)?;
     let outcome = solve_network(alloc, &network)?;
     let exit_kind = exit_kind_of(&outcome);
     match write_whole(output, outcome.text()) {

@@ -11,7 +11,7 @@ use Rattle.net_data.specs.Rows.{Row, points, row_of, groups, given_rows, table_k
 use Rattle.net_eval.specs.DataRows.{taken_rows, TakesLists, TakesTables, TakesColumns, TakesKeys}
 use Rattle.net_eval.specs.DataByName.{grouped, given_cells}
 use Rattle.net_base.specs.Outcomes.{Outcome, and_then, each}
-use Rattle.net_eval.specs.Rows.{Taken, with_row, with_rows, with_cell, with_group, pair_of, across, with_line}
+use Rattle.net_eval.specs.Rows.{NamedParameter, Taken, with_row, with_rows, with_cell, with_group, pair_of, across, with_line}
 use Rattle.net_eval.specs.SetData.{cut}
 
 -- ---- one thing after the other
@@ -44,19 +44,19 @@ each_flat f h g same (x ∷ xs) b =
 
 -- ---- cells and groups
 
-abbrev one_row : Token → Option ℕ → List Tuple → Row → Taken → Outcome Taken
-one_row word n index r t = with_row word n index r.keys r.value t
+abbrev one_row : NamedParameter → Row → Taken → Outcome Taken
+one_row p r t = with_row p r.keys r.value t
 
-cell_is : (word : Token) (n : Option ℕ) (index : List Tuple) (key : List Token) (v : Option Token) (t : Taken) → with_cell word n index key v t ≡ each (one_row word n index) (row_of key v) t
-cell_is word n index key None t = refl
-cell_is word n index key (Some value) t = go (points value.kind)
+cell_is : (p : NamedParameter) (key : List Token) (v : Option Token) (t : Taken) → with_cell p key v t ≡ each (one_row p) (row_of key v) t
+cell_is p key None t = refl
+cell_is p key (Some value) t = go (points value.kind)
   where
     row : Row
     row = record { keys = key; value = value }
 
-    go : (b : Bool) → (let o : Outcome Taken = if b then Ok t else with_row word n index key value t in o) ≡ each (one_row word n index) (if b then [] else row ∷ []) t
+    go : (b : Bool) → (let o : Outcome Taken = if b then Ok t else with_row p key value t in o) ≡ each (one_row p) (if b then [] else row ∷ []) t
     go true = refl
-    go false = sym (then_none (one_row word n index) (with_row word n index key value t))
+    go false = sym (then_none (one_row p) (with_row p key value t))
 
 not_none : (n : ℕ) → 0 < n → nat_eq n 0 ≡ false
 not_none n l = grind (arith, nat_tests)
@@ -64,23 +64,23 @@ not_none n l = grind (arith, nat_tests)
 pub cut_is : (n m : ℕ) (cells : List Token) → n ≡ m → 0 < m → cut n cells ≡ groups m cells
 cut_is n m cells e l = ap (λ b. if b then [] else groups n cells) (not_none n (omega (arith, e, l))) ∙ ap (λ k. groups k cells) e
 
-groups_are : (word : Token) (n : Option ℕ) (index : List Tuple) (keys place : ℕ) (gs : List (List Token)) (t : Taken)
-    → each (with_group word n index keys place) gs t ≡ each (one_row word n index) (flat_map (λ g. row_of (take keys g) (slice_get g (keys + place))) gs) t
-groups_are word n index keys place gs t =
-    each_flat (with_group word n index keys place) (λ g. row_of (take keys g) (slice_get g (keys + place))) (one_row word n index)
-    (λ g u. cell_is word n index (take keys g) (slice_get g (keys + place)) u) gs t
+groups_are : (p : NamedParameter) (keys place : ℕ) (gs : List (List Token)) (t : Taken)
+    → each (with_group p keys place) gs t ≡ each (one_row p) (flat_map (λ g. row_of (take keys g) (slice_get g (keys + place))) gs) t
+groups_are p keys place gs t =
+    each_flat (with_group p keys place) (λ g. row_of (take keys g) (slice_get g (keys + place))) (one_row p)
+    (λ g u. cell_is p (take keys g) (slice_get g (keys + place)) u) gs t
 
 pub takes_lists : TakesLists
-takes_lists word n index size leader s t = go s.given
+takes_lists p size leader s t = go s.given
   where
-    go : (g : Option Given) → with_rows n index size word (grouped leader 1 0 (given_cells g)) t ≡ taken_rows word n index (given_rows size g) t
-    go None = ap (λ gs. each (with_group word n index size 0) gs t) (cut_is (size + 1) (size + 1) [] refl (omega arith))
-    go (Some g) = ap (λ gs. each (with_group word n index size 0) gs t) (cut_is (size + 1) (size + 1) g.cells refl (omega arith)) ∙ groups_are word n index size 0 (groups (size + 1) g.cells) t
+    go : (g : Option Given) → with_rows p size (grouped leader 1 0 (given_cells g)) t ≡ taken_rows p (given_rows size g) t
+    go None = ap (λ gs. each (with_group p size 0) gs t) (cut_is (size + 1) (size + 1) [] refl (omega arith))
+    go (Some g) = ap (λ gs. each (with_group p size 0) gs t) (cut_is (size + 1) (size + 1) g.cells refl (omega arith)) ∙ groups_are p size 0 (groups (size + 1) g.cells) t
 
 pub takes_columns : TakesColumns
-takes_columns word n index size leader place s t l =
-    ap (λ gs. each (with_group word n index size place) gs t) (cut_is (size + length s.names) (size + length s.names) s.cells refl (omega (arith, l)))
-    ∙ groups_are word n index size place (groups (size + length s.names) s.cells) t
+takes_columns p size leader place s t l =
+    ap (λ gs. each (with_group p size place) gs t) (cut_is (size + length s.names) (size + length s.names) s.cells refl (omega (arith, l)))
+    ∙ groups_are p size place (groups (size + length s.names) s.cells) t
 
 pub takes_keys : TakesKeys
 takes_keys dimension s l = ap (map (take dimension)) (cut_is (dimension + length s.names) (dimension + length s.names) s.cells refl (omega (arith, l)))
@@ -91,18 +91,18 @@ pair_is : (transposed : Option Transposed) (row column : Token) → pair_of (is_
 pair_is None row column = refl
 pair_is (Some turned) row column = refl
 
-across_is : (word : Token) (n : Option ℕ) (index : List Tuple) (transposed : Option Transposed) (row : Token) (cs cells : List Token) (t : Taken)
-    → across word n index (is_some transposed) row cs cells t ≡ each (one_row word n index) (flat_map (λ pair. row_of (table_keys transposed row pair.0) (Some pair.1)) (zip cs cells)) t
-across_is word n index transposed row [] cells t = refl
-across_is word n index transposed row (c ∷ cs) [] t = refl
-across_is word n index transposed row (c ∷ cs) (cell ∷ cells) t =
-    ap (λ key. and_then (with_cell word n index key (Some cell) t) more) (pair_is transposed row c)
-    ∙ ap (λ o. and_then o more) (cell_is word n index (table_keys transposed row c) (Some cell) t)
-    ∙ then_alike (each (one_row word n index) own t) more (each (one_row word n index) behind) (λ u. across_is word n index transposed row cs cells u)
-    ∙ sym (each_join (one_row word n index) own behind t)
+across_is : (p : NamedParameter) (transposed : Option Transposed) (row : Token) (cs cells : List Token) (t : Taken)
+    → across p (is_some transposed) row cs cells t ≡ each (one_row p) (flat_map (λ pair. row_of (table_keys transposed row pair.0) (Some pair.1)) (zip cs cells)) t
+across_is p transposed row [] cells t = refl
+across_is p transposed row (c ∷ cs) [] t = refl
+across_is p transposed row (c ∷ cs) (cell ∷ cells) t =
+    ap (λ key. and_then (with_cell p key (Some cell) t) more) (pair_is transposed row c)
+    ∙ ap (λ o. and_then o more) (cell_is p (table_keys transposed row c) (Some cell) t)
+    ∙ then_alike (each (one_row p) own t) more (each (one_row p) behind) (λ u. across_is p transposed row cs cells u)
+    ∙ sym (each_join (one_row p) own behind t)
   where
     more : Taken → Outcome Taken
-    more = across word n index (is_some transposed) row cs cells
+    more = across p (is_some transposed) row cs cells
 
     own : List Row
     own = row_of (table_keys transposed row c) (Some cell)
@@ -110,13 +110,13 @@ across_is word n index transposed row (c ∷ cs) (cell ∷ cells) t =
     behind : List Row
     behind = flat_map (λ pair. row_of (table_keys transposed row pair.0) (Some pair.1)) (zip cs cells)
 
-line_is : (word : Token) (n : Option ℕ) (index : List Tuple) (transposed : Option Transposed) (columns g : List Token) (t : Taken)
-    → with_line word n index (is_some transposed) columns g t ≡ each (one_row word n index) (row_across transposed columns g) t
-line_is word n index transposed columns [] t = refl
-line_is word n index transposed columns (row ∷ cells) t = across_is word n index transposed row columns cells t
+line_is : (p : NamedParameter) (transposed : Option Transposed) (columns g : List Token) (t : Taken)
+    → with_line p (is_some transposed) columns g t ≡ each (one_row p) (row_across transposed columns g) t
+line_is p transposed columns [] t = refl
+line_is p transposed columns (row ∷ cells) t = across_is p transposed row columns cells t
 
 pub takes_tables : TakesTables
-takes_tables word n index size s t =
-    ap (λ gs. each (with_line word n index (is_some s.transposed) s.columns) gs t) (cut_is (1 + length s.columns) (length s.columns + 1) s.cells (omega arith) (omega arith))
-    ∙ each_flat (with_line word n index (is_some s.transposed) s.columns) (row_across s.transposed s.columns) (one_row word n index)
-    (λ g u. line_is word n index s.transposed s.columns g u) (groups (length s.columns + 1) s.cells) t
+takes_tables p size s t =
+    ap (λ gs. each (with_line p (is_some s.transposed) s.columns) gs t) (cut_is (1 + length s.columns) (length s.columns + 1) s.cells (omega arith) (omega arith))
+    ∙ each_flat (with_line p (is_some s.transposed) s.columns) (row_across s.transposed s.columns) (one_row p)
+    (λ g u. line_is p s.transposed s.columns g u) (groups (length s.columns + 1) s.cells) t

@@ -4,7 +4,7 @@ use Rattle.std.specs.List.{AllByRecursion}
 use Rattle.std.proofs.Common.{refl, ap, sym, subst, ◌∙◌}
 use Rattle.net_base.specs.declared.diagnostic.Detail.{Detail}
 use Rattle.net_base.specs.declared.diagnostic.Span.{Span}
-use Rattle.net_base.specs.declared.fault.Fault.{Fault}
+use Rattle.net_base.specs.declared.diagnostic.Fault.{Fault}
 use Rattle.net_base.specs.Outcomes.{Outcome, and_then, each}
 use Rattle.net_lex.specs.declared.token.Token.{Token}
 use Rattle.net_sets.specs.declared.member.Member.{Member}
@@ -24,11 +24,11 @@ use Rattle.net_expr.specs.declared.world.Entry.TheVariants.{Parameter}
 use Rattle.net_expr.specs.Values.{value, token_value}
 use Rattle.net_expr.specs.Worlds.{World, Scope, reference}
 use Rattle.net_eval.specs.declared.given.NamedData.{NamedData}
-use Rattle.net_eval.specs.BoundParameters.{KeyedParameter, PlacedValues, Source, source, source_in, with_key, fit_kind, is_number, takes_texts, cell_of, keys_with, fit_value, fit_row, fit_values, data_of, placed, valued_by, values, with_data, bound_parameter}
+use Rattle.net_eval.specs.BoundParameters.{PlacedValues, Source, source, source_in, with_key, fit_kind, is_number, takes_texts, cell_of, keys_with, fit_value, fit_row, fit_values, data_of, placed, valued_by, values, with_data, bound_parameter}
 use Rattle.net_eval.specs.DeclaredKeys.{HasKeys}
 use Rattle.net_eval.specs.FromData.{is_numeral, compares, are_constant, Fits, Answers}
 use Rattle.net_eval.specs.Restrictions.{relation, related, holding, restricted, restricted_by, restricted_in}
-use Rattle.net_eval.specs.Rows.{Table, Taken}
+use Rattle.net_eval.specs.Rows.{KeyedParameter, Table, Taken}
 use Rattle.net_eval.proofs.RowsTaken.{then_ok}
 
 both_true : (a b : Bool) → (a && b) ≡ true → (a ≡ true) × (b ≡ true)
@@ -67,7 +67,7 @@ same_token w s q t (roles.Phrase b) h = refl
 same_token w s q t roles.LeftOut h = refl
 same_token w s q t roles.Unknown h = refl
 
-same_value : (w : World) (s q : Scope) (x : Tree) → is_numeral x ≡ true → value w s x ≡ value w q x
+pub same_value : (w : World) (s q : Scope) (x : Tree) → is_numeral x ≡ true → value w s x ≡ value w q x
 unfolding number_of
 same_value w s q (leaf t) h = same_token w s q t (role_of t) h
 same_value w s q (indexed n o x l c) h = cc
@@ -125,7 +125,7 @@ fits_value w p v r m c fits =
     let allowed = allowed_same w r.scope (reference p.name.text p.keys r.key) (reference p.name.text p.keys []) m p.phrases c fits.1 in
     rw fits.0 allowed
 
-rows_fit : (w : World) (p : KeyedParameter) (v : PlacedValues) (rows : List Row) → are_constant p.phrases ≡ true → AllByRecursion (λ row. Fits w p row.1) v.table → fit_values w p v rows ≡ Ok tt
+pub rows_fit : (w : World) (p : KeyedParameter) (v : PlacedValues) (rows : List Row) → are_constant p.phrases ≡ true → AllByRecursion (λ row. Fits w p row.1) v.table → fit_values w p v rows ≡ Ok tt
 rows_fit w p v [] c all = refl
 rows_fit w p v (r ∷ rows) c all = ap (λ o. and_then o (λ u. fit_values w p v rows)) (go (at_key v.table r.key) refl) ∙ rows_fit w p v rows c all
   where
@@ -144,7 +144,7 @@ no_source w at (r ∷ rows) t = ap (λ o. and_then o (each (with_key w at (None,
     go false = refl
 
 pub from_data : (w : World) (ws : List ℕ) (p : KeyedParameter) (ms : List NamedData) (rows : List Row) (taken : Taken) → are_constant p.phrases ≡ true → phrase_value is_becomes p.phrases ≡ None → phrase_value is_default p.phrases ≡ None
-    → data_of ws p.keys p.index (is_some (phrase_value is_becomes p.phrases)) ms ≡ Ok (taken, None) → AllByRecursion (λ row. Fits w p row.1) taken.0 → with_data w ws p ms rows ≡ Ok (Parameter p.keys p.index taken.0)
+    → data_of ws p (is_some (phrase_value is_becomes p.phrases)) ms ≡ Ok (taken, None) → AllByRecursion (λ row. Fits w p row.1) taken.0 → with_data w ws p ms rows ≡ Ok (Parameter p.keys p.index taken.0)
 from_data w ws p ms rows taken c becomes default said fits =
     let finish : Table → Outcome Entry = λ t. Ok (Parameter p.keys p.index t) in
     ap (λ o. and_then (and_then o (λ all. values w p (source_in p all.1) rows all.0)) finish) said

@@ -19,7 +19,8 @@ use Rattle.net_eval.specs.declared.set_phrase.Claims.{Claims}
 use Rattle.net_base.specs.Outcomes.{Outcome, and_then, each}
 use Rattle.net_eval.specs.Binding as binding
 use Rattle.net_eval.specs.Binding.{widths, next_data, with_entry, declare, check_one, after_checks, with_given}
-use Rattle.net_eval.specs.BoundParameters.{KeyedParameter, keyed, source_in, span_or, index_list, data_of, fill_table, with_data, bound_parameter}
+use Rattle.net_eval.specs.BoundParameters.{keyed, source_in, span_or, index_list, data_of, fill_table, with_data, bound_parameter}
+use Rattle.net_eval.specs.Rows.{KeyedParameter}
 use Rattle.net_eval.specs.BoundSets.{one_of, allowed, set_of, bound_set}
 use Rattle.net_eval.specs.DataByName.{Sorted, data_by_name}
 use Rattle.net_eval.specs.Names.{declared}
@@ -73,7 +74,7 @@ bound_set_is w g ws name ps ms e h = then_ok (set_phrases w ps) (set_of ws name 
 with_data_is : (w : World) (ws : List ℕ) (p : KeyedParameter) (ms : List NamedData) (rows : List Row) (e : Entry) → IsIndex rows p.index → with_data w ws p ms rows ≡ Ok e → IsEntry e
 with_data_is w ws p ms rows e f h =
     then_ok (fill_table w ws p ms rows) (λ t. Ok (Parameter p.keys p.index t)) e h (λ t k l.
-    then_ok (data_of ws p.keys p.index (is_some (phrase_value is_becomes p.phrases)) ms) _ t k (λ all i j.
+    then_ok (data_of ws p (is_some (phrase_value is_becomes p.phrases)) ms) _ t k (λ all i j.
     subst IsEntry (is_ok (Parameter p.keys p.index t) e l)
     (parameter_is w ws p (source_in p all.1) (is_some (phrase_value is_becomes p.phrases)) ms rows all t f i j)))
 

@@ -21,11 +21,11 @@ use Rattle.net_base.specs.declared.diagnostic.Diagnostic.{Diagnostic}
 use Rattle.net_eval.specs.declared.given.Given.{Given}
 use Rattle.net_eval.specs.declared.given.Given.TheVariants as given
 use Rattle.net_eval.specs.declared.given.NamedData.{NamedData}
-use Rattle.net_eval.specs.BoundParameters.{KeyedParameter, placed, keys_with, index_list, Source, source_text, source_at, from_source, insert_value, with_key, fit_values, untaken, data_of, valued_by, values}
+use Rattle.net_eval.specs.BoundParameters.{placed, keys_with, index_list, Source, source_text, source_at, from_source, insert_value, with_key, fit_values, untaken, data_of, valued_by, values}
 use Rattle.net_eval.specs.Cells.{member_in, tuple_in}
 use Rattle.net_base.specs.Outcomes.{Outcome, and_then, each}
 use Rattle.net_eval.specs.ParameterValues.{IsParameterOf}
-use Rattle.net_eval.specs.Rows.{Table, Taken, All, with_value, with_row, with_cell, with_group, across, pair_of, with_line, shaped, with_rows, taken, either, with_statement}
+use Rattle.net_eval.specs.Rows.{KeyedParameter, NamedParameter, named_as, Table, Taken, All, with_value, with_row, with_cell, with_group, across, pair_of, with_line, shaped, with_rows, taken, either, with_statement}
 use Rattle.net_eval.specs.SetData.{cut, begins_at, doubled}
 use Rattle.net_eval.proofs.Products.{has_union}
 use Rattle.net_eval.proofs.RowsTaken.{then_ok, is_ok}
@@ -72,61 +72,61 @@ each_keeps P f keeps (x ∷ xs) b c h e = then_ok (f x b) (each f xs) c e (λ d 
 abbrev pub IsSaid : List Tuple → Taken → Type 0
 IsSaid index t = IsParameterOf index t.0
 
-row_keeps : (word : Token) (n : Option ℕ) (index : List Tuple) (key : List Token) (value : Token) (t u : Taken) → IsSaid index t → with_row word n index key value t ≡ Ok u → IsSaid index u
-row_keeps word n index key value t u h e = go _ _ (at_key t.0 (tuple_in key)) refl (has index (tuple_in key)) refl e
+row_keeps : (p : NamedParameter) (key : List Token) (value : Token) (t u : Taken) → IsSaid p.index t → with_row p key value t ≡ Ok u → IsSaid p.index u
+row_keeps p key value t u h e = go _ _ (at_key t.0 (tuple_in key)) refl (has p.index (tuple_in key)) refl e
   where
     next : Table → Outcome Taken
     next v = Ok (v, t.1 ++ value.span ∷ [])
 
-    go : (x y : Diagnostic) (o : Option Member) → at_key t.0 (tuple_in key) ≡ o → (b : Bool) → has index (tuple_in key) ≡ b
-        → (if is_some o then Err x else if b then and_then (with_value Data (begins_at value.span key) (tuple_in key) (member_in value) t.0) next else Err y) ≡ Ok u → IsSaid index u
+    go : (x y : Diagnostic) (o : Option Member) → at_key t.0 (tuple_in key) ≡ o → (b : Bool) → has p.index (tuple_in key) ≡ b
+        → (if is_some o then Err x else if b then and_then (with_value Data (begins_at value.span key) (tuple_in key) (member_in value) t.0) next else Err y) ≡ Ok u → IsSaid p.index u
     go x y (Some m) i b k l = cc
     go x y None i false k l = cc
     go x y None i true k l =
         then_ok (with_value Data (begins_at value.span key) (tuple_in key) (member_in value) t.0) next u l (λ v j r.
-        subst (IsSaid index) (is_ok (v, t.1 ++ value.span ∷ []) u r) (value_more index Data (begins_at value.span key) (tuple_in key) (member_in value) t.0 v h k i j))
+        subst (IsSaid p.index) (is_ok (v, t.1 ++ value.span ∷ []) u r) (value_more p.index Data (begins_at value.span key) (tuple_in key) (member_in value) t.0 v h k i j))
 
-cell_keeps : (word : Token) (n : Option ℕ) (index : List Tuple) (key : List Token) (v : Option Token) (t u : Taken) → IsSaid index t → with_cell word n index key v t ≡ Ok u → IsSaid index u
-cell_keeps word n index key None t u h e = subst (IsSaid index) (is_ok t u e) h
-cell_keeps word n index key (Some value) t u h e = go (points value.kind) e
+cell_keeps : (p : NamedParameter) (key : List Token) (v : Option Token) (t u : Taken) → IsSaid p.index t → with_cell p key v t ≡ Ok u → IsSaid p.index u
+cell_keeps p key None t u h e = subst (IsSaid p.index) (is_ok t u e) h
+cell_keeps p key (Some value) t u h e = go (points value.kind) e
   where
-    go : (b : Bool) → (if b then (let o : Outcome Taken = Ok t in o) else with_row word n index key value t) ≡ Ok u → IsSaid index u
-    go true i = subst (IsSaid index) (is_ok t u i) h
-    go false i = row_keeps word n index key value t u h i
+    go : (b : Bool) → (if b then (let o : Outcome Taken = Ok t in o) else with_row p key value t) ≡ Ok u → IsSaid p.index u
+    go true i = subst (IsSaid p.index) (is_ok t u i) h
+    go false i = row_keeps p key value t u h i
 
-across_keeps : (word : Token) (n : Option ℕ) (index : List Tuple) (turned : Bool) (row : Token) (cs cells : List Token) (t u : Taken) → IsSaid index t → across word n index turned row cs cells t ≡ Ok u → IsSaid index u
-across_keeps word n index turned row [] cells t u h e = subst (IsSaid index) (is_ok t u e) h
-across_keeps word n index turned row (c ∷ cs) [] t u h e = subst (IsSaid index) (is_ok t u e) h
-across_keeps word n index turned row (c ∷ cs) (cell ∷ cells) t u h e =
-    then_ok (with_cell word n index (pair_of turned row c) (Some cell) t) (across word n index turned row cs cells) u e (λ v i k.
-    across_keeps word n index turned row cs cells v u (cell_keeps word n index (pair_of turned row c) (Some cell) t v h i) k)
+across_keeps : (p : NamedParameter) (turned : Bool) (row : Token) (cs cells : List Token) (t u : Taken) → IsSaid p.index t → across p turned row cs cells t ≡ Ok u → IsSaid p.index u
+across_keeps p turned row [] cells t u h e = subst (IsSaid p.index) (is_ok t u e) h
+across_keeps p turned row (c ∷ cs) [] t u h e = subst (IsSaid p.index) (is_ok t u e) h
+across_keeps p turned row (c ∷ cs) (cell ∷ cells) t u h e =
+    then_ok (with_cell p (pair_of turned row c) (Some cell) t) (across p turned row cs cells) u e (λ v i k.
+    across_keeps p turned row cs cells v u (cell_keeps p (pair_of turned row c) (Some cell) t v h i) k)
 
-line_keeps : (word : Token) (n : Option ℕ) (index : List Tuple) (turned : Bool) (columns line : List Token) (t u : Taken) → IsSaid index t → with_line word n index turned columns line t ≡ Ok u → IsSaid index u
-line_keeps word n index turned columns [] t u h e = subst (IsSaid index) (is_ok t u e) h
-line_keeps word n index turned columns (row ∷ cells) t u h e = across_keeps word n index turned row columns cells t u h e
+line_keeps : (p : NamedParameter) (turned : Bool) (columns line : List Token) (t u : Taken) → IsSaid p.index t → with_line p turned columns line t ≡ Ok u → IsSaid p.index u
+line_keeps p turned columns [] t u h e = subst (IsSaid p.index) (is_ok t u e) h
+line_keeps p turned columns (row ∷ cells) t u h e = across_keeps p turned row columns cells t u h e
 
-rows_keep : (n : Option ℕ) (index : List Tuple) (size : ℕ) (word : Token) (g : Given) (t u : Taken) → IsSaid index t → with_rows n index size word g t ≡ Ok u → IsSaid index u
-rows_keep n index size word (given.Members ts) t u h e = subst (IsSaid index) (is_ok t u e) h
-rows_keep n index size word (given.Groups g) t u h e =
-    each_keeps (IsSaid index) (with_group word n index size g.place) (λ x b c k i. cell_keeps word n index (take size x) (slice_get x (size + g.place)) b c k i) (cut (size + g.values) g.cells) t u h e
-rows_keep n index size word (given.Grid g) t u h e =
-    each_keeps (IsSaid index) (with_line word n index g.transposed g.columns) (λ x b c k i. line_keeps word n index g.transposed g.columns x b c k i) (cut (1 + length g.columns) g.cells) t u h e
+rows_keep : (p : NamedParameter) (size : ℕ) (g : Given) (t u : Taken) → IsSaid p.index t → with_rows p size g t ≡ Ok u → IsSaid p.index u
+rows_keep p size (given.Members ts) t u h e = subst (IsSaid p.index) (is_ok t u e) h
+rows_keep p size (given.Groups g) t u h e =
+    each_keeps (IsSaid p.index) (with_group p size g.place) (λ x b c k i. cell_keeps p (take size x) (slice_get x (size + g.place)) b c k i) (cut (size + g.values) g.cells) t u h e
+rows_keep p size (given.Grid g) t u h e =
+    each_keeps (IsSaid p.index) (with_line p g.transposed g.columns) (λ x b c k i. line_keeps p g.transposed g.columns x b c k i) (cut (1 + length g.columns) g.cells) t u h e
 
-taken_keeps : (widths : List ℕ) (n : Option ℕ) (index : List Tuple) (size : ℕ) (word : Token) (g : Given) (b : Bool) (t u : Taken) → IsSaid index t → taken widths n index size word g b t ≡ Ok u → IsSaid index u
-taken_keeps widths n index size word g b t u h e = then_ok (shaped widths size word g) (λ v. if b then doubled word else with_rows n index size word g t) u e (λ v i k. go b k)
+taken_keeps : (widths : List ℕ) (p : NamedParameter) (size : ℕ) (g : Given) (b : Bool) (t u : Taken) → IsSaid p.index t → taken widths p size g b t ≡ Ok u → IsSaid p.index u
+taken_keeps widths p size g b t u h e = then_ok (shaped widths size p.word g) (λ v. if b then doubled p.word else with_rows p size g t) u e (λ v i k. go b k)
   where
-    go : (c : Bool) → (if c then doubled word else with_rows n index size word g t) ≡ Ok u → IsSaid index u
+    go : (c : Bool) → (if c then doubled p.word else with_rows p size g t) ≡ Ok u → IsSaid p.index u
     go true k = cc
-    go false k = rows_keep n index size word g t u h k
+    go false k = rows_keep p size g t u h k
 
-statement_keeps : (widths : List ℕ) (n : Option ℕ) (index : List Tuple) (size : ℕ) (a : Bool) (m : NamedData) (all more : All) → IsSaid index all.0 → with_statement widths n index size a m all ≡ Ok more → IsSaid index more.0
-statement_keeps widths n index size a m all more h e =
-    then_ok (taken widths n index size m.word m.given (a || (is_some m.default && is_some all.1)) all.0) (λ t. Ok (t, either all.1 m.default)) more e (λ t i k.
-    subst (λ (z : All). IsSaid index z.0) (is_ok (t, either all.1 m.default) more k) (taken_keeps widths n index size m.word m.given (a || (is_some m.default && is_some all.1)) all.0 t h i))
+statement_keeps : (widths : List ℕ) (p : KeyedParameter) (size : ℕ) (a : Bool) (m : NamedData) (all more : All) → IsSaid p.index all.0 → with_statement widths p size a m all ≡ Ok more → IsSaid p.index more.0
+statement_keeps widths p size a m all more h e =
+    then_ok (taken widths (named_as m.word p) size m.given (a || (is_some m.default && is_some all.1)) all.0) (λ t. Ok (t, either all.1 m.default)) more e (λ t i k.
+    subst (λ (z : All). IsSaid p.index z.0) (is_ok (t, either all.1 m.default) more k) (taken_keeps widths (named_as m.word p) size m.given (a || (is_some m.default && is_some all.1)) all.0 t h i))
 
-pub said_keeps : (widths : List ℕ) (n : Option ℕ) (index : List Tuple) (a : Bool) (ms : List NamedData) (all : All) → IsDistinct same_tuple index → data_of widths n index a ms ≡ Ok all → IsSaid index all.0
-said_keeps widths n index a ms all h e =
-    each_keeps (λ (z : All). IsSaid index z.0) (with_statement widths n index (key_count n) a) (λ m b c k i. statement_keeps widths n index (key_count n) a m b c k i) ms untaken all
+pub said_keeps : (widths : List ℕ) (p : KeyedParameter) (a : Bool) (ms : List NamedData) (all : All) → IsDistinct same_tuple p.index → data_of widths p a ms ≡ Ok all → IsSaid p.index all.0
+said_keeps widths p a ms all h e =
+    each_keeps (λ (z : All). IsSaid p.index z.0) (with_statement widths p (key_count p.keys) a) (λ m b c k i. statement_keeps widths p (key_count p.keys) a m b c k i) ms untaken all
     (record { keys = h; inside = tt; once = none_there }) e
 
 -- ---- keys without a value
@@ -196,5 +196,5 @@ index_is at rows index e = go _ (nat_le (length (union [] (keys_of rows))) tuple
     go x false i = cc
 
 pub parameter_is : (w : World) (widths : List ℕ) (p : KeyedParameter) (x : Source) (a : Bool) (ms : List NamedData) (rows : List Row) (all : All) (t : Table) → IsIndex rows p.index
-    → data_of widths p.keys p.index a ms ≡ Ok all → values w p x rows all.0 ≡ Ok t → IsParameterOf p.index t
-parameter_is w widths p x a ms rows all t h e k = values_keep w p x rows all.0 t h.among (said_keeps widths p.keys p.index a ms all h.once e) k
+    → data_of widths p a ms ≡ Ok all → values w p x rows all.0 ≡ Ok t → IsParameterOf p.index t
+parameter_is w widths p x a ms rows all t h e k = values_keep w p x rows all.0 t h.among (said_keeps widths p a ms all h.once e) k

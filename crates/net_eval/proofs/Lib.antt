@@ -1,5 +1,4 @@
 pub mod Cells
-pub mod Naming
 pub mod Items
 pub mod Lists
 pub mod Listed
@@ -35,3 +34,4 @@ mod SoundGivenSets
 pub mod SoundWorlds
 pub mod DeclaredKeys
 pub mod FromData
+pub mod SameEverywhere

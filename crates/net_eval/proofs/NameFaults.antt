@@ -13,7 +13,8 @@ use Rattle.net_data.specs.declared.statement.Statement.TheVariants.{Set, List as
 use Rattle.net_eval.specs.declared.given.Given.{Given}
 use Rattle.net_eval.specs.declared.given.Given.TheVariants as given
 use Rattle.net_eval.specs.declared.given.NamedData.{NamedData}
-use Rattle.net_eval.specs.Names.{Declared, at_place, as_wanted, index_after, target}
+use Rattle.net_sets.specs.Names.{located}
+use Rattle.net_eval.specs.Names.{Declared, at_place, as_wanted, target}
 use Rattle.net_eval.specs.DataByName.{Sorted, no_data, with_named_data, default_word, given_cells, grouped, gridded, named, with_named, lesser, set_first, first_of, or_zero, headed, set_headed, in_columns, in_statement, data_by_name}
 use Rattle.net_base.specs.Places.{Places, Finds}
 use Rattle.net_base.proofs.Found.{finds_then, Gives, gives_then, gives_each, gives_after, gives_found}
@@ -45,7 +46,7 @@ cells_stand P (Some g) h = h
 
 module _ (P : Places) where
   pub finds_target : (ds : Declared) (is_set : Bool) (t : Token) → P Data t.span → Finds P (target ds is_set t)
-  finds_target ds is_set t h = go (as_wanted is_set (index_after 0 ds t.text))
+  finds_target ds is_set t h = go (as_wanted is_set (located 0 ds t.text))
     where
       go : (o : Option ℕ) → Finds P (at_place t o)
       go None = h

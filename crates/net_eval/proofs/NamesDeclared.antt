@@ -16,13 +16,14 @@ use Rattle.net_meaning.specs.World.{is_set_named, AreNamesIn}
 use Rattle.net_eval.specs.declared.given.NamedData.{NamedData}
 use Rattle.net_eval.specs.DataByName.{Sorted, no_data, with_named_data, with_named, set_first, first_of, or_zero, headed, set_headed, in_statement, data_by_name}
 use Rattle.net_eval.specs.DataValues.{NamesNoSet}
-use Rattle.net_eval.specs.Names.{Declared, declared, index_after, target}
+use Rattle.net_sets.specs.Names.{located}
+use Rattle.net_eval.specs.Names.{Declared, declared, target}
 use Rattle.net_eval.proofs.RowsTaken.{then_ok}
 use Rattle.net_eval.proofs.Sorting.{same_name, pairs, target_is}
 
 -- the token names a declared set, or a declared parameter
 abbrev pub IsNamed : Declared → Bool → Token → Type 0
-IsNamed ds is_set t = (j : ℕ) × (index_after 0 ds t.text ≡ Some (j, is_set))
+IsNamed ds is_set t = (j : ℕ) × (located 0 ds t.text ≡ Some (j, is_set))
 
 abbrev pub AreNamed : Declared → Statement → Type 0
 AreNamed ds (Set s) = IsNamed ds true s.name
@@ -74,15 +75,15 @@ later_name : (n m : Name) (ns : List Name) → Contains ns m → Contains (n ∷
 later_name n m ns (k, within, is) = (suc k, omega (arith, within), is)
 
 -- in the first declaration or in a later one
-either_name : (b k : Bool) (m n : Name) (o : ℕ) (ds : Declared) (j : ℕ) (P : Type 0) → (if bytes_eq n m then Some (o, k) else index_after (o + 1) ds m) ≡ Some (j, b) → (bytes_eq n m ≡ true → k ≡ b → P)
-    → (index_after (o + 1) ds m ≡ Some (j, b) → P) → P
+either_name : (b k : Bool) (m n : Name) (o : ℕ) (ds : Declared) (j : ℕ) (P : Type 0) → (if bytes_eq n m then Some (o, k) else located (o + 1) ds m) ≡ Some (j, b) → (bytes_eq n m ≡ true → k ≡ b → P)
+    → (located (o + 1) ds m ≡ Some (j, b) → P) → P
 either_name b k m n o ds j P e here later = go (bytes_eq n m) refl e
   where
-    go : (t : Bool) → bytes_eq n m ≡ t → (if t then Some (o, k) else index_after (o + 1) ds m) ≡ Some (j, b) → P
+    go : (t : Bool) → bytes_eq n m ≡ t → (if t then Some (o, k) else located (o + 1) ds m) ≡ Some (j, b) → P
     go true s f = here s (pairs o j k b f).1
     go false s f = later f
 
-declared_set : (o : ℕ) (ds : List Declaration) (m : Name) (j : ℕ) → index_after o (declared ds) m ≡ Some (j, true) → Contains (sets_in ds) m
+declared_set : (o : ℕ) (ds : List Declaration) (m : Name) (j : ℕ) → located o (declared ds) m ≡ Some (j, true) → Contains (sets_in ds) m
 declared_set o [] m j e = cc
 declared_set o (set w n ps z ∷ ds) m j e =
     either_name true true m n.text o (declared ds) j (Contains (n.text ∷ sets_in ds) m) e (λ s k. first_name n.text m (sets_in ds) s) (λ f. later_name n.text m (sets_in ds) (declared_set (o + 1) ds m j f))
@@ -92,7 +93,7 @@ declared_set o (node w n b c z ∷ ds) m j e = declared_set o ds m j e
 declared_set o (arc w n b ps z ∷ ds) m j e = declared_set o ds m j e
 declared_set o (objective w n p z ∷ ds) m j e = declared_set o ds m j e
 
-declared_param : (o : ℕ) (ds : List Declaration) (m : Name) (j : ℕ) → index_after o (declared ds) m ≡ Some (j, false) → Contains (params_in ds) m
+declared_param : (o : ℕ) (ds : List Declaration) (m : Name) (j : ℕ) → located o (declared ds) m ≡ Some (j, false) → Contains (params_in ds) m
 declared_param o [] m j e = cc
 declared_param o (set w n ps z ∷ ds) m j e = either_name false true m n.text o (declared ds) j (Contains (params_in ds) m) e (λ s k. cc) (λ f. declared_param (o + 1) ds m j f)
 declared_param o (param w n b ps z ∷ ds) m j e =
@@ -128,12 +129,12 @@ names_are_declared ds ss all e = all_declared ds ss (all_named (declared ds) ss 
 -- ---- a name of one kind
 
 -- what names sets does not name a parameter, and the other way round
-pub other_kind : (ds : Declared) (n : Name) (i : ℕ) (k : Bool) (t : Token) (b : Bool) → index_after 0 ds n ≡ Some (i, k) → IsNamed ds b t → (k ≡ b → ⊥) → bytes_eq t.text n ≡ false
+pub other_kind : (ds : Declared) (n : Name) (i : ℕ) (k : Bool) (t : Token) (b : Bool) → located 0 ds n ≡ Some (i, k) → IsNamed ds b t → (k ≡ b → ⊥) → bytes_eq t.text n ≡ false
 other_kind ds n i k t b own (j, e) apart = go (bytes_eq t.text n) refl
   where
     go : (c : Bool) → bytes_eq t.text n ≡ c → c ≡ false
     go true s =
-        let copied : index_after 0 ds t.text ≡ Some (i, k) = subst (λ z. index_after 0 ds z ≡ Some (i, k)) (sym (same_name t.text n s)) own in
+        let copied : located 0 ds t.text ≡ Some (i, k) = subst (λ z. located 0 ds z ≡ Some (i, k)) (sym (same_name t.text n s)) own in
         absurd (apart (pairs i j k b (sym copied ∙ e)).1)
     go false s = refl
 
@@ -150,17 +151,17 @@ true_false e = cc
 false_true : false ≡ true → ⊥
 false_true e = cc
 
-none_of : (ds : Declared) (n : Name) (i : ℕ) → index_after 0 ds n ≡ Some (i, true) → (ts : List Token) → AllByRecursion (IsNamed ds false) ts → AllByRecursion (λ (t : Token). bytes_eq t.text n ≡ false) ts
+none_of : (ds : Declared) (n : Name) (i : ℕ) → located 0 ds n ≡ Some (i, true) → (ts : List Token) → AllByRecursion (IsNamed ds false) ts → AllByRecursion (λ (t : Token). bytes_eq t.text n ≡ false) ts
 none_of ds n i own [] h = tt
 none_of ds n i own (t ∷ ts) h = (other_kind ds n i true t false own h.0 true_false, none_of ds n i own ts h.1)
 
-pub no_parameter : (ds : Declared) (n : Name) (i : ℕ) → index_after 0 ds n ≡ Some (i, true) → (s : Statement) → AreNamed ds s → NamesNoParameter n s
+pub no_parameter : (ds : Declared) (n : Name) (i : ℕ) → located 0 ds n ≡ Some (i, true) → (s : Statement) → AreNamed ds s → NamesNoParameter n s
 no_parameter ds n i own (Set s) h = tt
 no_parameter ds n i own (Listed l) h = other_kind ds n i true l.name false own h true_false
 no_parameter ds n i own (Table t) h = other_kind ds n i true t.name false own h true_false
 no_parameter ds n i own (Columns c) h = none_of ds n i own c.names h.1
 
-pub no_set : (ds : Declared) (n : Name) (i : ℕ) → index_after 0 ds n ≡ Some (i, false) → (s : Statement) → AreNamed ds s → NamesNoSet n s
+pub no_set : (ds : Declared) (n : Name) (i : ℕ) → located 0 ds n ≡ Some (i, false) → (s : Statement) → AreNamed ds s → NamesNoSet n s
 no_set ds n i own (Set s) h = tt
 no_set ds n i own (Listed l) h = tt
 no_set ds n i own (Table t) h = tt

@@ -34,8 +34,8 @@ use Rattle.net_tree.specs.PhraseValues.{expression_of, phrase_value}
 use Rattle.net_eval.specs.Cells.{tuple_in, member_in}
 use Rattle.net_eval.specs.SetData.{begins_at, cut, leading_size, agrees}
 use Rattle.net_eval.specs.Restrictions.{relation, ordered, compared, related, holding, restricted_by, restricted_in, restricted}
-use Rattle.net_eval.specs.Rows.{Table, Taken, All, with_value, with_row, with_cell, with_group, pair_of, across, with_line, has_two, shaped, with_rows, taken, either, with_statement}
-use Rattle.net_eval.specs.BoundParameters.{KeyedParameter, PlacedValues, placed, keyed, source_in, takes_texts, span_or, index_list, Source, source, source_text, place_in, source_at, member_by, from_source, insert_value, with_key, is_number, cell_of, no_text, fit_kind, keys_with, fit_value, fit_row, fit_values, untaken, data_of, valued_by, values, fill_table, bound_parameter}
+use Rattle.net_eval.specs.Rows.{KeyedParameter, NamedParameter, named_as, Table, Taken, All, with_value, with_row, with_cell, with_group, pair_of, across, with_line, has_two, shaped, with_rows, taken, either, with_statement}
+use Rattle.net_eval.specs.BoundParameters.{PlacedValues, placed, keyed, source_in, takes_texts, span_or, index_list, Source, source, source_text, place_in, source_at, member_by, from_source, insert_value, with_key, is_number, cell_of, no_text, fit_kind, keys_with, fit_value, fit_row, fit_values, untaken, data_of, valued_by, values, fill_table, bound_parameter}
 use Rattle.net_sets.specs.Sets.{place_of}
 use Rattle.net_base.specs.Places.{Places, Finds}
 use Rattle.net_tree.specs.Standing.{Stands, IndexingHasSpans, BodyHasSpans, PhrasesHaveSpans}
@@ -68,39 +68,39 @@ module _ (P : Places) where
   finds_with_value : (text : Language) (at : Span) → P text at → (key : Tuple) (m : Member) (t : Table) → Finds P (with_value text at key m t)
   finds_with_value text at h key m t = finds_if P (nat_lt (length t) tuples_limit) _ _ tt h
 
-  gives_with_row : (word : Token) (n : Option ℕ) (index : List Tuple) (key : List Token) → TokensHaveSpans (P Data) key → (v : Token) → P Data v.span → (t : Taken) → TakenStands t → Gives P TakenStands (with_row word n index key v t)
-  gives_with_row word n index key h v k t j =
+  gives_with_row : (p : NamedParameter) (key : List Token) → TokensHaveSpans (P Data) key → (v : Token) → P Data v.span → (t : Taken) → TakenStands t → Gives P TakenStands (with_row p key v t)
+  gives_with_row p key h v k t j =
       gives_if P TakenStands (is_some (at_key t.0 (tuple_in key))) _ _ (begins_stands (P Data) v.span k key h)
-      (gives_if P TakenStands (has index (tuple_in key)) _ _
+      (gives_if P TakenStands (has p.index (tuple_in key)) _ _
       (gives_after P TakenStands (with_value Data (begins_at v.span key) (tuple_in key) (member_in v) t.0) _
       (finds_with_value Data (begins_at v.span key) (begins_stands (P Data) v.span k key h) (tuple_in key) (member_in v) t.0) (λ u. all_append (P Data) t.1 (v.span ∷ []) j (k, tt)))
       (begins_stands (P Data) v.span k key h))
 
-  gives_with_cell : (word : Token) (n : Option ℕ) (index : List Tuple) (key : List Token) → TokensHaveSpans (P Data) key → (v : Option Token) → OfSome (λ (c : Token). P Data c.span) v
-      → (t : Taken) → TakenStands t → Gives P TakenStands (with_cell word n index key v t)
-  gives_with_cell word n index key h None k t j = j
-  gives_with_cell word n index key h (Some v) k t j = gives_if P TakenStands (points v.kind) _ _ j (gives_with_row word n index key h v k t j)
+  gives_with_cell : (p : NamedParameter) (key : List Token) → TokensHaveSpans (P Data) key → (v : Option Token) → OfSome (λ (c : Token). P Data c.span) v
+      → (t : Taken) → TakenStands t → Gives P TakenStands (with_cell p key v t)
+  gives_with_cell p key h None k t j = j
+  gives_with_cell p key h (Some v) k t j = gives_if P TakenStands (points v.kind) _ _ j (gives_with_row p key h v k t j)
 
-  gives_with_group : (word : Token) (n : Option ℕ) (index : List Tuple) (keys place : ℕ) (g : List Token) → TokensHaveSpans (P Data) g → (t : Taken) → TakenStands t
-      → Gives P TakenStands (with_group word n index keys place g t)
-  gives_with_group word n index keys place g h t j = gives_with_cell word n index (take keys g) (all_take _ keys g h) (slice_get g (keys + place)) (all_get _ g (keys + place) h) t j
+  gives_with_group : (p : NamedParameter) (keys place : ℕ) (g : List Token) → TokensHaveSpans (P Data) g → (t : Taken) → TakenStands t
+      → Gives P TakenStands (with_group p keys place g t)
+  gives_with_group p keys place g h t j = gives_with_cell p (take keys g) (all_take _ keys g h) (slice_get g (keys + place)) (all_get _ g (keys + place) h) t j
 
   pair_stands : (transposed : Bool) (row column : Token) → P Data row.span → P Data column.span → TokensHaveSpans (P Data) (pair_of transposed row column)
   pair_stands false row column h k = (h, (k, tt))
   pair_stands true row column h k = (k, (h, tt))
 
-  gives_across : (word : Token) (n : Option ℕ) (index : List Tuple) (transposed : Bool) (row : Token) → P Data row.span → (columns : List Token) → TokensHaveSpans (P Data) columns
-      → (cells : List Token) → TokensHaveSpans (P Data) cells → (t : Taken) → TakenStands t → Gives P TakenStands (across word n index transposed row columns cells t)
-  gives_across word n index transposed row h [] k cells m t j = j
-  gives_across word n index transposed row h (c ∷ cs) k [] m t j = j
-  gives_across word n index transposed row h (c ∷ cs) k (cell ∷ cells) m t j =
-      gives_then P TakenStands TakenStands (with_cell word n index (pair_of transposed row c) (Some cell) t) (across word n index transposed row cs cells)
-      (gives_with_cell word n index (pair_of transposed row c) (pair_stands transposed row c h k.0) (Some cell) m.0 t j) (gives_across word n index transposed row h cs k.1 cells m.1)
+  gives_across : (p : NamedParameter) (transposed : Bool) (row : Token) → P Data row.span → (columns : List Token) → TokensHaveSpans (P Data) columns
+      → (cells : List Token) → TokensHaveSpans (P Data) cells → (t : Taken) → TakenStands t → Gives P TakenStands (across p transposed row columns cells t)
+  gives_across p transposed row h [] k cells m t j = j
+  gives_across p transposed row h (c ∷ cs) k [] m t j = j
+  gives_across p transposed row h (c ∷ cs) k (cell ∷ cells) m t j =
+      gives_then P TakenStands TakenStands (with_cell p (pair_of transposed row c) (Some cell) t) (across p transposed row cs cells)
+      (gives_with_cell p (pair_of transposed row c) (pair_stands transposed row c h k.0) (Some cell) m.0 t j) (gives_across p transposed row h cs k.1 cells m.1)
 
-  gives_with_line : (word : Token) (n : Option ℕ) (index : List Tuple) (transposed : Bool) (columns : List Token) → TokensHaveSpans (P Data) columns → (line : List Token) → TokensHaveSpans (P Data) line
-      → (t : Taken) → TakenStands t → Gives P TakenStands (with_line word n index transposed columns line t)
-  gives_with_line word n index transposed columns k [] m t j = j
-  gives_with_line word n index transposed columns k (row ∷ cells) m t j = gives_across word n index transposed row m.0 columns k cells m.1 t j
+  gives_with_line : (p : NamedParameter) (transposed : Bool) (columns : List Token) → TokensHaveSpans (P Data) columns → (line : List Token) → TokensHaveSpans (P Data) line
+      → (t : Taken) → TakenStands t → Gives P TakenStands (with_line p transposed columns line t)
+  gives_with_line p transposed columns k [] m t j = j
+  gives_with_line p transposed columns k (row ∷ cells) m t j = gives_across p transposed row m.0 columns k cells m.1 t j
 
   finds_shaped : (widths : List ℕ) (n : ℕ) (word : Token) → P Data word.span → (g : Given) → SaidStands (P Data) g → Finds P (shaped widths n word g)
   finds_shaped widths n word h (given.Members ts) k = tt
@@ -111,33 +111,33 @@ module _ (P : Places) where
       finds_then P (has_two word n) _ (finds_if P (nat_eq n 2) _ _ tt h)
       (λ u. finds_whole_groups P word.span h 1 (1 + length g.columns) (cut (1 + length g.columns) g.cells) (cut_stands (P Data) (1 + length g.columns) g.cells k.1))
 
-  gives_with_rows : (n : Option ℕ) (index : List Tuple) (size : ℕ) (word : Token) (g : Given) → SaidStands (P Data) g → (t : Taken) → TakenStands t → Gives P TakenStands (with_rows n index size word g t)
-  gives_with_rows n index size word (given.Members ts) k t j = j
-  gives_with_rows n index size word (given.Groups g) k t j =
-      gives_each P (TokensHaveSpans (P Data)) TakenStands (with_group word n index size g.place) (gives_with_group word n index size g.place) (cut (size + g.values) g.cells)
+  gives_with_rows : (p : NamedParameter) (size : ℕ) (g : Given) → SaidStands (P Data) g → (t : Taken) → TakenStands t → Gives P TakenStands (with_rows p size g t)
+  gives_with_rows p size (given.Members ts) k t j = j
+  gives_with_rows p size (given.Groups g) k t j =
+      gives_each P (TokensHaveSpans (P Data)) TakenStands (with_group p size g.place) (gives_with_group p size g.place) (cut (size + g.values) g.cells)
       (cut_stands (P Data) (size + g.values) g.cells k) t j
-  gives_with_rows n index size word (given.Grid g) k t j =
-      gives_each P (TokensHaveSpans (P Data)) TakenStands (with_line word n index g.transposed g.columns) (gives_with_line word n index g.transposed g.columns k.0) (cut (1 + length g.columns) g.cells)
+  gives_with_rows p size (given.Grid g) k t j =
+      gives_each P (TokensHaveSpans (P Data)) TakenStands (with_line p g.transposed g.columns) (gives_with_line p g.transposed g.columns k.0) (cut (1 + length g.columns) g.cells)
       (cut_stands (P Data) (1 + length g.columns) g.cells k.1) t j
 
-  gives_taken : (widths : List ℕ) (n : Option ℕ) (index : List Tuple) (size : ℕ) (word : Token) → P Data word.span → (g : Given) → SaidStands (P Data) g → (is_doubled : Bool) (t : Taken) → TakenStands t
-      → Gives P TakenStands (taken widths n index size word g is_doubled t)
-  gives_taken widths n index size word h g k is_doubled t j =
-      gives_after P TakenStands (shaped widths size word g) _ (finds_shaped widths size word h g k) (λ u. gives_if P TakenStands is_doubled _ _ h (gives_with_rows n index size word g k t j))
+  gives_taken : (widths : List ℕ) (p : NamedParameter) (size : ℕ) → P Data p.word.span → (g : Given) → SaidStands (P Data) g → (is_doubled : Bool) (t : Taken) → TakenStands t
+      → Gives P TakenStands (taken widths p size g is_doubled t)
+  gives_taken widths p size h g k is_doubled t j =
+      gives_after P TakenStands (shaped widths size p.word g) _ (finds_shaped widths size p.word h g k) (λ u. gives_if P TakenStands is_doubled _ _ h (gives_with_rows p size g k t j))
 
   either_stands : (a b : Option Token) → OfSome (λ (t : Token). P Data t.span) a → OfSome (λ (t : Token). P Data t.span) b → OfSome (λ (t : Token). P Data t.span) (either a b)
   either_stands None b h k = k
   either_stands (Some c) b h k = h
 
-  gives_with_statement : (widths : List ℕ) (n : Option ℕ) (index : List Tuple) (size : ℕ) (is_assigned : Bool) (m : NamedData) → MentionStands (P Data) m → (all : All) → AllStand all
-      → Gives P AllStand (with_statement widths n index size is_assigned m all)
-  gives_with_statement widths n index size is_assigned m h all k =
-      gives_then P TakenStands AllStand (taken widths n index size m.word m.given (is_assigned || (is_some m.default && is_some all.1)) all.0) _
-      (gives_taken widths n index size m.word h.0 m.given h.2 (is_assigned || (is_some m.default && is_some all.1)) all.0 k.0) (λ t j. (j, either_stands all.1 m.default k.1 h.1))
+  gives_with_statement : (widths : List ℕ) (p : KeyedParameter) (size : ℕ) (is_assigned : Bool) (m : NamedData) → MentionStands (P Data) m → (all : All) → AllStand all
+      → Gives P AllStand (with_statement widths p size is_assigned m all)
+  gives_with_statement widths p size is_assigned m h all k =
+      gives_then P TakenStands AllStand (taken widths (named_as m.word p) size m.given (is_assigned || (is_some m.default && is_some all.1)) all.0) _
+      (gives_taken widths (named_as m.word p) size h.0 m.given h.2 (is_assigned || (is_some m.default && is_some all.1)) all.0 k.0) (λ t j. (j, either_stands all.1 m.default k.1 h.1))
 
-  gives_said_of : (widths : List ℕ) (n : Option ℕ) (index : List Tuple) (is_assigned : Bool) (ms : List NamedData) → MentionsStand (P Data) ms → Gives P AllStand (data_of widths n index is_assigned ms)
-  gives_said_of widths n index is_assigned ms h =
-      gives_each P (MentionStands (P Data)) AllStand (with_statement widths n index (key_count n) is_assigned) (gives_with_statement widths n index (key_count n) is_assigned) ms h untaken (tt, tt)
+  gives_said_of : (widths : List ℕ) (p : KeyedParameter) (is_assigned : Bool) (ms : List NamedData) → MentionsStand (P Data) ms → Gives P AllStand (data_of widths p is_assigned ms)
+  gives_said_of widths p is_assigned ms h =
+      gives_each P (MentionStands (P Data)) AllStand (with_statement widths p (key_count p.keys) is_assigned) (gives_with_statement widths p (key_count p.keys) is_assigned) ms h untaken (tt, tt)
 
   -- ---- what phrases ask
 
@@ -259,7 +259,7 @@ module _ (P : Places) where
       → Finds P (fill_table w widths p ms rows)
   finds_filled w widths p h k ms j rows =
       let assigned = phrase_value is_becomes p.phrases in
-      finds_after P AllStand (data_of widths p.keys p.index (is_some assigned) ms) _ (gives_said_of widths p.keys p.index (is_some assigned) ms j) (λ all i.
+      finds_after P AllStand (data_of widths p (is_some assigned) ms) _ (gives_said_of widths p (is_some assigned) ms j) (λ all i.
       finds_values w p h k (source_in p all.1) (chosen_stands assigned all.1 (phrase_value is_default p.phrases) (phrase_stands is_becomes p.phrases k) i.1 (phrase_stands is_default p.phrases k)) rows all.0 i.0)
 
   pub finds_bound_parameter : (w : World) (widths : List ℕ) (name : Token) → P Model name.span → (b : Option Braces) → IndexingHasSpans (P Model) b → (ps : List Phrase) → PhrasesHaveSpans (P Model) ps

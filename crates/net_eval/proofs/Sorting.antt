@@ -19,7 +19,8 @@ use Rattle.net_eval.specs.declared.given.Given.TheVariants as given
 use Rattle.net_eval.specs.declared.given.NamedData.{NamedData}
 use Rattle.net_eval.specs.Binding.{is_among, AreNew}
 use Rattle.net_eval.specs.DataByName.{Sorted, no_data, with_named_data, with_named, default_word, given_cells, grouped, gridded, named, set_first, first_of, or_zero, headed, set_headed, in_columns, in_statement, data_by_name}
-use Rattle.net_eval.specs.Names.{Declared, declared, index_after, as_wanted, at_place, target}
+use Rattle.net_sets.specs.Names.{located}
+use Rattle.net_eval.specs.Names.{Declared, declared, as_wanted, at_place, target}
 use Rattle.net_eval.specs.DataFor.{leader_in, leader, headed_for, set_for, data_in, data_for}
 use Rattle.net_eval.proofs.RowsTaken.{then_ok, is_ok}
 
@@ -44,14 +45,14 @@ pairs a c b d e = (ap (first_or a) e, ap (second_or b) e)
 
 -- a declared name, counted from o, is new and found at its own index
 pub record IsFound (o : ℕ) (known : List Name) (ds : Declared) (i : ℕ) (n : Name) (k : Bool) : Type 0 where
-  pub is : index_after o ds n ≡ Some (o + i, k)
+  pub is : located o ds n ≡ Some (o + i, k)
   pub new : is_among known n ≡ false
 
 found_first : (o : ℕ) (known : List Name) (m : Name) (b : Bool) (ds : Declared) (n : Name) (k : Bool) → is_among known m ≡ false → ◌≡◌ {A = Option (Name × Bool)} (Some (m, b)) (Some (n, k)) → IsFound o known ((m, b) ∷ ds) zero n k
 found_first o known m b ds n k new e =
     let (same, kind) = pairs m n b k e in
     record {
-      is = ap (λ (t : Bool). if t then Some (o, b) else index_after (o + 1) ds n) (subst (λ z. bytes_eq m z ≡ true) same (itself m)) ∙ ap (λ z. Some (o, z)) kind ∙ ap (λ j. Some (j, k)) (omega arith);
+      is = ap (λ (t : Bool). if t then Some (o, b) else located (o + 1) ds n) (subst (λ z. bytes_eq m z ≡ true) same (itself m)) ∙ ap (λ z. Some (o, z)) kind ∙ ap (λ j. Some (j, k)) (omega arith);
       new = subst (λ z. is_among known z ≡ false) same new;
     }
 
@@ -59,7 +60,7 @@ found_later : (o : ℕ) (known : List Name) (m : Name) (b : Bool) (ds : Declared
 found_later o known m b ds i n k h =
     let (other, new) = or_parts (bytes_eq m n) (is_among known n) h.new in
     record {
-      is = ap (λ (t : Bool). if t then Some (o, b) else index_after (o + 1) ds n) other ∙ h.is ∙ ap (λ j. Some (j, k)) (omega arith);
+      is = ap (λ (t : Bool). if t then Some (o, b) else located (o + 1) ds n) other ∙ h.is ∙ ap (λ j. Some (j, k)) (omega arith);
       new = new;
     }
 
@@ -82,11 +83,11 @@ pub record Stands (o : ℕ) (ds : Declared) (m : Name) (j : ℕ) (b : Bool) : Ty
   pub there : slice_get ds place ≡ Some (own, b)
   pub same : bytes_eq own m ≡ true
 
-pub found_stands : (o : ℕ) (ds : Declared) (m : Name) (j : ℕ) (b : Bool) → index_after o ds m ≡ Some (j, b) → Stands o ds m j b
+pub found_stands : (o : ℕ) (ds : Declared) (m : Name) (j : ℕ) (b : Bool) → located o ds m ≡ Some (j, b) → Stands o ds m j b
 found_stands o [] m j b e = cc
 found_stands o (d ∷ ds) m j b e = go (bytes_eq d.0 m) refl e (found_stands (o + 1) ds m j b)
   where
-    go : (t : Bool) → bytes_eq d.0 m ≡ t → (if t then Some (o, d.1) else index_after (o + 1) ds m) ≡ Some (j, b) → (index_after (o + 1) ds m ≡ Some (j, b) → Stands (o + 1) ds m j b) → Stands o (d ∷ ds) m j b
+    go : (t : Bool) → bytes_eq d.0 m ≡ t → (if t then Some (o, d.1) else located (o + 1) ds m) ≡ Some (j, b) → (located (o + 1) ds m ≡ Some (j, b) → Stands (o + 1) ds m j b) → Stands o (d ∷ ds) m j b
     go true s f more =
         let (at, kind) = pairs o j d.1 b f in
         record { place = 0; is = sym at ∙ omega arith; own = d.0; there = ap (λ z. Some (d.0, z)) kind; same = s }
@@ -97,8 +98,8 @@ found_stands o (d ∷ ds) m j b e = go (bytes_eq d.0 m) refl e (found_stands (o 
 -- the name n of kind k has the index i, and a name that is found has this index if and only if it is n
 pub record IsPlace (ds : Declared) (i : ℕ) (n : Name) (k : Bool) : Type 0 where
   pub within : i < length ds
-  pub own : index_after 0 ds n ≡ Some (i, k)
-  pub reports : (m : Name) (j : ℕ) (b : Bool) → index_after 0 ds m ≡ Some (j, b) → bytes_eq m n ≡ nat_eq j i
+  pub own : located 0 ds n ≡ Some (i, k)
+  pub reports : (m : Name) (j : ℕ) (b : Bool) → located 0 ds m ≡ Some (j, b) → bytes_eq m n ≡ nat_eq j i
 
 same_number : (j i : ℕ) → j ≡ i → nat_eq j i ≡ true
 same_number j i e = grind (arith, nat_tests)
@@ -113,12 +114,12 @@ other_number j i f = go (nat_eq j i) refl
 pub place_is : (ds : List Declaration) → AreNew [] ds → (i : ℕ) (n : Name) (k : Bool) → slice_get (declared ds) i ≡ Some (n, k) → IsPlace (declared ds) i n k
 place_is ds h i n k e = record { within = slice_get_within (declared ds) i (n, k) e; own = own; reports = λ m j b f. go m j b f (bytes_eq m n) refl }
   where
-    own : index_after 0 (declared ds) n ≡ Some (i, k)
+    own : located 0 (declared ds) n ≡ Some (i, k)
     own = (found_at 0 [] ds h i n k e).is ∙ ap (λ z. Some (z, k)) (omega arith)
 
-    go : (m : Name) (j : ℕ) (b : Bool) → index_after 0 (declared ds) m ≡ Some (j, b) → (t : Bool) → bytes_eq m n ≡ t → t ≡ nat_eq j i
+    go : (m : Name) (j : ℕ) (b : Bool) → located 0 (declared ds) m ≡ Some (j, b) → (t : Bool) → bytes_eq m n ≡ t → t ≡ nat_eq j i
     go m j b f true s =
-        let copied : index_after 0 (declared ds) m ≡ Some (i, k) = subst (λ z. index_after 0 (declared ds) z ≡ Some (i, k)) (sym (same_name m n s)) own in
+        let copied : located 0 (declared ds) m ≡ Some (i, k) = subst (λ z. located 0 (declared ds) z ≡ Some (i, k)) (sym (same_name m n s)) own in
         sym (same_number j i (pairs j i b k (sym f ∙ copied)).0)
     go m j b f false s = sym (other_number j i (λ same. elsewhere (found_stands 0 (declared ds) m j b f) same))
       where
@@ -145,12 +146,12 @@ adds_both i all next more xs ys g h = record { size = h.size ∙ g.size; at = h.
 
 -- the index that a token in the data has
 pub record IsTarget (ds : Declared) (is_set : Bool) (t : Token) (j : ℕ) : Type 0 where
-  pub found : index_after 0 ds t.text ≡ Some (j, is_set)
+  pub found : located 0 ds t.text ≡ Some (j, is_set)
 
 pub target_is : (ds : Declared) (is_set : Bool) (t : Token) (j : ℕ) → target ds is_set t ≡ Ok j → IsTarget ds is_set t j
-target_is ds is_set t j e = go (index_after 0 ds t.text) refl is_set e
+target_is ds is_set t j e = go (located 0 ds t.text) refl is_set e
   where
-    go : (o : Option (ℕ × Bool)) → index_after 0 ds t.text ≡ o → (w : Bool) → at_place t (as_wanted w o) ≡ Ok j → IsTarget ds w t j
+    go : (o : Option (ℕ × Bool)) → located 0 ds t.text ≡ o → (w : Bool) → at_place t (as_wanted w o) ≡ Ok j → IsTarget ds w t j
     go None f w h = cc
     go (Some (p, true)) f true h = record { found = f ∙ ap (λ z. Some (z, true)) (is_ok p j h) }
     go (Some (p, false)) f true h = cc
@@ -168,7 +169,7 @@ named_adds ds i n k h is_set t m all more size e =
     let found = (target_is ds is_set t j f).found in
     subst (λ u. Adds i all u (if_named t n (m i))) (is_ok (with_named_data j (m j) all) more g) (go j found (nat_eq j i) refl (h.reports t.text j is_set found)))
   where
-    go : (j : ℕ) → index_after 0 ds t.text ≡ Some (j, is_set) → (b : Bool) → nat_eq j i ≡ b → bytes_eq t.text n ≡ nat_eq j i → Adds i all (with_named_data j (m j) all) (if_named t n (m i))
+    go : (j : ℕ) → located 0 ds t.text ≡ Some (j, is_set) → (b : Bool) → nat_eq j i ≡ b → bytes_eq t.text n ≡ nat_eq j i → Adds i all (with_named_data j (m j) all) (if_named t n (m i))
     go j found true same alike =
         let here = eqb-true j i same in
         let within = h.within in

@@ -30,12 +30,12 @@ use Rattle.net_expr.proofs.Walked.{all_as}
 use Rattle.net_meaning.proofs.Erased.{phrase_none}
 use Rattle.net_eval.specs.declared.given.NamedData.{NamedData}
 use Rattle.net_eval.specs.BoundParameters as bound
-use Rattle.net_eval.specs.BoundParameters.{KeyedParameter, placed, keyed, span_or, index_list, source, with_key, fit_values, untaken, data_of, valued_by, fill_table, with_data, bound_parameter, keys_with}
+use Rattle.net_eval.specs.BoundParameters.{placed, keyed, span_or, index_list, source, with_key, fit_values, untaken, data_of, valued_by, fill_table, with_data, bound_parameter, keys_with}
 use Rattle.net_eval.specs.Cells.{tuple_in}
 use Rattle.net_eval.specs.DataFor.{data_for}
 use Rattle.net_eval.specs.Names.{Declared}
 use Rattle.net_eval.specs.ParameterValues.{IsParameterOf, row_value, values_given, default_given, IsValue, IsValueAt}
-use Rattle.net_eval.specs.Rows.{Table, All}
+use Rattle.net_eval.specs.Rows.{KeyedParameter, Table, All}
 use Rattle.net_eval.specs.Soundness.{ParametersAreSound}
 use Rattle.net_eval.proofs.HeldParameters.{IsIndex, index_is, said_keeps, parameter_is}
 use Rattle.net_eval.proofs.Products.{has_union}
@@ -132,7 +132,7 @@ record IsBound (w : World) (ws : List ℕ) (name : Token) (b : Option Braces) (p
   pub listed : List Tuple
   pub is_list : index_list (span_or name.span b) keys.rows ≡ Ok listed
   pub all : All
-  pub said : data_of ws keys.count listed (is_some (phrase_value is_becomes ps)) ms ≡ Ok all
+  pub said : data_of ws (keyed name ps keys listed) (is_some (phrase_value is_becomes ps)) ms ≡ Ok all
   pub table : Table
   pub fill : fill_table w ws (keyed name ps keys listed) ms keys.rows ≡ Ok table
   pub holds : bound.values w (keyed name ps keys listed) (source (phrase_value is_becomes ps) all.1 (phrase_value is_default ps)) keys.rows all.0 ≡ Ok table
@@ -143,7 +143,7 @@ binds w ws name b ps ms x h =
     then_ok (indexing_in w b) _ x h (λ k i o.
     then_ok (index_list (span_or name.span b) k.rows) (λ index. with_data w ws (keyed name ps k index) ms k.rows) x o (λ index j l.
     then_ok (fill_table w ws (keyed name ps k index) ms k.rows) (λ t. Ok (Parameter k.count index t)) x l (λ t g d.
-    then_ok (data_of ws k.count index (is_some (phrase_value is_becomes ps)) ms)
+    then_ok (data_of ws (keyed name ps k index) (is_some (phrase_value is_becomes ps)) ms)
     (λ all. bound.values w (keyed name ps k index) (source (phrase_value is_becomes ps) all.1 (phrase_value is_default ps)) k.rows all.0) t g (λ all p q.
     record { keys = k; indexed = i; listed = index; is_list = j; all = all; said = p; table = t; fill = g; holds = q; entry = sym (is_ok (Parameter k.count index t) x d) }))))
 
@@ -195,13 +195,13 @@ parameters_are_sound w ws name b ps ds i ss x sets forms numerals no_sets h =
     let a : Bool = is_some (phrase_value is_becomes ps) in
     let s : bound.Source = source (phrase_value is_becomes ps) y.all.1 (phrase_value is_default ps) in
     let members = data_members ds i n ss forms numerals in
-    let accepted : AreAccepted size a None ms = are_accepted ws count y.listed size a ms untaken y.all members y.said in
+    let accepted : AreAccepted size a None ms = are_accepted ws p size a ms untaken y.all members y.said in
     let given : values_given size ms ≡ map row_value rows = ap (map row_value) (rows_are ds i size n ss no_sets) in
-    let adds = statements_add ws count y.listed size a ms untaken y.all y.said in
+    let adds = statements_add ws p size a ms untaken y.all y.said in
     let same : keys ≡ keys_of y.keys.rows = keys_are w y.keys.rows in
     let list : y.listed ≡ union [] keys = sym (index_made (span_or name.span b) y.keys.rows y.listed y.is_list) ∙ ap (union []) (sym same) in
     let all_in : IsIndex y.keys.rows y.listed = index_is (span_or name.span b) y.keys.rows y.listed y.is_list in
-    let reported : IsParameterOf y.listed (map row_value rows) = subst (IsParameterOf y.listed) (adds.values ∙ given) (said_keeps ws count y.listed a ms y.all all_in.once y.said) in
+    let reported : IsParameterOf y.listed (map row_value rows) = subst (IsParameterOf y.listed) (adds.values ∙ given) (said_keeps ws p a ms y.all all_in.once y.said) in
     let reported_in : IsParameterOf (union [] keys) (map row_value rows) = subst (λ l. IsParameterOf l (map row_value rows)) list reported in
     let held : IsParameterOf (union [] keys) y.table = subst (λ l. IsParameterOf l y.table) list (parameter_is w ws p s a ms y.keys.rows y.all y.table all_in y.said y.holds) in
     let long : AreLong size (keys_of y.keys.rows) = lengths_are w b y.keys y.indexed in

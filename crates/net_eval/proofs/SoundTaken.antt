@@ -30,7 +30,7 @@ use Rattle.net_eval.specs.DataFor.{leader, headed_for, set_for, data_in, data_fo
 use Rattle.net_eval.specs.DataValues.{HasValue, HaveValues}
 use Rattle.net_eval.specs.Names.{Declared}
 use Rattle.net_eval.specs.ParameterValues.{rows_across, rows_given, default_given}
-use Rattle.net_eval.specs.Rows.{Taken, All, pair_of, has_two, shaped, with_rows, taken, either, with_statement}
+use Rattle.net_eval.specs.Rows.{KeyedParameter, named_as, Taken, All, pair_of, has_two, shaped, with_rows, taken, either, with_statement}
 use Rattle.net_eval.specs.SetData.{begins_at, without_points, whole_group, whole_groups, cut, leading_size, agrees, doubled}
 use Rattle.net_eval.proofs.RowsTaken.{then_ok, is_ok}
 use Rattle.net_eval.proofs.SoundGroups.{IsWholeFor, shape_whole}
@@ -199,13 +199,13 @@ record IsAccepted (widths : List ℕ) (size : ℕ) (a : Bool) (m : NamedData) (a
   pub once : (a || (is_some m.default && is_some all.1)) ≡ false
   pub default : more.1 ≡ either all.1 m.default
 
-statement_accepted : (widths : List ℕ) (n : Option ℕ) (index : List Tuple) (size : ℕ) (a : Bool) (m : NamedData) (all more : All) → with_statement widths n index size a m all ≡ Ok more → IsAccepted widths size a m all more
-statement_accepted widths n index size a m all more e =
-    then_ok (taken widths n index size m.word m.given (a || (is_some m.default && is_some all.1)) all.0) (λ t. Ok (t, either all.1 m.default)) more e (λ t i k.
-    then_ok (shaped widths size m.word m.given) (λ u. if a || (is_some m.default && is_some all.1) then doubled m.word else with_rows n index size m.word m.given all.0) t i (λ u j l.
+statement_accepted : (widths : List ℕ) (p : KeyedParameter) (size : ℕ) (a : Bool) (m : NamedData) (all more : All) → with_statement widths p size a m all ≡ Ok more → IsAccepted widths size a m all more
+statement_accepted widths p size a m all more e =
+    then_ok (taken widths (named_as m.word p) size m.given (a || (is_some m.default && is_some all.1)) all.0) (λ t. Ok (t, either all.1 m.default)) more e (λ t i k.
+    then_ok (shaped widths size m.word m.given) (λ u. if a || (is_some m.default && is_some all.1) then doubled m.word else with_rows (named_as m.word p) size m.given all.0) t i (λ u j l.
     record { given = u; shape = j; once = once t (a || (is_some m.default && is_some all.1)) l; default = ap (λ (z : All). z.1) (sym (is_ok (t, either all.1 m.default) more k)) }))
   where
-    once : (t : Taken) (b : Bool) → (if b then doubled m.word else with_rows n index size m.word m.given all.0) ≡ Ok t → b ≡ false
+    once : (t : Taken) (b : Bool) → (if b then doubled m.word else with_rows (named_as m.word p) size m.given all.0) ≡ Ok t → b ≡ false
     once t true i = cc
     once t false i = refl
 
@@ -235,16 +235,16 @@ one_default None (Some b) ts a e h = h
 one_default (Some d) None ts a e h = omega (arith, h)
 one_default (Some d) (Some b) ts a e h = let not_so = no_second a true true e refl in cc
 
-pub are_accepted : (widths : List ℕ) (n : Option ℕ) (index : List Tuple) (size : ℕ) (a : Bool) (ms : List NamedData) (all more : All) → AllByRecursion AreMembers ms → each (with_statement widths n index size a) ms all ≡ Ok more → AreAccepted size a all.1 ms
-are_accepted widths n index size a [] all more h e = record { whole = tt; rows = tt; assigned = inr refl; defaults = one all.1 }
+pub are_accepted : (widths : List ℕ) (p : KeyedParameter) (size : ℕ) (a : Bool) (ms : List NamedData) (all more : All) → AllByRecursion AreMembers ms → each (with_statement widths p size a) ms all ≡ Ok more → AreAccepted size a all.1 ms
+are_accepted widths p size a [] all more h e = record { whole = tt; rows = tt; assigned = inr refl; defaults = one all.1 }
   where
     one : (o : Option Token) → 0 + counted o ≤ 1
     one None = omega arith
     one (Some t) = omega arith
-are_accepted widths n index size a (m ∷ ms) all more h e =
-    then_ok (with_statement widths n index size a m all) (each (with_statement widths n index size a) ms) more e (λ next i k.
-    let first = statement_accepted widths n index size a m all next i in
-    let rest = are_accepted widths n index size a ms next more h.1 k in
+are_accepted widths p size a (m ∷ ms) all more h e =
+    then_ok (with_statement widths p size a m all) (each (with_statement widths p size a) ms) more e (λ next i k.
+    let first = statement_accepted widths p size a m all next i in
+    let rest = are_accepted widths p size a ms next more h.1 k in
     record {
       whole = (shape_whole widths size m first.given first.shape, rest.whole);
       rows = all_join (IsWhole size) (given_of size m) (flat_map (given_of size) ms) (rows_whole widths size m.word m.given first.given first.shape h.0.0) rest.rows;

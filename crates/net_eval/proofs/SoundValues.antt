@@ -35,11 +35,11 @@ use Rattle.net_expr.specs.Values.{value}
 use Rattle.net_expr.specs.Worlds.{Name, World, Scope, reference}
 use Rattle.net_eval.specs.declared.given.NamedData.{NamedData}
 use Rattle.net_eval.specs.BoundParameters as bound
-use Rattle.net_eval.specs.BoundParameters.{KeyedParameter, PlacedValues, source, from_source, some, takes_texts, cell_of, no_text, fit_kind, fit_value, fit_row, fit_values, keys_with}
+use Rattle.net_eval.specs.BoundParameters.{PlacedValues, source, from_source, some, takes_texts, cell_of, no_text, fit_kind, fit_value, fit_row, fit_values, keys_with}
 use Rattle.net_eval.specs.Cells.{member_in, tuple_in}
 use Rattle.net_eval.specs.ParameterValues.{row_value, default_given, IsValue}
 use Rattle.net_eval.specs.Restrictions.{restricted}
-use Rattle.net_eval.specs.Rows.{either}
+use Rattle.net_eval.specs.Rows.{KeyedParameter, either}
 use Rattle.net_eval.proofs.RowsTaken.{then_ok, is_ok}
 use Rattle.net_eval.proofs.SoundChecks.{as_key}
 use Rattle.net_eval.proofs.SoundRestrictions.{restrictions_are_sound}

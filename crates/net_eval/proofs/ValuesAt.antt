@@ -31,11 +31,11 @@ use Rattle.net_eval.specs.declared.given.Given.TheVariants as given
 use Rattle.net_eval.specs.declared.given.NamedData.{NamedData}
 use Rattle.net_tree.specs.Phrases.{is_becomes}
 use Rattle.net_tree.specs.PhraseValues.{phrase_value}
-use Rattle.net_eval.specs.BoundParameters.{KeyedParameter, placed, keyed, source_in, span_or, index_list, Source, source, source_text, source_at, from_source, insert_value, with_key, fit_values, untaken, data_of, valued_by, values, fill_table, with_data, bound_parameter}
+use Rattle.net_eval.specs.BoundParameters.{placed, keyed, source_in, span_or, index_list, Source, source, source_text, source_at, from_source, insert_value, with_key, fit_values, untaken, data_of, valued_by, values, fill_table, with_data, bound_parameter}
 use Rattle.net_eval.specs.Cells.{member_in, tuple_in}
 use Rattle.net_base.specs.Outcomes.{Outcome, and_then, each}
 use Rattle.net_eval.specs.ParameterValues.{rows_across, rows_given, row_value, values_given, default_given, IsValue, IsValueAt, IsValued}
-use Rattle.net_eval.specs.Rows.{Table, Taken, All, with_value, with_row, with_cell, with_group, across, pair_of, with_line, shaped, with_rows, taken, either, with_statement}
+use Rattle.net_eval.specs.Rows.{KeyedParameter, NamedParameter, named_as, Table, Taken, All, with_value, with_row, with_cell, with_group, across, pair_of, with_line, shaped, with_rows, taken, either, with_statement}
 use Rattle.net_eval.specs.SetData.{cut, begins_at, doubled}
 use Rattle.net_eval.proofs.RowsTaken.{then_ok, is_ok}
 use Rattle.net_expr.specs.Indexings.{alone, by_keys, indexing_in}
@@ -66,8 +66,8 @@ value_adds text at key m t u e = go _ (nat_lt (length t) tuples_limit) e
     go x true i = sym (is_ok (t ++ (key, m) ∷ []) u i)
     go x false i = cc
 
-row_adds : (word : Token) (n : Option ℕ) (index : List Tuple) (key : List Token) (value : Token) (t u : Taken) → with_row word n index key value t ≡ Ok u → u.0 ≡ t.0 ++ (tuple_in key, member_in value) ∷ []
-row_adds word n index key value t u e = go _ _ (at_key t.0 (tuple_in key)) (has index (tuple_in key)) e
+row_adds : (p : NamedParameter) (key : List Token) (value : Token) (t u : Taken) → with_row p key value t ≡ Ok u → u.0 ≡ t.0 ++ (tuple_in key, member_in value) ∷ []
+row_adds p key value t u e = go _ _ (at_key t.0 (tuple_in key)) (has p.index (tuple_in key)) e
   where
     next : Table → Outcome Taken
     next v = Ok (v, t.1 ++ value.span ∷ [])
@@ -81,44 +81,44 @@ row_adds word n index key value t u e = go _ _ (at_key t.0 (tuple_in key)) (has 
         then_ok (with_value Data (begins_at value.span key) (tuple_in key) (member_in value) t.0) next u l (λ v j r.
         ap (λ (z : Taken). z.0) (sym (is_ok (v, t.1 ++ value.span ∷ []) u r)) ∙ value_adds Data (begins_at value.span key) (tuple_in key) (member_in value) t.0 v j)
 
-cell_adds : (word : Token) (n : Option ℕ) (index : List Tuple) (key : List Token) (v : Option Token) (t u : Taken) → with_cell word n index key v t ≡ Ok u → Adds t u (row_of key v)
-cell_adds word n index key None t u e = adds_none t u (is_ok t u e)
-cell_adds word n index key (Some value) t u e = go (points value.kind) e
+cell_adds : (p : NamedParameter) (key : List Token) (v : Option Token) (t u : Taken) → with_cell p key v t ≡ Ok u → Adds t u (row_of key v)
+cell_adds p key None t u e = adds_none t u (is_ok t u e)
+cell_adds p key (Some value) t u e = go (points value.kind) e
   where
     row : DataRow
     row = record { keys = key; value = value }
 
-    go : (b : Bool) → (if b then (let o : Outcome Taken = Ok t in o) else with_row word n index key value t) ≡ Ok u → Adds t u (if b then [] else row ∷ [])
+    go : (b : Bool) → (if b then (let o : Outcome Taken = Ok t in o) else with_row p key value t) ≡ Ok u → Adds t u (if b then [] else row ∷ [])
     go true i = adds_none t u (is_ok t u i)
-    go false i = row_adds word n index key value t u i
+    go false i = row_adds p key value t u i
 
-across_adds : (word : Token) (n : Option ℕ) (index : List Tuple) (turned : Bool) (row : Token) (cs cells : List Token) (t u : Taken) → across word n index turned row cs cells t ≡ Ok u
+across_adds : (p : NamedParameter) (turned : Bool) (row : Token) (cs cells : List Token) (t u : Taken) → across p turned row cs cells t ≡ Ok u
     → Adds t u (flat_map (λ pair. row_of (pair_of turned row pair.0) (Some pair.1)) (zip cs cells))
-across_adds word n index turned row [] cells t u e = adds_none t u (is_ok t u e)
-across_adds word n index turned row (c ∷ cs) [] t u e = adds_none t u (is_ok t u e)
-across_adds word n index turned row (c ∷ cs) (cell ∷ cells) t u e =
-    then_ok (with_cell word n index (pair_of turned row c) (Some cell) t) (across word n index turned row cs cells) u e (λ v i k.
+across_adds p turned row [] cells t u e = adds_none t u (is_ok t u e)
+across_adds p turned row (c ∷ cs) [] t u e = adds_none t u (is_ok t u e)
+across_adds p turned row (c ∷ cs) (cell ∷ cells) t u e =
+    then_ok (with_cell p (pair_of turned row c) (Some cell) t) (across p turned row cs cells) u e (λ v i k.
     adds_join t v u (row_of (pair_of turned row c) (Some cell)) (flat_map (λ pair. row_of (pair_of turned row pair.0) (Some pair.1)) (zip cs cells))
-    (cell_adds word n index (pair_of turned row c) (Some cell) t v i) (across_adds word n index turned row cs cells v u k))
+    (cell_adds p (pair_of turned row c) (Some cell) t v i) (across_adds p turned row cs cells v u k))
 
-line_adds : (word : Token) (n : Option ℕ) (index : List Tuple) (turned : Bool) (columns line : List Token) (t u : Taken) → with_line word n index turned columns line t ≡ Ok u → Adds t u (rows_across turned columns line)
-line_adds word n index turned columns [] t u e = adds_none t u (is_ok t u e)
-line_adds word n index turned columns (row ∷ cells) t u e = across_adds word n index turned row columns cells t u e
+line_adds : (p : NamedParameter) (turned : Bool) (columns line : List Token) (t u : Taken) → with_line p turned columns line t ≡ Ok u → Adds t u (rows_across turned columns line)
+line_adds p turned columns [] t u e = adds_none t u (is_ok t u e)
+line_adds p turned columns (row ∷ cells) t u e = across_adds p turned row columns cells t u e
 
-rows_add : (n : Option ℕ) (index : List Tuple) (size : ℕ) (word : Token) (g : Given) (t u : Taken) → with_rows n index size word g t ≡ Ok u → Adds t u (rows_given size g)
-rows_add n index size word (given.Members ts) t u e = adds_none t u (is_ok t u e)
-rows_add n index size word (given.Groups g) t u e =
-    each_adds (with_group word n index size g.place) (λ group. row_of (take size group) (slice_get group (size + g.place)))
-    (λ x b c i. cell_adds word n index (take size x) (slice_get x (size + g.place)) b c i) (cut (size + g.values) g.cells) t u e
-rows_add n index size word (given.Grid g) t u e =
-    each_adds (with_line word n index g.transposed g.columns) (rows_across g.transposed g.columns) (λ x b c i. line_adds word n index g.transposed g.columns x b c i) (cut (1 + length g.columns) g.cells) t u e
+rows_add : (p : NamedParameter) (size : ℕ) (g : Given) (t u : Taken) → with_rows p size g t ≡ Ok u → Adds t u (rows_given size g)
+rows_add p size (given.Members ts) t u e = adds_none t u (is_ok t u e)
+rows_add p size (given.Groups g) t u e =
+    each_adds (with_group p size g.place) (λ group. row_of (take size group) (slice_get group (size + g.place)))
+    (λ x b c i. cell_adds p (take size x) (slice_get x (size + g.place)) b c i) (cut (size + g.values) g.cells) t u e
+rows_add p size (given.Grid g) t u e =
+    each_adds (with_line p g.transposed g.columns) (rows_across g.transposed g.columns) (λ x b c i. line_adds p g.transposed g.columns x b c i) (cut (1 + length g.columns) g.cells) t u e
 
-taken_adds : (widths : List ℕ) (n : Option ℕ) (index : List Tuple) (size : ℕ) (word : Token) (g : Given) (b : Bool) (t u : Taken) → taken widths n index size word g b t ≡ Ok u → Adds t u (rows_given size g)
-taken_adds widths n index size word g b t u e = then_ok (shaped widths size word g) (λ v. if b then doubled word else with_rows n index size word g t) u e (λ v i k. go b k)
+taken_adds : (widths : List ℕ) (p : NamedParameter) (size : ℕ) (g : Given) (b : Bool) (t u : Taken) → taken widths p size g b t ≡ Ok u → Adds t u (rows_given size g)
+taken_adds widths p size g b t u e = then_ok (shaped widths size p.word g) (λ v. if b then doubled p.word else with_rows p size g t) u e (λ v i k. go b k)
   where
-    go : (c : Bool) → (if c then doubled word else with_rows n index size word g t) ≡ Ok u → Adds t u (rows_given size g)
+    go : (c : Bool) → (if c then doubled p.word else with_rows p size g t) ≡ Ok u → Adds t u (rows_given size g)
     go true k = cc
-    go false k = rows_add n index size word g t u k
+    go false k = rows_add p size g t u k
 
 either_none : (c : Option Token) → either c None ≡ c
 either_none None = refl
@@ -133,17 +133,17 @@ pub record AddsAll (size : ℕ) (all more : All) (ms : List NamedData) : Type 0 
   pub values : Adds all.0 more.0 (flat_map (λ (m : NamedData). rows_given size m.given) ms)
   pub default : more.1 ≡ either all.1 (default_given ms)
 
-pub statements_add : (widths : List ℕ) (n : Option ℕ) (index : List Tuple) (size : ℕ) (a : Bool) (ms : List NamedData) (all more : All) → each (with_statement widths n index size a) ms all ≡ Ok more → AddsAll size all more ms
-statements_add widths n index size a [] all more e =
+pub statements_add : (widths : List ℕ) (p : KeyedParameter) (size : ℕ) (a : Bool) (ms : List NamedData) (all more : All) → each (with_statement widths p size a) ms all ≡ Ok more → AddsAll size all more ms
+statements_add widths p size a [] all more e =
     let same = is_ok all more e in
     record { values = adds_none all.0 more.0 (ap (λ (z : All). z.0) same); default = ap (λ (z : All). z.1) (sym same) ∙ sym (either_none all.1) }
-statements_add widths n index size a (m ∷ ms) all more e =
-    then_ok (with_statement widths n index size a m all) (each (with_statement widths n index size a) ms) more e (λ one i k.
+statements_add widths p size a (m ∷ ms) all more e =
+    then_ok (with_statement widths p size a m all) (each (with_statement widths p size a) ms) more e (λ one i k.
     let twice : Bool = a || (is_some m.default && is_some all.1) in
-    let rest = statements_add widths n index size a ms one more k in
-    then_ok (taken widths n index size m.word m.given twice all.0) (λ t. Ok (t, either all.1 m.default)) one i (λ t j l.
+    let rest = statements_add widths p size a ms one more k in
+    then_ok (taken widths (named_as m.word p) size m.given twice all.0) (λ t. Ok (t, either all.1 m.default)) one i (λ t j l.
     let same = is_ok (t, either all.1 m.default) one l in
-    let first : Adds all.0 one.0 (rows_given size m.given) = subst (λ (z : All). Adds all.0 z.0 (rows_given size m.given)) same (taken_adds widths n index size m.word m.given twice all.0 t j) in
+    let first : Adds all.0 one.0 (rows_given size m.given) = subst (λ (z : All). Adds all.0 z.0 (rows_given size m.given)) same (taken_adds widths (named_as m.word p) size m.given twice all.0 t j) in
     record {
       values = adds_join all.0 one.0 more.0 (rows_given size m.given) (flat_map (λ (x : NamedData). rows_given size x.given) ms) first rest.values;
       default = rest.default ∙ ap (λ (z : All). either z.1 (default_given ms)) (sym same) ∙ either_join all.1 m.default (default_given ms);
@@ -260,8 +260,8 @@ keys_once w (Some b) i sets e =
 pub table_valued : (w : World) (ws : List ℕ) (p : KeyedParameter) (ms : List NamedData) (rows : List Row) (t : Table) → IsDistinct same_tuple (keys_of rows) → fill_table w ws p ms rows ≡ Ok t
     → AllByRecursion (IsValueAt w p.phrases (values_given (key_count p.keys) ms) ms t) rows
 table_valued w ws p ms rows t once e =
-    then_ok (data_of ws p.keys p.index (is_some (phrase_value is_becomes p.phrases)) ms) (λ all. values w p (source_in p all.1) rows all.0) t e (λ all i j.
-    let adds = statements_add ws p.keys p.index (key_count p.keys) (is_some (phrase_value is_becomes p.phrases)) ms untaken all i in
+    then_ok (data_of ws p (is_some (phrase_value is_becomes p.phrases)) ms) (λ all. values w p (source_in p all.1) rows all.0) t e (λ all i j.
+    let adds = statements_add ws p (key_count p.keys) (is_some (phrase_value is_becomes p.phrases)) ms untaken all i in
     let fill_table = values_filled w p (source_in p all.1) rows all.0 t once j in
     let by : (given : Table) (x : Source) → Type 0 = λ given x. AllByRecursion (λ (r : Row). IsValue (at_key given r.key) (from_source w r.scope x) (at_key t r.key)) rows in
     subst (λ x. by (values_given (key_count p.keys) ms) x) (ap (source_in p) adds.default)

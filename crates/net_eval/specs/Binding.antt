@@ -13,7 +13,8 @@ use Rattle.net_expr.specs.declared.world.Entry.{Entry}
 use Rattle.net_expr.specs.declared.world.Entry.TheVariants.{Set, Parameter}
 use Rattle.net_expr.specs.Operators.{truth}
 use Rattle.net_expr.specs.Values.{value}
-use Rattle.net_expr.specs.Worlds.{Name, World, key_count, entry_of}
+use Rattle.net_sets.specs.Names.{named}
+use Rattle.net_expr.specs.Worlds.{Name, World, key_count}
 use Rattle.net_base.specs.declared.error_code.ErrorCode.TheVariants.{CheckFailed}
 use Rattle.net_base.specs.Outcomes.{Outcome, and_then, each, rejected_as}
 use Rattle.net_eval.specs.declared.given.NamedData.{NamedData}
@@ -93,9 +94,9 @@ AreNew known (arc k n b ps e ∷ ds) = AreNew known ds
 AreNew known (objective k n p e ∷ ds) = AreNew known ds
 
 -- a set or parameter whose name is not declared yet
-abbrev pub IsFresh : World → Declaration → Type 0
-IsFresh w (set k n ps e) = entry_of w n.text ≡ None
-IsFresh w (param k n b ps e) = entry_of w n.text ≡ None
+abbrev pub IsFresh : {T : Type 0} → List (Name × T) → Declaration → Type 0
+IsFresh w (set k n ps e) = named w n.text ≡ None
+IsFresh w (param k n b ps e) = named w n.text ≡ None
 IsFresh w (check k b m x e) = Unit {0}
 IsFresh w (node k n b c e) = Unit {0}
 IsFresh w (arc k n b ps e) = Unit {0}

@@ -33,7 +33,7 @@ use Rattle.net_eval.specs.declared.given.NamedData.{NamedData}
 use Rattle.net_eval.specs.Cells.{member_in}
 use Rattle.net_base.specs.Outcomes.{Outcome, and_then, each, rejected, rejected_as}
 use Rattle.net_eval.specs.Restrictions.{restricted}
-use Rattle.net_eval.specs.Rows.{Table, Taken, All, with_value, with_statement}
+use Rattle.net_eval.specs.Rows.{KeyedParameter, Table, Taken, All, with_value, with_statement}
 
 abbrev pub is_symbolic : Role → Bool
 is_symbolic (roles.Phrase begins.Symbolic) = true
@@ -115,14 +115,6 @@ fit_kind texts text at cell m = if texts || is_number m then Ok tt else no_text 
 abbrev pub keys_with : Table → List Tuple
 keys_with t = map (λ (e : Tuple × Member). e.0) t
 
--- a declared parameter: its name, the number of members of its keys (none without indexing), its
--- index set and its phrases
-pub record KeyedParameter : Type 0 where
-  pub name : Token
-  pub keys : Option ℕ
-  pub index : List Tuple
-  pub phrases : List Phrase
-
 -- values with their origins: first those from these cells of the data, row by row, then those from
 -- the source in this file and at this span
 pub record PlacedValues : Type 0 where
@@ -149,8 +141,8 @@ abbrev pub untaken : All
 untaken = (([], []), None)
 
 -- the content of all statements, in order
-abbrev pub data_of : List ℕ → Option ℕ → List Tuple → Bool → List NamedData → Outcome All
-data_of widths n index is_assigned ms = each (with_statement widths n index (key_count n) is_assigned) ms untaken
+abbrev pub data_of : List ℕ → KeyedParameter → Bool → List NamedData → Outcome All
+data_of widths p is_assigned ms = each (with_statement widths p (key_count p.keys) is_assigned) ms untaken
 
 -- the values of a table after the data and the source were read
 abbrev pub placed : KeyedParameter → Source → Taken → Table → PlacedValues
@@ -170,7 +162,7 @@ source_in p default = source (phrase_value is_becomes p.phrases) default (phrase
 -- the table: the values from the data, then the missing values
 abbrev pub fill_table : World → List ℕ → KeyedParameter → List NamedData → List Row → Outcome Table
 fill_table w widths p ms rows =
-    and_then (data_of widths p.keys p.index (is_some (phrase_value is_becomes p.phrases)) ms) (λ all. values w p (source_in p all.1) rows all.0)
+    and_then (data_of widths p (is_some (phrase_value is_becomes p.phrases)) ms) (λ all. values w p (source_in p all.1) rows all.0)
 
 abbrev pub with_data : World → List ℕ → KeyedParameter → List NamedData → List Row → Outcome Entry
 with_data w widths p ms rows = and_then (fill_table w widths p ms rows) (λ t. Ok (Parameter p.keys p.index t))

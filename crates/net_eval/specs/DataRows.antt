@@ -13,27 +13,27 @@ use Rattle.net_data.specs.Rows.{Row, rows, key_rows}
 use Rattle.net_data.specs.Tests.{is_mark}
 use Rattle.net_eval.specs.DataByName.{grouped, gridded, given_cells}
 use Rattle.net_base.specs.Outcomes.{Outcome, each}
-use Rattle.net_eval.specs.Rows.{Taken, with_row, with_rows}
+use Rattle.net_eval.specs.Rows.{NamedParameter, Taken, with_row, with_rows}
 use Rattle.net_eval.specs.SetData.{set_rows, cut}
 
 -- adds the rows in order
-abbrev pub taken_rows : Token → Option ℕ → List Tuple → List Row → Taken → Outcome Taken
-taken_rows word n index all t = each (λ (r : Row). with_row word n index r.keys r.value) all t
+abbrev pub taken_rows : NamedParameter → List Row → Taken → Outcome Taken
+taken_rows p all t = each (λ (r : Row). with_row p r.keys r.value) all t
 
 -- a parameter alone in its statement
 abbrev pub TakesLists : Type 0
-TakesLists = (word : Token) (n : Option ℕ) (index : List Tuple) (size leader : ℕ) (s : ListStatement) (t : Taken)
-    → with_rows n index size word (grouped leader 1 0 (given_cells s.given)) t ≡ taken_rows word n index (rows size 0 (Listed s)) t
+TakesLists = (p : NamedParameter) (size leader : ℕ) (s : ListStatement) (t : Taken)
+    → with_rows p size (grouped leader 1 0 (given_cells s.given)) t ≡ taken_rows p (rows size 0 (Listed s)) t
 
 -- a table
 abbrev pub TakesTables : Type 0
-TakesTables = (word : Token) (n : Option ℕ) (index : List Tuple) (size : ℕ) (s : TableStatement) (t : Taken)
-    → with_rows n index size word (gridded (is_some s.transposed) s.columns s.cells) t ≡ taken_rows word n index (rows size 0 (Tabled s)) t
+TakesTables = (p : NamedParameter) (size : ℕ) (s : TableStatement) (t : Taken)
+    → with_rows p size (gridded (is_some s.transposed) s.columns s.cells) t ≡ taken_rows p (rows size 0 (Tabled s)) t
 
 -- the parameter with an index in a heading
 abbrev pub TakesColumns : Type 0
-TakesColumns = (word : Token) (n : Option ℕ) (index : List Tuple) (size leader place : ℕ) (s : ColumnsStatement) (t : Taken) → place < length s.names
-    → with_rows n index size word (grouped leader (length s.names) place s.cells) t ≡ taken_rows word n index (rows size place (Columns s)) t
+TakesColumns = (p : NamedParameter) (size leader place : ℕ) (s : ColumnsStatement) (t : Taken) → place < length s.names
+    → with_rows p size (grouped leader (length s.names) place s.cells) t ≡ taken_rows p (rows size place (Columns s)) t
 
 -- a set; its items end before the semicolon
 abbrev pub TakesMembers : Type 0

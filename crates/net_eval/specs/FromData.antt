@@ -1,15 +1,21 @@
 -- Parameters whose values all come from the data: nothing is evaluated at a key.
 use Rattle.std.specs.Prelude.{◌≡◌, Bool, true, false, ◌&&◌, ◌||◌, List, [], ◌∷◌, Option, None, Some, is_some, Result, Ok, Err, ⊤}
-use Rattle.net_base.specs.declared.fault.Fault.{Fault}
-use Rattle.net_base.specs.declared.fault.Fault.TheVariants.{OutOfMemory, At}
-use Rattle.net_base.specs.Outcomes.{Outcome}
+use Rattle.net_base.specs.declared.diagnostic.Fault.{Fault}
+use Rattle.net_base.specs.declared.diagnostic.Fault.TheVariants.{OutOfMemory, At}
+use Rattle.net_base.specs.Outcomes.{Outcome, and_then}
 use Rattle.net_sets.specs.declared.member.Member.{Member}
 use Rattle.net_tree.specs.declared.role.Relation.{Relation}
 use Rattle.net_tree.specs.Numerals.{number_of}
+use Rattle.net_tree.specs.Phrases.{is_becomes, is_default}
+use Rattle.net_tree.specs.PhraseValues.{phrase_value}
+use Rattle.net_tree.specs.Spans.{span_of}
 use Rattle.net_tree.specs.Tree.{Tree, leaf, Body, plain, valued, priced, Phrase}
 use Rattle.net_expr.specs.declared.world.Entry.{Entry}
+use Rattle.net_expr.specs.Operators.{member}
+use Rattle.net_expr.specs.Values.{value}
 use Rattle.net_expr.specs.Worlds.{World, reference}
-use Rattle.net_eval.specs.BoundParameters.{KeyedParameter, is_number, takes_texts}
+use Rattle.net_eval.specs.BoundParameters.{source, is_number, takes_texts}
+use Rattle.net_eval.specs.Rows.{KeyedParameter}
 use Rattle.net_eval.specs.Restrictions.{relation, restricted}
 
 -- a numeral, which has the same value at each key
@@ -29,6 +35,19 @@ are_constant (p ∷ ps) = compares (relation p.word) p.body && are_constant ps
 -- a value is of the parameter's kind, and its phrases allow it
 abbrev pub Fits : World → KeyedParameter → Member → Type 0
 Fits w p m = ((takes_texts p.phrases || is_number m) ≡ true) × (restricted w [] (reference p.name.text p.keys []) m p.phrases ≡ Ok tt)
+
+-- an expression is a numeral with this value
+pub record IsNumeral (w : World) (x : Tree) (m : Member) : Type 0 where
+  pub numeral : is_numeral x ≡ true
+  pub valued : and_then (value w [] x) (member (span_of x)) ≡ Ok m
+
+-- the phrases give this value at each key without one
+abbrev pub IsGiven : World → Option Tree → Member → Type 0
+IsGiven w None m = ⊥
+IsGiven w (Some x) m = IsNumeral w x m
+
+abbrev pub IsSame : World → List Phrase → Member → Type 0
+IsSame w ps = IsGiven w (source (phrase_value is_becomes ps) None (phrase_value is_default ps)).0
 
 -- what is returned, if anything is, is what is wanted
 abbrev pub Answers : Outcome Entry → Result (Option Entry) Fault → Type 0

@@ -1,6 +1,5 @@
 pub mod Cells
 pub mod Names
-pub mod Consistent
 pub mod DataByName
 pub mod Factors
 pub mod Supersets

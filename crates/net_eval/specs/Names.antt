@@ -1,9 +1,9 @@
 -- The sets and parameters that a model declares, and how data refer to them.
-use Rattle.std.specs.Prelude.{ℕ, ◌+◌, Bool, true, false, List, [], ◌∷◌, Option, None, Some, if◌then◌else◌, Ok}
-use Rattle.std.specs.Str.{bytes_eq}
+use Rattle.std.specs.Prelude.{ℕ, Bool, true, false, List, [], ◌∷◌, Option, None, Some, if◌then◌else◌, Ok}
 use Rattle.net_base.specs.declared.diagnostic.Language.TheVariants.{Data}
 use Rattle.net_lex.specs.declared.token.Token.{Token}
 use Rattle.net_base.specs.declared.diagnostic.Detail.TheVariants.{Reported}
+use Rattle.net_sets.specs.Names.{located}
 use Rattle.net_expr.specs.Worlds.{Name}
 use Rattle.net_tree.specs.Tree.{Declaration, set, param, check, node, arc, objective}
 use Rattle.net_base.specs.declared.error_code.ErrorCode.TheVariants.{NoSuchName}
@@ -22,11 +22,6 @@ declared (node w n b c e ∷ ds) = declared ds
 declared (arc w n b ps e ∷ ds) = declared ds
 declared (objective w n p e ∷ ds) = declared ds
 
--- the index of a name plus i, and whether it is a set
-abbrev pub index_after : ℕ → Declared → Name → Option (ℕ × Bool)
-index_after i [] name = None
-index_after i (d ∷ ds) name = if bytes_eq d.0 name then Some (i, d.1) else index_after (i + 1) ds name
-
 -- the index of a set, or of a parameter
 abbrev pub as_wanted : Bool → Option (ℕ × Bool) → Option ℕ
 as_wanted is_set None = None
@@ -39,4 +34,4 @@ at_place t (Some i) = Ok i
 
 -- the index of the set or the parameter that a token in the data names
 abbrev pub target : Declared → Bool → Token → Outcome ℕ
-target ds is_set t = at_place t (as_wanted is_set (index_after 0 ds t.text))
+target ds is_set t = at_place t (as_wanted is_set (located 0 ds t.text))

@@ -5,8 +5,8 @@ ghost use Rattle.net_data.specs.declared.statement.Statement.TheVariants as Stat
 ghost use Rattle.net_eval.specs.DataByName as named_data;
 ghost use Rattle.net_base.specs.Outcomes.{Refines, Updates};
 
+use crate::declared_names::Names;
 use crate::given::{DataFor, Given, Grid, Groups, Line, NamedData};
-use crate::names::Names;
 use net_base::{Fault, Items};
 use net_data::{
     ColumnsStatement, DefaultValue, ListStatement, NamedSet, SetStatement, Statement,
@@ -232,7 +232,7 @@ fn no_data<'m, 't, 's>(
     ensures { IfOk result (λ all. all.items ≡ named_data.no_data names.now) }
 {
     let mut all: Vec<DataFor<'m, 't, 's>> = Vec::new(alloc);
-    for _name in names.names() {
+    for _index in 0..names.len() {
         all.push(DataFor {
             named_data: Vec::new(alloc),
         })?;

@@ -10,10 +10,10 @@ ghost use Rattle.net_expr.specs.declared.value.Value.TheVariants.{Many};
 ghost use Rattle.net_eval.specs.Factors as forms;
 ghost use Rattle.net_tree.specs.Operations.{operation};
 
-use crate::stored::{StoredSet, unboxed, value_of};
+use crate::boxed_values::{StoredSet, unboxed, value_of};
 use crate::superset::Superset;
 use net_expr::{Env, Value};
-use net_sets::{Cow, TUPLES_LIMIT, TupleSet, narrowest, widest};
+use net_sets::{ARITY_LIMIT, Cow, TUPLES_LIMIT, TupleSet, narrowest, widest};
 use net_tree::{BinOp, Expr, Link, Operator};
 use std::alloc::Global;
 
@@ -112,8 +112,8 @@ fn counted(dimension: Option<u8>) -> usize
 fn can_part(d: Option<u8>, first: &TupleSet<'_>, e: Option<u8>, second: &TupleSet<'_>) -> bool
     ensures { result ≡ forms.can_part d first.now e second.now }
 {
-    counted(d) + counted(e) <= 4
-        && widest(first) + widest(second) <= 4
+    counted(d) + counted(e) <= ARITY_LIMIT
+        && widest(first) + widest(second) <= ARITY_LIMIT
         && widest(first) <= narrowest(first)
         && first.len() * second.len() <= TUPLES_LIMIT
 }

@@ -12,7 +12,7 @@ ghost use Rattle.net_sets.specs.Sets.{same_tuple};
 ghost use Rattle.net_eval.specs.DeclaredKeys.{HasKeys, IsProduct, NamesSet};
 
 use net_expr::{Env, Scope, evaluate, set_of_braces};
-use net_sets::{Cow, SharedSet, Tuple, TupleSet, cross, widest};
+use net_sets::{ARITY_LIMIT, Cow, SharedSet, Tuple, TupleSet, cross, widest};
 use net_tree::{Braces, Expr};
 use std::alloc::{AllocError, Global};
 
@@ -136,10 +136,10 @@ fn product_of<'s>(
         return Ok(None);
     };
     let (width, more) = (one.len(), other.len());
-    if !are_wide(first, width) || !are_wide(second, more) || 4 < width + more {
+    if !are_wide(first, width) || !are_wide(second, more) || ARITY_LIMIT < width + more {
         return Ok(None);
     }
-    if 4 < widest(first) + widest(second) {
+    if ARITY_LIMIT < widest(first) + widest(second) {
         return Ok(None);
     }
     match cross(alloc, first, second) {

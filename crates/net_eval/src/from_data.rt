@@ -1,9 +1,11 @@
-//! Parameters whose values all come from the data. Nothing is evaluated at their keys, so no row
-//! with dummies is needed for a key.
+//! Parameters whose values all come from the data, or from one numeral. Nothing is evaluated at
+//! their keys, so no row with dummies is needed for a key.
 
 ghost use Rattle.std.specs.Prelude.{◌≡◌, ◌∷◌, [], Ok, IsTrue, List, map};
 ghost use Rattle.std.specs.List.{AllByRecursion};
+ghost use Rattle.std.specs.Option.{IfSome};
 ghost use Rattle.net_tree.specs.View.{tree, phrase_of};
+ghost use Rattle.net_base.specs.declared.diagnostic.Span.{Span as Position};
 ghost use Rattle.net_expr.specs.declared.row.Row.{Row as Place};
 ghost use Rattle.net_eval.specs.BoundParameters as bound;
 ghost use Rattle.net_eval.specs.FromData as from_data;
@@ -11,15 +13,15 @@ ghost use Rattle.net_eval.specs.ParameterViews.{parameter_of};
 ghost use Rattle.net_eval.specs.Restrictions as restrictions;
 ghost use Rattle.net_expr.specs.Worlds.{reference};
 
+use crate::bind_world::BindingEnv;
+use crate::data_row::Values;
 use crate::given::NamedData;
-use crate::param::{Parameter, is_number, parameter_entry, takes_texts};
 use crate::param_data::data_of;
+use crate::parameter::{Parameter, is_number, parameter_entry, takes_texts};
 use crate::restriction::{KeyedValue, relation_of, restricted};
-use crate::row::Values;
-use crate::world::BindingEnv;
 use net_base::{Boxed, Fault};
-use net_expr::{Entry, Env, Row, Scope};
-use net_sets::{Member, Table, Tuple};
+use net_expr::{Entry, Env, Row, Scope, member};
+use net_sets::{KeyValues, Member, Table, Tuple};
 use net_tree::{Body, Expr, Phrase, PhraseWord, phrase_value};
 use std::alloc::Global;
 
@@ -175,5 +177,58 @@ pub(crate) fn from_data_alone<'s>(
     if !values_fit(alloc, earlier, parameter, &values) {
         return Ok(None);
     }
-    Ok(Some(parameter_entry(alloc, parameter, values.into_table())?))
+    let values = KeyValues::of_table(values.into_table());
+    Ok(Some(parameter_entry(alloc, parameter, values)?))
+}
+
+/// Returns the value of an expression if it is a numeral.
+fn numeral_of<'s>(alloc: Global, env: &Env<'_, 's>, expr: &Expr<'s>) -> Option<Member<'s>>
+    ensures { IfSome result (from_data.IsNumeral env.now (tree expr.now)) }
+{
+    if !is_numeral(expr) {
+        return None;
+    }
+    match member(alloc, env, &Scope::new(alloc), expr) {
+        Ok(member) => Some(member),
+        Err(_) => None,
+    }
+}
+
+/// Returns the value at each key of a parameter without data, if a numeral gives it.
+fn same_value<'s>(alloc: Global, env: &Env<'_, 's>, phrases: &[Phrase<'s>]) -> Option<Member<'s>>
+    ensures { IfSome result (from_data.IsSame env.now (map phrase_of phrases.now)) }
+{
+    let assigned = phrase_value(PhraseWord::Becomes, phrases);
+    match assigned {
+        Some(expr) => numeral_of(alloc, env, expr),
+        None => match phrase_value(PhraseWord::Default, phrases) {
+            Some(expr) => numeral_of(alloc, env, expr),
+            None => None,
+        },
+    }
+}
+
+/// Evaluates a parameter without data if one numeral gives the values at all keys, and that value is
+/// not rejected. Otherwise returns `None`.
+pub(crate) fn same_everywhere<'s>(
+    alloc: Global,
+    earlier: &BindingEnv<'_, 's>,
+    parameter: &Parameter<'_, 's>,
+) -> Result<Option<Boxed<Entry<'s>>>, Fault>
+    ensures { (rows : List Place) → ((at : Position) → bound.index_list at rows ≡ Ok parameter.now.index.now) → from_data.Answers (bound.with_data
+        earlier.now.env earlier.now.widths.now (parameter_of parameter.now) [] rows) result }
+{
+    let env = &earlier.env;
+    let phrases = parameter.phrases;
+    if !are_constant(phrases) {
+        return Ok(None);
+    }
+    let Some(member) = same_value(alloc, env, phrases) else {
+        return Ok(None);
+    };
+    if !fits(alloc, env, parameter, takes_texts(phrases), &member) {
+        return Ok(None);
+    }
+    let values = KeyValues::same(parameter.index.copied()?, member);
+    Ok(Some(parameter_entry(alloc, parameter, values)?))
 }

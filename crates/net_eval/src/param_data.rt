@@ -3,14 +3,15 @@
 ghost use Rattle.std.specs.Prelude.{◌≡◌, [], None};
 ghost use Rattle.net_expr.specs.Worlds.{key_count};
 ghost use Rattle.net_eval.specs.declared.given.Given.TheVariants as given;
+ghost use Rattle.net_eval.specs.ParameterViews.{named_of, parameter_of};
 ghost use Rattle.net_eval.specs.Rows as rows;
 ghost use Rattle.net_base.specs.Outcomes.{Updates, each};
 
+use crate::cell_group::whole_rows;
+use crate::data_row::{NamedParameter, Values, pair_of, with_cell, with_groups};
 use crate::given::{Given, Grid, Groups, Line, NamedData};
-use crate::group::whole_rows;
-use crate::param::Parameter;
-use crate::row::{NamedParameter, Values, pair_of, with_cell, with_groups};
-use crate::set::{agrees, doubled, leading_size};
+use crate::parameter::Parameter;
+use crate::set_declaration::{agrees, doubled, leading_size};
 use net_base::Fault;
 use net_data::Word;
 use net_expr::key_count;
@@ -25,7 +26,7 @@ fn across<'t, 's>(
     cells: &[Word<'t, 's>],
     values: &mut Values<'s>,
 ) -> Result<(), Fault>
-    ensures { Updates (rows.across parameter.now.word.now parameter.now.keys parameter.now.index.now grid.now.transposed row.now grid.now.columns
+    ensures { Updates (rows.across (named_of parameter.now) grid.now.transposed row.now grid.now.columns
         cells.now values.old) result values.new }
 {
     for (place, column) in grid.columns.cells().iter().enumerate() {
@@ -46,7 +47,7 @@ fn with_lines<'t, 's>(
     lines: &[Line<'_, 't, 's>],
     values: &mut Values<'s>,
 ) -> Result<(), Fault>
-    ensures { Updates (each (rows.with_line parameter.now.word.now parameter.now.keys parameter.now.index.now grid.now.transposed grid.now.columns)
+    ensures { Updates (each (rows.with_line (named_of parameter.now) grid.now.transposed grid.now.columns)
         lines.now values.old) result values.new }
 {
     for line in lines {
@@ -66,8 +67,8 @@ fn grouped<'t, 's>(
     is_doubled: bool,
     values: &mut Values<'s>,
 ) -> Result<(), Fault>
-    ensures { Updates (rows.taken widths.now parameter.now.keys parameter.now.index.now (key_count parameter.now.keys) parameter.now.word.now
-        (given.Groups groups.now) is_doubled values.old) result values.new }
+    ensures { Updates (rows.taken widths.now (named_of parameter.now) (key_count parameter.now.keys) (given.Groups groups.now) is_doubled
+        values.old) result values.new }
 {
     let word = parameter.word;
     let size = key_count(parameter.keys);
@@ -95,8 +96,7 @@ fn gridded<'t, 's>(
     is_doubled: bool,
     values: &mut Values<'s>,
 ) -> Result<(), Fault>
-    ensures { Updates (rows.taken [] parameter.now.keys parameter.now.index.now (key_count parameter.now.keys) parameter.now.word.now
-        (given.Grid grid.now) is_doubled values.old) result values.new }
+    ensures { Updates (rows.taken [] (named_of parameter.now) (key_count parameter.now.keys) (given.Grid grid.now) is_doubled values.old) result values.new }
 {
     let word = parameter.word;
     agrees(word, key_count(parameter.keys), 2)?;
@@ -118,7 +118,7 @@ fn taken<'t, 's>(
     is_doubled: bool,
     values: &mut Values<'s>,
 ) -> Result<(), Fault>
-    ensures { Updates (rows.taken widths.now parameter.now.keys parameter.now.index.now (key_count parameter.now.keys) parameter.now.word.now said.now
+    ensures { Updates (rows.taken widths.now (named_of parameter.now) (key_count parameter.now.keys) said.now
         is_doubled values.old) result values.new }
 {
     match said {
@@ -155,7 +155,7 @@ pub(crate) fn data_of<'t, 's>(
     named_data: &[NamedData<'_, 't, 's>],
     values: &mut Values<'s>,
 ) -> Result<Option<Word<'t, 's>>, Fault>
-    ensures { rows.Gives (each (rows.with_statement widths.now parameter.now.keys parameter.now.index.now (key_count parameter.now.keys) is_assigned)
+    ensures { rows.Gives (each (rows.with_statement widths.now (parameter_of parameter.now) (key_count parameter.now.keys) is_assigned)
         named_data.now (values.old, None)) result values.new }
 {
     let mut default: Option<Word<'t, 's>> = None;

@@ -4,7 +4,7 @@ ghost use Rattle.std.specs.Prelude.{◌≡◌, IfOk, map};
 ghost use Rattle.net_tree.specs.View.{tree, body_of, phrase_of};
 ghost use Rattle.net_base.specs.Outcomes.{Refines, diagnostic_at};
 ghost use Rattle.net_base.specs.declared.error_code.ErrorCode.TheVariants.{Restriction};
-ghost use Rattle.net_base.specs.declared.fault.Fault.TheVariants.{At};
+ghost use Rattle.net_base.specs.declared.diagnostic.Fault.TheVariants.{At};
 ghost use Rattle.net_base.specs.declared.diagnostic.Language.TheVariants.{Model};
 ghost use Rattle.net_eval.specs.Restrictions as restrictions;
 ghost use Rattle.net_expr.specs.Numbers as numbers;

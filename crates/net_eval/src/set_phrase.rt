@@ -8,12 +8,12 @@ ghost use Rattle.net_base.specs.Outcomes.{Refines};
 ghost use Rattle.net_eval.specs.SetPhrases as phrases;
 ghost use Rattle.net_eval.specs.declared.set_phrase.SetWord.TheVariants as words;
 
+use crate::boxed_values::{StoredSet, unboxed, value_of};
 use crate::crossing::crossed;
-use crate::stored::{StoredSet, unboxed, value_of};
 use crate::superset::Superset;
 use net_base::{Boxed, ErrorCode, Fault, Items, Span};
 use net_expr::{Env, Value};
-use net_sets::{Member, TupleSet};
+use net_sets::{ARITY_LIMIT, Member, TupleSet};
 use net_tree::{Begins, Body, Expr, Phrase, Relation, Role, span_of};
 use std::alloc::Global;
 
@@ -68,7 +68,7 @@ fn dimension<'w, 's>(at: Span, value: &Value<'_, 's>) -> Result<Claim<'w, 's>, F
 {
     match value {
         Value::One(Member::Number(number)) => {
-            if *number >= 1 && *number <= 4 {
+            if *number >= 1 && *number <= ARITY_LIMIT as i64 {
                 Ok(Claim::Dimension(number.unsigned_abs() as u8))
             } else {
                 Err(Fault::of_model(ErrorCode::Arity, at))

@@ -6,7 +6,7 @@ ghost use Rattle.net_sets.specs.Operations.{union, product, is_within};
 ghost use Rattle.net_sets.specs.Sets.{has};
 ghost use Rattle.net_eval.specs.Supersets.{AreLong};
 
-use crate::stored::StoredSet;
+use crate::boxed_values::StoredSet;
 use net_sets::{Member, Tuple, TupleSet};
 use std::marker::Model;
 

@@ -3,8 +3,8 @@ use Rattle.std.specs.Prelude.{◌≡◌, ◌+◌, ◌<◌, ◌≤◌, ℕ, zero,
 use Rattle.std.proofs.Common.{refl, sym, ap, append_assoc, ◌∙◌, arith}
 use Rattle.net_base.specs.declared.diagnostic.Span.{Span}
 use Rattle.net_base.specs.declared.error_code.ErrorCode.TheVariants.{KindMismatch}
-use Rattle.net_base.specs.declared.fault.Fault.{Fault}
-use Rattle.net_base.specs.declared.fault.Fault.TheVariants as faults
+use Rattle.net_base.specs.declared.diagnostic.Fault.{Fault}
+use Rattle.net_base.specs.declared.diagnostic.Fault.TheVariants as faults
 use Rattle.net_base.specs.Outcomes.{Outcome, Refines, Yields, and_then, rejected}
 use Rattle.net_sets.specs.declared.member.Member.{Member}
 use Rattle.net_sets.specs.Sets.{Tuple}

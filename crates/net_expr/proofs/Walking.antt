@@ -13,8 +13,8 @@ use Rattle.net_tree.specs.Tree.{Tree, Links, Part, Braces, indexed, tuple, negat
 use Rattle.net_tree.specs.View.{tree, links_of}
 use Rattle.net_tree.specs.Weights.{weight, weights}
 use Rattle.net_tree.proofs.Views.{links_of-cons, next_link, first_link}
-use Rattle.net_base.specs.declared.fault.Fault.{Fault}
-use Rattle.net_base.specs.declared.fault.Fault.TheVariants as faults
+use Rattle.net_base.specs.declared.diagnostic.Fault.{Fault}
+use Rattle.net_base.specs.declared.diagnostic.Fault.TheVariants as faults
 use Rattle.net_tree.specs.declared.operator.Reduction.{Reduction}
 use Rattle.net_expr.specs.declared.row.Place.{Place}
 use Rattle.net_expr.specs.declared.row.Row.{Row}

@@ -7,8 +7,8 @@ use Rattle.net_sets.specs.Sets.{Tuple}
 use Rattle.net_tree.specs.Tree.{Links, none, link}
 use Rattle.net_tree.specs.View.{tree, links_of}
 use Rattle.net_tree.specs.Weights.{weight, weights}
-use Rattle.net_base.specs.declared.fault.Fault.{Fault}
-use Rattle.net_base.specs.declared.fault.Fault.TheVariants.{OutOfMemory, At}
+use Rattle.net_base.specs.declared.diagnostic.Fault.{Fault}
+use Rattle.net_base.specs.declared.diagnostic.Fault.TheVariants.{OutOfMemory, At}
 use Rattle.net_expr.specs.declared.keys.Frame.{Frame}
 use Rattle.net_expr.specs.declared.row.Place.{Place}
 use Rattle.net_expr.specs.declared.row.Row.{Row}

@@ -15,13 +15,13 @@ ghost use Rattle.net_expr.specs.Walks as walks;
 ghost use Rattle.net_sets.specs.declared.member.Member.TheVariants.{Number};
 ghost use Rattle.net_expr.specs.declared.value.Value.TheVariants.{One, Truth};
 
-use crate::item::begins_range;
+use crate::arithmetic::{one_more, reduced_to, with_sign};
+use crate::index_item::begins_range;
 use crate::keys::index;
 use crate::list::as_value;
 use crate::name::{leaf, name_at};
-use crate::number::{one_more, reduced_to, with_sign};
-use crate::operator::{apply, as_denial, decided, truth_of};
-use crate::range::range_of;
+use crate::operators::{apply_to, as_denial, decided, truth_of};
+use crate::range_operator::range_of;
 use crate::row::Keys;
 use crate::scope::Scope;
 use crate::subscripts::key_of;
@@ -295,7 +295,7 @@ fn chained<'w, 's>(
 {
     let mut value = value;
     for link in links {
-        value = joined(alloc, env, scope, whole, link, &value)?;
+        value = joined(alloc, env, scope, whole, link, value)?;
     }
     Ok(value)
 }
@@ -308,17 +308,17 @@ fn joined<'w, 's>(
     scope: &Scope<'s>,
     whole: &Expr<'s>,
     link: &Link<'s>,
-    value: &Value<'_, 's>,
+    value: Value<'w, 's>,
 ) -> Result<Value<'w, 's>, Fault>
     ensures { Refines (walks.joined (trees.span_of (tree whole.now)) (operations.operation link.now.operator)
-        (values.value env.now scope.now (tree link.now.operand)) value.now) result }
+        (values.value env.now scope.now (tree link.now.operand)) value.entry) result }
 {
     let operation = link.operator.op();
-    match decided(operation, whole, value)? {
-        Some(value) => Ok(value),
+    match decided(operation, whole, &value)? {
+        Some(found) => Ok(found),
         None => {
-            let other = evaluate(alloc, env, scope, &link.operand)?;
-            apply(alloc, operation, whole, value, &other)
+            let other = evaluate(alloc, env, scope, &link.operand);
+            apply_to(alloc, operation, whole, value, other)
         }
     }
 }

@@ -11,7 +11,7 @@ ghost use Rattle.net_expr.specs.Values as values;
 ghost use Rattle.net_expr.specs.Walks as walks;
 
 use crate::eval::evaluate;
-use crate::item::new_dummy;
+use crate::index_item::new_dummy;
 use crate::row::{Place, bind_first, matches_as_tuple, matches_member, stay, with_key};
 use crate::world::Env;
 use net_base::Fault;

@@ -6,7 +6,7 @@ ghost use Rattle.net_expr.specs.Indexings as indexings;
 ghost use Rattle.net_expr.specs.Sets.{counted};
 ghost use Rattle.net_base.specs.Outcomes.{Refines};
 
-use crate::calls::index_of;
+use crate::expression_calls::index_of;
 use crate::row::{Keys, Row};
 use crate::scope::Scope;
 use crate::world::Env;

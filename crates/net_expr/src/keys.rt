@@ -15,9 +15,9 @@ ghost use Rattle.net_expr.specs.Walks as walks;
 
 use crate::eval::{evaluate, evaluate_more};
 use crate::fitting::place_at;
-use crate::item::{any_in, chosen, has_part, is_set, tuples_of};
+use crate::index_item::{any_in, chosen, has_part, is_set, tuples_of};
 use crate::list::{listed, no_items};
-use crate::operator::truth_at;
+use crate::operators::truth_at;
 use crate::row::{Keys, Place, Row, as_keys, keep_if, start};
 use crate::scope::Scope;
 use crate::selecting::selected;

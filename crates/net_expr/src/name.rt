@@ -15,7 +15,7 @@ use crate::value::Value;
 use crate::world::{Entry, Env};
 use net_base::{Detail, ErrorCode, Excerpt, Fault, Language, Span};
 use net_lex::Token;
-use net_sets::{Cow, Member, Table, Text, Tuple, TupleSet};
+use net_sets::{Cow, KeyValues, Member, Text, Tuple, TupleSet};
 use net_tree::{Leaf, Role, role_of};
 use std::alloc::Global;
 
@@ -74,9 +74,9 @@ fn entry_at<'w, 's>(
                 Err(Fault::of_model(ErrorCode::Arity, at))
             }
         }
-        Some(Entry::Parameter(keys, index, table)) => {
+        Some(Entry::Parameter(keys, index, values)) => {
             if key.len() == key_count(*keys) {
-                match table.get(&key) {
+                match values.get(&key) {
                     Some(member) => Ok(Value::One(member.copied())),
                     None => no_value(alloc, at, name, *keys, index.get(), &key),
                 }

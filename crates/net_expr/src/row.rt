@@ -11,11 +11,10 @@ ghost use Rattle.net_expr.specs.Rows.{keys_of};
 ghost use Rattle.net_base.specs.Outcomes.{Refines, Updates, Outcome, and_then, Yields};
 ghost use Rattle.net_expr.specs.declared.value.Value.{Value as Found};
 
-use crate::fault::reject_tree;
 use crate::scope::Scope;
-use crate::value::Value;
+use crate::value::{Value, reject_tree};
 use net_base::{ErrorCode, Excerpt, Fault, Items, Span};
-use net_sets::{HashKey, Member, SetFault, TUPLES_LIMIT, Tuple, TupleSet};
+use net_sets::{ARITY_LIMIT, HashKey, Member, SetFault, TUPLES_LIMIT, Tuple, TupleSet};
 use net_tree::Expr;
 use std::alloc::{AllocError, Global};
 
@@ -114,7 +113,7 @@ pub(crate) fn longer_by_one<'s>(key: Option<Tuple<'s>>, member: &Member<'s>) -> 
     match key {
         None => None,
         Some(key) => {
-            if key.len() < 4 {
+            if key.len() < ARITY_LIMIT {
                 let mut longer = key;
                 longer.add(member.copied());
                 Some(longer)
@@ -132,7 +131,7 @@ fn longer<'s>(key: &Option<Tuple<'s>>, more: &Tuple<'s>) -> Option<Tuple<'s>>
     match key {
         None => None,
         Some(key) => {
-            if key.len() + more.len() <= 4 {
+            if key.len() + more.len() <= ARITY_LIMIT {
                 Some(key.beside(more))
             } else {
                 None

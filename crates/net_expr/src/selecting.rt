@@ -7,7 +7,7 @@ ghost use Rattle.net_tree.specs.View.{tree, links_of};
 ghost use Rattle.net_expr.specs.Items as items;
 ghost use Rattle.net_expr.specs.Selecting as select;
 
-use crate::item::{bare, new_dummy};
+use crate::index_item::{bare, new_dummy};
 use crate::scope::Scope;
 use crate::world::Env;
 use net_sets::{Cow, Cursor, Member};

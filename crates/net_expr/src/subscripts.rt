@@ -14,10 +14,9 @@ ghost use Rattle.net_expr.specs.Values as values;
 ghost use Rattle.net_expr.specs.declared.value.Value.TheVariants.{One};
 
 use crate::eval::evaluate;
-use crate::fault::reject_tree;
-use crate::item::bare;
+use crate::index_item::bare;
 use crate::scope::Scope;
-use crate::value::Value;
+use crate::value::{Value, reject_tree};
 use crate::world::Env;
 use net_base::{ErrorCode, Fault};
 use net_sets::{Member, Tuple};

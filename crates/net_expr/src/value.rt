@@ -2,8 +2,15 @@
 
 ghost use Rattle.std.specs.Prelude.{◌≡◌};
 ghost use Rattle.net_expr.specs.Items.{set_in};
+ghost use Rattle.net_tree.specs.Spans as trees;
+ghost use Rattle.net_tree.specs.View.{tree};
+ghost use Rattle.net_base.specs.Outcomes.{bare};
+ghost use Rattle.net_base.specs.declared.diagnostic.Language.TheVariants.{Model as InModel};
+ghost use Rattle.net_base.specs.declared.diagnostic.Fault.TheVariants.{At};
 
+use net_base::{ErrorCode, Fault};
 use net_sets::{Cow, Member, Tuple};
+use net_tree::{Expr, span_of};
 
 /// The value of an expression. Its drop is one call, to keep the proofs of functions with many
 /// exits small.
@@ -43,4 +50,12 @@ impl<'w, 's> Value<'w, 's> {
             Value::Truth(_truth) => None,
         }
     }
+}
+
+/// Builds an error at the span of a tree. The span is computed only here, not when there is no
+/// error.
+pub fn reject_tree(error_code: ErrorCode, whole: &Expr<'_>) -> Fault
+    ensures { result ≡ At (bare InModel error_code (trees.span_of (tree whole.now))) }
+{
+    Fault::of_model(error_code, span_of(whole))
 }

@@ -11,13 +11,13 @@ ghost use Rattle.net_expr.specs.Rows as rows;
 ghost use Rattle.net_expr.specs.Sets.{counted};
 ghost use Rattle.net_expr.specs.Widths as widths;
 
-use crate::item::{any_in, bare, has_in, links_len, new_dummy};
+use crate::index_item::{any_in, bare, has_in, links_len, new_dummy};
 use crate::keys::Inside;
 use crate::row::Row;
 use crate::scope::Scope;
 use crate::world::{Entry, Env};
 use net_base::{ErrorCode, Excerpt, Fault, Span};
-use net_sets::Member;
+use net_sets::{ARITY_LIMIT, Member};
 use net_tree::{BinOp, Braces, Expr, Link, sides_of};
 use std::alloc::{AllocError, Global};
 
@@ -39,7 +39,7 @@ fn capped_sum(a: u8, b: u8) -> u8
 fn capped_size(more: &[Link<'_>]) -> u8
     ensures { result ≡ widths.capped (1 + items.size (links_of more.now)) }
 {
-    1 + links_len(more).min(4) as u8
+    1 + links_len(more).min(ARITY_LIMIT) as u8
 }
 
 fn counted(dimension: Option<u8>) -> u8
@@ -357,7 +357,7 @@ fn width_of_form(at: Span, form: &Shape<'_>) -> Result<u8, Fault>
     ensures { Yields (widths.width_of_form at form.now) result }
 {
     if form.indexes {
-        if form.count <= 4 {
+        if usize::from(form.count) <= ARITY_LIMIT {
             Ok(form.count)
         } else {
             Err(Fault::of_model(ErrorCode::Arity, at))

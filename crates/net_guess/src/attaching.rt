@@ -2,7 +2,7 @@
 //! order that makes this cheap is from Barr, Glover and Klingman (1979); see also Ahuja, Magnanti,
 //! Orlin: Network Flows, section 11.3.
 
-use crate::halt::Halt;
+use crate::guess::Halt;
 use crate::tree::{NO_NODE, Residuals, Tree};
 
 /// How to re-attach a subtree.

@@ -2,7 +2,7 @@
 //! more than its arcs in can carry.
 
 use crate::guess::Cut;
-use crate::places::{at, put};
+use crate::unchecked_lists::{at, put};
 use net_check::Side;
 use net_normal::Problem;
 use std::alloc::{AllocError, Global};

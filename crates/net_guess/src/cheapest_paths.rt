@@ -1,7 +1,7 @@
 //! Shortest paths to the nodes with a deficit, over nonnegative costs (Dijkstra 1959).
 
-use crate::places::{at, fill, index, put, row_at};
 use crate::simplex_arc::PricedArc;
+use crate::unchecked_lists::{at, fill, index, put, row_at};
 use std::alloc::{AllocError, Global};
 use std::cmp::Reverse;
 use std::collections::BinaryHeap;

@@ -1,6 +1,6 @@
 //! The excess or deficit of each node.
 
-use crate::places::{arc_at, at, index, put};
+use crate::unchecked_lists::{arc_at, at, index, put};
 use net_normal::{FlowArc, Problem};
 use std::alloc::{AllocError, Global};
 

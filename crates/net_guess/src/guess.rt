@@ -1,6 +1,10 @@
 //! A proposed answer to a problem.
 
+ghost use Rattle.std.specs.Prelude.{◌≡◌};
+ghost use Rattle.net_guess.specs.declared.guess.Halt.TheVariants as halts;
+
 use net_check::Side;
+use std::alloc::{AllocError, AllocFailed};
 
 /// A set of nodes whose supply may be past what its arcs allow.
 #[derive(Drop)]
@@ -41,4 +45,29 @@ pub enum Guess {
     },
     /// A reason why no flow is feasible.
     Cut(Cut),
+}
+
+/// Why a heuristic stops without a result.
+#[derive(Clone, Copy)]
+pub enum Halt {
+    /// Allocation failed.
+    OutOfMemory,
+    /// A number would leave its range.
+    OutOfRange,
+}
+
+impl From<AllocError> for Halt {
+    ghost from_gives = { λ _ halt. halt ≡ halts.OutOfMemory };
+
+    fn from(_fault: AllocError) -> Halt {
+        Halt::OutOfMemory
+    }
+}
+
+impl<T: Drop> From<AllocFailed<T>> for Halt {
+    ghost from_gives = { λ _ halt. halt ≡ halts.OutOfMemory };
+
+    fn from(_fault: AllocFailed<T>) -> Halt {
+        Halt::OutOfMemory
+    }
 }

@@ -2,8 +2,7 @@
 
 use crate::bottleneck::bottleneck;
 use crate::excess::excess_at_lows;
-use crate::guess::{Cut, Guess};
-use crate::halt::Halt;
+use crate::guess::{Cut, Guess, Halt};
 use crate::preflow::{Feasibility, Preflow};
 use crate::simplex::Simplex;
 use net_check::Side;

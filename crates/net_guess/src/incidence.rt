@@ -1,7 +1,7 @@
 //! Adjacency lists: the arcs out of and into each node, with their residual capacities in both
 //! directions.
 
-use crate::places::{at, put, row_at};
+use crate::unchecked_lists::{at, put, row_at};
 use net_normal::Problem;
 use std::alloc::{AllocError, Global};
 use std::ops::Range;

@@ -1,6 +1,6 @@
 //! A queue of nodes.
 
-use crate::places::{at, index, put};
+use crate::unchecked_lists::{at, index, put};
 use std::alloc::{AllocError, Global};
 
 /// A first-in, first-out queue of nodes. Each node is in it at most once, so the capacity suffices.

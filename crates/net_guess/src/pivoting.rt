@@ -1,11 +1,11 @@
 //! Pivots of a network simplex: the entering and the leaving arc.
 
 use crate::attaching::Attachment;
-use crate::halt::Halt;
-use crate::places::{at, index, try_at};
+use crate::guess::Halt;
 use crate::prices::Part;
 use crate::simplex::Simplex;
 use crate::tree::Residuals;
+use crate::unchecked_lists::{at, index, try_at};
 
 /// The leaving arc of a cycle.
 #[derive(Clone, Copy)]

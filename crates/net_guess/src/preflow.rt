@@ -1,9 +1,9 @@
 //! A maximum preflow towards the nodes with deficits (Goldberg, Tarjan 1988). It decides whether a problem has a feasible flow.
 
-use crate::halt::Halt;
+use crate::guess::Halt;
 use crate::incidence::{Incidence, Incident, back_of};
 use crate::node_queue::NodeQueue;
-use crate::places::{at, fill, index, put};
+use crate::unchecked_lists::{at, fill, index, put};
 use net_normal::Problem;
 use std::alloc::{AllocError, Global};
 

@@ -4,10 +4,10 @@
 //! Pricing takes most of the time, and most of that is memory access. So if all numbers fit, they
 //! are stored in 32 bits, which doubles the number of them in the cache.
 
-use crate::halt::Halt;
-use crate::places::{at, fill, index, put, try_at};
+use crate::guess::Halt;
 use crate::simplex_arc::PricedArc;
 use crate::tree::Thread;
+use crate::unchecked_lists::{at, fill, index, put, try_at};
 use std::alloc::{AllocError, Global};
 
 /// The maximum cost of a unit from the root with which no potential and no reduced cost exceeds 32

@@ -9,12 +9,12 @@
 use crate::block::Block;
 use crate::cheapest_paths::NO_PLACE;
 use crate::excess::{Start, lows_of};
-use crate::halt::Halt;
-use crate::places::{arc_at, at, fill, index, put};
+use crate::guess::Halt;
 use crate::prices::Prices;
 use crate::simplex_arc::{PricedArc, put_priced_order};
 use crate::starting::{first_tree, root_cost};
 use crate::tree::Tree;
+use crate::unchecked_lists::{arc_at, at, fill, index, put};
 use net_normal::{FlowArc, Problem};
 use std::alloc::{AllocError, Global};
 

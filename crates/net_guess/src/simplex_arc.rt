@@ -1,6 +1,6 @@
 //! The arcs of a problem in the form used for pricing.
 
-use crate::places::{index, put};
+use crate::unchecked_lists::{index, put};
 use net_normal::FlowArc;
 
 /// An arc for pricing, in the direction in which its flow can change. An arc at CAP is reversed, so

@@ -1,8 +1,8 @@
 //! The spanning tree of a network simplex, with its nodes in a cyclic order in which each subtree
 //! is contiguous.
 
-use crate::halt::Halt;
-use crate::places::{at, put, try_at};
+use crate::guess::Halt;
+use crate::unchecked_lists::{at, put, try_at};
 use std::alloc::{AllocError, Global};
 
 /// The number of no node.

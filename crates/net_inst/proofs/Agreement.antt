@@ -12,7 +12,7 @@ use Rattle.net_linear.specs.Forms as forms
 use Rattle.net_inst.specs.declared.arc.Built.{Built}
 use Rattle.net_base.specs.declared.error_code.ErrorCode.TheVariants.{TooManyArcs}
 use Rattle.net_inst.specs.declared.draft.ChosenObjective.{ChosenObjective}
-use Rattle.net_inst.specs.declared.group.Group.{Group}
+use Rattle.net_inst.specs.declared.node_name.Group.{Group}
 use Rattle.net_expr.specs.declared.indexing.Indexing.{Indexing}
 use Rattle.net_inst.specs.Arcs.{BuiltArcs, built, prices_in, next_arc, arcs_at, arcs_by, with_arcs, named_arcs, arc_env, arc_text}
 use Rattle.net_inst.specs.Drafts.{Drawing, nothing, env, part_form, aimed, passed, is_chosen, with_goal, with_objective, known_more, nodes_more, arcs_more, declare, draw}

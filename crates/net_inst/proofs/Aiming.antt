@@ -11,7 +11,7 @@ use Rattle.net_expr.specs.SetValues.{HasSets}
 use Rattle.net_expr.specs.Worlds.{Name, World}
 use Rattle.net_linear.specs.Forms.{Linear, form_at, all_apart}
 use Rattle.net_inst.specs.declared.draft.ChosenObjective.{ChosenObjective}
-use Rattle.net_inst.specs.declared.names.Declared.{Declared}
+use Rattle.net_inst.specs.declared.network_names.Declared.{Declared}
 use Rattle.net_inst.specs.Arcs.{with_arcs, arc_env}
 use Rattle.net_inst.specs.AsWritten.{Arc, arcs_of, nodes, arcs, known_after, in_order, arc_declared, same_label, Assignment, number_on, numbers_on}
 use Rattle.net_inst.specs.Drafts.{Drawing, nothing, env, sense_of, part_form, aimed, passed, is_chosen, with_goal, known_more, nodes_more, arcs_more, declare, draw}

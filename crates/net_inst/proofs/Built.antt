@@ -16,9 +16,9 @@ use Rattle.net_linear.specs.Conditions.{range_in}
 use Rattle.net_inst.specs.declared.arc.Built.{Built}
 use Rattle.net_base.specs.declared.error_code.ErrorCode.TheVariants.{TooManyNodes}
 use Rattle.net_inst.specs.declared.draft.ChosenObjective.{ChosenObjective}
-use Rattle.net_inst.specs.declared.group.Group.{Group}
+use Rattle.net_inst.specs.declared.node_name.Group.{Group}
 use Rattle.net_expr.specs.declared.indexing.Indexing.{Indexing}
-use Rattle.net_inst.specs.declared.names.Declared.{Declared}
+use Rattle.net_inst.specs.declared.network_names.Declared.{Declared}
 use Rattle.net_inst.specs.Arcs.{BuiltArcs, built, arcs_at, next_arc, with_arcs, named_arcs, arc_env, arc_text}
 use Rattle.net_inst.specs.AsWritten.{Label, Node, Arc, rows_of, label_at, node_at_row, arc_at_row, arcs_with, same_label, from_end, to_end}
 use Rattle.net_inst.specs.Groups.{group_with}

@@ -15,10 +15,10 @@ use Rattle.net_expr.specs.Values.{index}
 use Rattle.net_expr.specs.Worlds.{Name, World}
 use Rattle.net_linear.specs.declared.key_numbers.KeyNumbers.{KeyNumbers}
 use Rattle.net_linear.specs.Arcs.{declared, is_arc}
-use Rattle.net_inst.specs.declared.group.Group.{Group}
+use Rattle.net_inst.specs.declared.node_name.Group.{Group}
 use Rattle.net_expr.specs.declared.indexing.Indexing.{Indexing}
-use Rattle.net_inst.specs.declared.names.Declared.{Declared}
-use Rattle.net_inst.specs.declared.names.Key.{Key}
+use Rattle.net_inst.specs.declared.network_names.Declared.{Declared}
+use Rattle.net_inst.specs.declared.network_names.Key.{Key}
 use Rattle.net_inst.specs.AsWritten.{Label, label_at, same_label}
 use Rattle.net_inst.specs.Groups.{Numbers, unless_known, numbers_with, group_with}
 use Rattle.net_expr.specs.Indexings.{alone, by_keys, indexing_in}

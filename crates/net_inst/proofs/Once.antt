@@ -10,7 +10,7 @@ use Rattle.net_sets.specs.Sets.{Tuple, same_tuple}
 use Rattle.net_tree.specs.Tree.{Braces, Phrase, Declaration, set, param, check, node, arc, objective}
 use Rattle.net_expr.specs.declared.row.Row.{Row}
 use Rattle.net_expr.specs.Worlds.{Name, World}
-use Rattle.net_inst.specs.declared.names.Declared.{Declared}
+use Rattle.net_inst.specs.declared.network_names.Declared.{Declared}
 use Rattle.net_inst.specs.AsWritten.{Label, Node, Arc, rows_of, label_at, node_at_row, arc_at_row, nodes_of, arcs_with, arcs_of, known_after, in_order, node_declared, arc_declared, same_label}
 use Rattle.net_expr.specs.Indexings.{indexing_in}
 use Rattle.net_expr.specs.Rows.{keys_of}

@@ -5,7 +5,7 @@ use Rattle.net_lex.specs.declared.token.Token.{Token}
 use Rattle.net_tree.specs.Tree.{Tree, Body, priced}
 use Rattle.net_expr.specs.Worlds.{World, Scope}
 use Rattle.net_linear.specs.Forms.{Linear}
-use Rattle.net_base.specs.declared.fault.Fault.{Fault}
+use Rattle.net_base.specs.declared.diagnostic.Fault.{Fault}
 use Rattle.net_base.specs.Outcomes.{Updates}
 use Rattle.net_inst.specs.declared.draft.ChosenObjective.{ChosenObjective}
 use Rattle.net_inst.specs.Arcs.{is_goal, priced_by, price_in}

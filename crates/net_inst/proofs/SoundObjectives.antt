@@ -11,7 +11,7 @@ use Rattle.net_meaning.specs.OfTrees.{objectives as objectives_in, IsObjective}
 use Rattle.net_meaning.specs.Network as meaning
 use Rattle.net_meaning.specs.Network.{is_eligible}
 use Rattle.net_inst.specs.declared.draft.ChosenObjective.{ChosenObjective}
-use Rattle.net_inst.specs.declared.names.Declared.{Declared}
+use Rattle.net_inst.specs.declared.network_names.Declared.{Declared}
 use Rattle.net_inst.specs.AsWritten.{Arc, in_order, arcs_of, known_after, arc_declared}
 use Rattle.net_inst.specs.Drafts.{Drawing, nothing, sense_of, declare, draw}
 use Rattle.net_inst.specs.Readings.{Objective, objective_of, objectives_from, objectives, or_else, chosen}

@@ -12,7 +12,7 @@ use Rattle.net_tree.specs.Tree.{Braces, Phrase, Body, plain, valued, priced, Dec
 use Rattle.net_expr.specs.declared.row.Row.{Row}
 use Rattle.net_expr.specs.Worlds.{Name, World, Scope}
 use Rattle.net_meaning.specs.Network as meaning
-use Rattle.net_inst.specs.declared.names.Declared.{Declared}
+use Rattle.net_inst.specs.declared.network_names.Declared.{Declared}
 use Rattle.net_inst.specs.AsWritten.{Arc, arcs_of, arcs_with, arc_at_row, rows_of, in_order, arc_declared, Assignment, number_on, amount}
 use Rattle.net_inst.specs.Drafts.{sense_of}
 use Rattle.net_expr.specs.Indexings.{indexing_in}

@@ -17,7 +17,7 @@ use Rattle.net_meaning.specs.OfTrees.{IsExpressionValue, IsValue}
 use Rattle.net_meaning.specs.Network.{with_arcs}
 use Rattle.net_meaning.specs.Operators as values
 use Rattle.net_meaning.specs.Values.{env_of, env_with}
-use Rattle.net_inst.specs.declared.names.Declared.{Declared}
+use Rattle.net_inst.specs.declared.network_names.Declared.{Declared}
 use Rattle.net_inst.specs.AsWritten.{Arc, same_label, Assignment}
 use Rattle.net_inst.specs.Drafts.{part_form}
 use Rattle.net_inst.specs.Groups.{Numbers}

@@ -14,8 +14,8 @@ use Rattle.net_expr.specs.declared.row.Row.{Row}
 use Rattle.net_expr.specs.Worlds.{Name, World, Scope}
 use Rattle.net_linear.specs.Forms.{Linear}
 use Rattle.net_linear.specs.declared.condition.Sides.{Sides}
-use Rattle.net_base.specs.declared.fault.Fault.{Fault}
-use Rattle.net_base.specs.declared.fault.Fault.TheVariants.{OutOfMemory, At}
+use Rattle.net_base.specs.declared.diagnostic.Fault.{Fault}
+use Rattle.net_base.specs.declared.diagnostic.Fault.TheVariants.{OutOfMemory, At}
 use Rattle.net_inst.specs.declared.draft.ChosenObjective.{ChosenObjective}
 use Rattle.net_inst.specs.Arcs.{BuiltArcs, price_in, prices_in, next_arc, arcs_at, arc_env, arc_text}
 use Rattle.net_inst.specs.Drafts.{Drawing, declare, draw}

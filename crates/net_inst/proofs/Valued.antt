@@ -26,7 +26,7 @@ use Rattle.net_linear.proofs.FormLaws.{form_just, priced_worth}
 use Rattle.net_linear.proofs.Rings.{add-mul}
 use Rattle.net_inst.specs.declared.arc.Built.{Built}
 use Rattle.net_inst.specs.declared.draft.ChosenObjective.{ChosenObjective}
-use Rattle.net_inst.specs.declared.names.Declared.{Declared}
+use Rattle.net_inst.specs.declared.network_names.Declared.{Declared}
 use Rattle.net_inst.specs.Arcs.{BuiltArcs, priced_by, price_in, prices_in, next_arc, arcs_at, with_arcs, arc_env, arc_text}
 use Rattle.net_inst.specs.AsWritten.{Label, Arc, rows_of, arc_at_row, arcs_with, same_label, Assignment, number_on, numbers_on, amount}
 use Rattle.net_inst.specs.Drafts.{part_form}

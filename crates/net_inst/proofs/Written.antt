@@ -10,8 +10,8 @@ use Rattle.net_linear.specs.declared.condition.Sides.{Sides}
 use Rattle.net_linear.specs.Forms.{Products}
 use Rattle.net_linear.proofs.Ranges.{IsWithin, range_exact}
 use Rattle.net_inst.specs.declared.arc.Built.{Built}
-use Rattle.net_inst.specs.declared.group.Group.{Group}
-use Rattle.net_inst.specs.declared.names.Declared.{Declared}
+use Rattle.net_inst.specs.declared.node_name.Group.{Group}
+use Rattle.net_inst.specs.declared.network_names.Declared.{Declared}
 use Rattle.net_inst.specs.Arcs.{with_arcs, arc_env}
 use Rattle.net_inst.specs.AsWritten.{Label, Node, Arc, nodes_of, arcs_of, nodes, arcs, known_after, in_order, node_declared, arc_declared, same_label}
 use Rattle.net_inst.specs.Drafts.{Drawing, nothing, env, part_form, aimed, passed, is_chosen, with_goal, with_objective, known_more, nodes_more, arcs_more, declare, draw}

@@ -11,7 +11,7 @@ use Rattle.net_linear.specs.Forms as forms
 use Rattle.net_inst.specs.declared.arc.Built.{Built}
 use Rattle.net_base.specs.declared.error_code.ErrorCode.TheVariants.{ArcCrossed, TooManyArcs}
 use Rattle.net_inst.specs.declared.draft.ChosenObjective.{ChosenObjective}
-use Rattle.net_inst.specs.declared.group.Group.{Group}
+use Rattle.net_inst.specs.declared.node_name.Group.{Group}
 use Rattle.net_expr.specs.declared.indexing.Indexing.{Indexing}
 use Rattle.net_inst.specs.Groups.{no_group, group_with}
 use Rattle.net_expr.specs.Indexings.{indexing_in}

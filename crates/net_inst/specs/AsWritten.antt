@@ -13,7 +13,7 @@ use Rattle.net_linear.specs.Conditions.{Holds, number_of}
 use Rattle.net_linear.specs.Objectives.{key_of}
 use Rattle.net_linear.specs.Amounts.{number_or_none}
 use Rattle.net_expr.specs.declared.indexing.Indexing.{Indexing}
-use Rattle.net_inst.specs.declared.names.Declared.{Declared}
+use Rattle.net_inst.specs.declared.network_names.Declared.{Declared}
 use Rattle.net_expr.specs.Indexings.{indexing_in}
 use Rattle.net_base.specs.Outcomes.{Outcome}
 use Rattle.net_inst.specs.Phrases.{Parts, parts_of}

@@ -6,7 +6,7 @@ use Rattle.net_tree.specs.Tree.{Declaration}
 use Rattle.net_normal.specs.Correspondence.{CorrespondsOneToOne}
 use Rattle.net_normal.specs.Flows.{IsFeasibleFlow, cost_of}
 use Rattle.net_normal.specs.Links.{mapped_back, value_at}
-use Rattle.net_normal.specs.declared.link.Link.{Link}
+use Rattle.net_normal.specs.declared.problem.Link.{Link}
 use Rattle.net_normal.specs.declared.problem.Problem.{Problem}
 use Rattle.net_expr.specs.Worlds.{Name, World}
 use Rattle.net_inst.specs.declared.network.Named.{Named as NamedOfCode}

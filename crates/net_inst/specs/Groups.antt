@@ -3,7 +3,7 @@ use Rattle.std.specs.Prelude.{ℕ, Bool, true, false, [], ◌∷◌, ◌++◌}
 use Rattle.net_sets.specs.Operations.{union}
 use Rattle.net_expr.specs.Worlds.{Name}
 use Rattle.net_linear.specs.Arcs as numbers
-use Rattle.net_inst.specs.declared.group.Group.{Group}
+use Rattle.net_inst.specs.declared.node_name.Group.{Group}
 use Rattle.net_expr.specs.declared.indexing.Indexing.{Indexing}
 use Rattle.net_expr.specs.Rows.{keys_of}
 use Rattle.net_inst.specs.Lists.{no_names, listed_with}

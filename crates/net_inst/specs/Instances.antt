@@ -13,10 +13,10 @@ use Rattle.net_linear.specs.declared.condition.Sides.{Sides}
 use Rattle.net_linear.specs.Forms.{Products, coefficient}
 use Rattle.net_inst.specs.declared.arc.Built.{Built}
 use Rattle.net_base.specs.declared.error_code.ErrorCode.TheVariants.{NoObjective, NoSuchObjective}
-use Rattle.net_base.specs.declared.fault.Fault.{Fault}
+use Rattle.net_base.specs.declared.diagnostic.Fault.{Fault}
 use Rattle.net_inst.specs.declared.draft.ChosenObjective.{ChosenObjective}
 use Rattle.net_inst.specs.declared.network.Named.{Named as NamedOfCode}
-use Rattle.net_inst.specs.declared.names.Names.{Names}
+use Rattle.net_inst.specs.declared.network_names.Names.{Names}
 use Rattle.net_inst.specs.Arcs.{BuiltArcs}
 use Rattle.net_inst.specs.Drafts.{Drawing, nothing, draw}
 use Rattle.net_inst.specs.Nodes.{BuiltNodes, sides_of}

@@ -17,7 +17,7 @@ use Rattle.net_linear.specs.declared.condition.Sides.{Sides}
 use Rattle.net_linear.specs.Arcs.{declared}
 use Rattle.net_linear.specs.Conditions.{range_in}
 use Rattle.net_linear.specs.Objectives.{key_of}
-use Rattle.net_inst.specs.declared.group.Group.{Group}
+use Rattle.net_inst.specs.declared.node_name.Group.{Group}
 use Rattle.net_expr.specs.declared.indexing.Indexing.{Indexing}
 use Rattle.net_inst.specs.Groups.{no_group, group_with}
 use Rattle.net_expr.specs.Indexings.{indexing_in}

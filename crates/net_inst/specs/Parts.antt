@@ -5,7 +5,7 @@ use Rattle.net_tree.specs.View.{phrase_of, tree}
 use Rattle.net_inst.specs.Arcs.{ArcEnv, ArcText}
 use Rattle.net_inst.specs.declared.arc.ArcEnv as code
 use Rattle.net_inst.specs.declared.arc.ArcText as code_text
-use Rattle.net_inst.specs.declared.phrases.ArcParts.{ArcParts}
+use Rattle.net_inst.specs.declared.arc.ArcParts.{ArcParts}
 use Rattle.net_inst.specs.Phrases.{Parts}
 
 abbrev pub parts_seen : ArcParts → Parts

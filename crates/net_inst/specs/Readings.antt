@@ -14,7 +14,7 @@ use Rattle.net_linear.specs.declared.key_numbers.KeyNumbers.{KeyNumbers}
 use Rattle.net_linear.specs.Objectives.{names_arc, key_of, condition}
 use Rattle.net_base.specs.Outcomes.{Outcome}
 use Rattle.net_linear.specs.ObjectiveValues.{read, combine, sum_in, choose}
-use Rattle.net_inst.specs.declared.names.Declared.{Declared}
+use Rattle.net_inst.specs.declared.network_names.Declared.{Declared}
 use Rattle.net_inst.specs.AsWritten.{Arc, Assignment, number_on, amount, arcs_of, arc_declared, in_order, known_after}
 use Rattle.net_inst.specs.Drafts.{sense_of}
 

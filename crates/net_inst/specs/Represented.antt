@@ -3,7 +3,7 @@ use Rattle.std.specs.Prelude.{◌≡◌, List, Option, Ok}
 use Rattle.net_tree.specs.Declarations.{AreDeclarations}
 use Rattle.net_tree.specs.Tree.{Declaration}
 use Rattle.net_normal.specs.Correspondence.{CorrespondsOneToOne}
-use Rattle.net_normal.specs.declared.link.Link.{Link}
+use Rattle.net_normal.specs.declared.problem.Link.{Link}
 use Rattle.net_normal.specs.declared.problem.Problem.{Problem}
 use Rattle.net_normal.specs.declared.profile.Profile.{Profile}
 use Rattle.net_normal.specs.NormalForm.{IsFormIn}

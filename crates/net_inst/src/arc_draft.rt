@@ -12,11 +12,9 @@ ghost use Rattle.net_base.specs.Outcomes.{Updates, and_then, Refines};
 ghost use Rattle.net_inst.specs.Parts.{arc_env_of, arc_text_of};
 ghost use Rattle.net_inst.specs.Drafts as drafts;
 
-use crate::arc::{ArcEnv, ArcText, Built, arc_at, priced};
-use crate::fault::reject_name;
-use crate::group::Group;
-use crate::names::NameList;
-use crate::phrases::parts_of;
+use crate::arc::{ArcEnv, ArcText, Built, arc_at, parts_of, priced};
+use crate::network_names::{NameList, reject_name};
+use crate::node_name::Group;
 use crate::price::add_phrases;
 use net_base::{ErrorCode, Fault};
 use net_expr::{Env, Indexing, Row, Scope, indexing_of};

@@ -8,7 +8,7 @@ ghost use Rattle.net_base.specs.Outcomes.{Refines, Updates};
 
 use crate::arc::ArcEnv;
 use crate::arc_draft::ArcDraft;
-use crate::fault::reject_name;
+use crate::network_names::reject_name;
 use crate::node::NodeDraft;
 use net_base::{ErrorCode, Excerpt, Fault};
 use net_expr::{Env, World};

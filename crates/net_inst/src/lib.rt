@@ -4,22 +4,19 @@
 mod arc;
 mod arc_draft;
 mod draft;
-mod fault;
-mod group;
-mod laws;
-mod names;
+mod inst_laws;
 mod network;
+mod network_names;
 mod node;
 mod node_name;
-mod phrases;
 mod price;
 
-pub use laws::{
+pub use inst_laws::{
     arcs_are_written, assignments_are_alike, assignments_are_sound, errors_are_in_model,
     flows_stand_for_assignments, names_are_declared, names_declared_once_are_apart,
     network_without_objective_is_one, networks_are_sound, objective_is_written,
     problems_represent_networks, ranges_are_conditions,
 };
-pub use names::{Declared, Key, NameList, Names};
 pub use net_base::Fault as InstFault;
 pub use network::{Named, instantiate, instantiate_for};
+pub use network_names::{Declared, Key, NameList, Names};

@@ -11,8 +11,7 @@ ghost use Rattle.net_base.specs.Outcomes.{Updates};
 
 use crate::arc_draft::ArcDraft;
 use crate::draft::{ChosenObjective, Draft};
-use crate::fault::reject;
-use crate::names::Names;
+use crate::network_names::{Names, reject};
 use crate::node::NodeDraft;
 use net_base::{Detail, ErrorCode, Excerpt, Fault, Span};
 use net_expr::World;

@@ -9,9 +9,8 @@ ghost use Rattle.net_inst.specs.Nodes as nodes;
 ghost use Rattle.net_inst.specs.Nodes.{sides_of};
 ghost use Rattle.net_base.specs.Outcomes.{RefinesAs, Updates};
 
-use crate::fault::{reject, reject_name};
-use crate::group::Group;
-use crate::names::NameList;
+use crate::network_names::{NameList, reject, reject_name};
+use crate::node_name::Group;
 use net_base::{ErrorCode, Excerpt, Fault};
 use net_expr::{Env, Indexing, Row, indexing_of, reported_reference};
 use net_lex::Token;

@@ -1,6 +1,6 @@
 //! The nodes that `from` and `to` refer to.
 
-ghost use Rattle.std.specs.Prelude.{◌≡◌, ◌+◌, ◌<◌, ◌≤◌, ◌^◌, [], option_map, length, IfOk};
+ghost use Rattle.std.specs.Prelude.{◌≡◌, ◌+◌, ◌<◌, ◌≤◌, ◌^◌, [], option_map, length, IfOk, OnOk};
 ghost use Rattle.std.specs.Option.{option_copied};
 ghost use Rattle.net_sets.specs.Sets.{place_of};
 ghost use Rattle.net_tree.specs.Spans as trees;
@@ -9,18 +9,22 @@ ghost use Rattle.net_normal.specs.Limits.{node_limit};
 ghost use Rattle.net_expr.specs.Worlds as worlds;
 ghost use Rattle.net_linear.specs.Arcs.{declared};
 ghost use Rattle.net_base.specs.declared.error_code.ErrorCode.TheVariants.{NoSuchNode};
-ghost use Rattle.net_base.specs.declared.fault.Fault.TheVariants.{At};
+ghost use Rattle.net_base.specs.declared.diagnostic.Fault.TheVariants.{At};
 ghost use Rattle.net_inst.specs.Nodes as found;
 ghost use Rattle.net_base.specs.declared.diagnostic.Language.TheVariants.{Model as InModel};
 ghost use Rattle.net_base.specs.Outcomes.{Refines, diagnostic_at as diagnostic};
+ghost use Rattle.net_sets.specs.Limits.{tuples_limit};
+ghost use Rattle.net_sets.specs.Operations.{union};
+ghost use Rattle.net_inst.specs.Groups as groups;
+ghost use Rattle.net_expr.specs.Rows.{keys_of};
 
-use crate::fault::reject;
+use crate::network_names::{NameList, reject};
 use crate::node::NodeDraft;
 use net_base::{Detail, ErrorCode, Excerpt, Fault, Span};
-use net_expr::{Env, Scope, key_count, reject_tree, reported_reference};
+use net_expr::{Env, Indexing, Row, Scope, key_count, key_set, reject_tree, reported_reference};
 use net_lex::Token;
-use net_linear::{KeyNumbers, key_of};
-use net_sets::Tuple;
+use net_linear::{KeyNumbers, NumberedNames, key_of};
+use net_sets::{HashKey, SetFault, Tuple, TupleSet};
 use net_tree::{Expr, Link, span_of};
 use std::alloc::{AllocError, Global};
 
@@ -166,5 +170,74 @@ pub(crate) fn node_named<'s>(
             let key = key_of(alloc, env, scope, expr, first, more)?;
             declared_node(alloc, nodes, expr, name, key)
         }
+    }
+}
+
+/// Declared nodes, or arcs.
+#[derive(Drop)]
+pub(crate) struct Group<'s> {
+    pub(crate) list: NameList<'s>,
+    pub(crate) numbers: NumberedNames<'s>,
+}
+
+/// Returns the set of the keys of rows. Fails only if memory runs out.
+fn keys_in<'s>(alloc: Global, key: HashKey, rows: &[Row<'s>]) -> Result<TupleSet<'s>, AllocError>
+    requires { length rows.now ≤ tuples_limit }
+    ensures { IfOk result (λ keys. keys ≡ union [] (keys_of rows.now)) }
+{
+    match key_set(alloc, key, rows) {
+        Ok(keys) => Ok(keys),
+        Err(SetFault::OutOfMemory) => Err(AllocError),
+        Err(SetFault::TooMany) => unreachable!(),
+    }
+}
+
+/// Declares a name, unless it is already declared. Fails only if memory runs out.
+fn declare_number<'s>(
+    alloc: Global,
+    name: &Excerpt<'s>,
+    first: u32,
+    indexing: &Indexing<'s>,
+    numbers: &mut NumberedNames<'s>,
+) -> Result<(), AllocError>
+    requires { length indexing.now.rows ≤ tuples_limit }
+    ensures { OnOk result (numbers.new ≡ groups.numbers_with numbers.old name.now first indexing.now) }
+{
+    if numbers.has(name) {
+        return Ok(());
+    }
+    let keys = KeyNumbers {
+        keys: indexing.count,
+        first,
+        index: keys_in(alloc, numbers.key(), indexing.rows.as_slice())?,
+    };
+    numbers.add(name, keys)
+}
+
+impl<'s> Group<'s> {
+    /// Creates a group without declarations. The key has to be that of the run.
+    pub(crate) fn new(alloc: Global, key: HashKey) -> Group<'s>
+        ensures { result ≡ groups.no_group }
+    {
+        Group {
+            list: NameList::new(alloc),
+            numbers: NumberedNames::new(alloc, key),
+        }
+    }
+
+    /// Adds a declaration whose first node or arc has this number. Fails only if memory runs out.
+    pub(crate) fn declare(
+        &mut self,
+        alloc: Global,
+        name: &Excerpt<'s>,
+        first: u32,
+        indexing: &Indexing<'s>,
+    ) -> Result<(), AllocError>
+        requires { length indexing.now.rows ≤ tuples_limit }
+        ensures { OnOk result (self.new ≡ groups.group_with self.old name.now first indexing.now) }
+    {
+        self.list
+            .declare(name, indexing.count, indexing.rows.as_slice())?;
+        declare_number(alloc, name, first, indexing, &mut self.numbers)
     }
 }

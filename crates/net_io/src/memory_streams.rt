@@ -6,8 +6,7 @@ ghost use Rattle.std.specs.Io.{ReadsAtMost, WritesAtMost};
 ghost use Rattle.std.specs.Io.KnownBytes.{ReadConsumes, WriteAppends};
 ghost use Rattle.net_io.specs.Ends.{is_due, counted};
 
-use crate::failed::Failed;
-use crate::sink::Sink;
+use crate::sink::{Failed, Sink};
 use crate::source::Source;
 
 /// A source that returns known bytes.

@@ -1,11 +1,13 @@
 //! Sinks of bytes.
 
-ghost use Rattle.std.specs.Prelude.{◌≡◌, ℕ, ◌<◌, Bool, ◌||◌, List, Option, None, is_err, IfOk, OnOk, OnErr, length};
+ghost use Rattle.std.specs.Prelude.{◌≡◌, ℕ, ◌<◌, Bool, ◌||◌, List, Option, None, is_err, IfOk, OnOk, OnErr, length, false, Some};
 ghost use Rattle.std.specs.Io.{WritesAtMost};
 ghost use Rattle.std.specs.Io.KnownBytes.{Appends, WriteAppends};
 ghost use Rattle.net_io.specs.Ends.{WritesFront};
+ghost use Rattle.net_io.specs.declared.sink.ReadFault.TheVariants as read_faults;
 
-use crate::failed::Failed;
+use std::alloc::AllocError;
+use thiserror::Error;
 
 /// A destination of bytes.
 pub trait Sink {
@@ -37,4 +39,74 @@ pub fn write_whole<W: Sink>(sink: &mut W, text: &[u8]) -> Result<(), Failed>
         rest = after;
     }
     Ok(())
+}
+
+/// An error of a read or a write.
+#[derive(Clone, Copy, Debug, Error)]
+#[error("a read or a write failed")]
+pub struct Failed;
+
+/// Why a source could not be read.
+#[derive(Clone, Copy, Debug, Error)]
+pub enum ReadFault {
+    /// Allocation failed.
+    #[error("out of memory")]
+    OutOfMemory,
+    /// A read of the source failed.
+    #[error("a read failed")]
+    Failed,
+}
+
+impl From<Failed> for ReadFault {
+    ghost from_gives = { λ _ e. e ≡ read_faults.Failed };
+
+    fn from(_fault: Failed) -> ReadFault {
+        ReadFault::Failed
+    }
+}
+
+impl From<AllocError> for ReadFault {
+    ghost from_gives = { λ _ e. e ≡ read_faults.OutOfMemory };
+
+    fn from(_fault: AllocError) -> ReadFault {
+        ReadFault::OutOfMemory
+    }
+}
+
+/// A sink that appends to a vector. A write fails if allocation fails.
+#[derive(Drop)]
+pub struct GrowingSink {
+    /// The vector with the bytes written so far.
+    pub taken: Vec<u8>,
+    /// Whether a write has failed.
+    pub failed: bool,
+}
+
+impl GrowingSink {
+    /// Creates a sink for which no write has failed.
+    pub fn new(taken: Vec<u8>) -> GrowingSink
+        ensures taken { result.taken ≡ taken }
+        ensures flag { result.failed ≡ false }
+    {
+        GrowingSink {
+            taken,
+            failed: false,
+        }
+    }
+}
+
+impl Sink for GrowingSink {
+    ghost taken = { λ s. Some s.taken.items };
+
+    ghost failed = { λ s. s.failed };
+
+    fn write(&mut self, bytes: &[u8]) -> Result<usize, Failed> {
+        match self.taken.extend_from_slice(bytes) {
+            Ok(()) => Ok(bytes.len()),
+            Err(_) => {
+                self.failed = true;
+                Err(Failed)
+            }
+        }
+    }
 }

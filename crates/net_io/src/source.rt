@@ -5,7 +5,7 @@ ghost use Rattle.std.specs.Io.{ReadsAtMost};
 ghost use Rattle.std.specs.Io.KnownBytes.{ReadConsumes};
 ghost use Rattle.net_io.specs.Ends.{ReadsToLimit, ReadsFront};
 
-use crate::failed::{Failed, ReadFault};
+use crate::sink::{Failed, ReadFault};
 use std::alloc::Global;
 
 /// A source of bytes.

@@ -2,8 +2,7 @@
 
 ghost use Rattle.std.specs.Prelude.{◌≡◌, false};
 
-use crate::failed::Failed;
-use crate::sink::Sink;
+use crate::sink::{Failed, Sink};
 use crate::source::Source;
 use std::io::{Read, Write};
 

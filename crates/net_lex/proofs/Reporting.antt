@@ -1,8 +1,8 @@
 -- What is answered of a text, from what its tokens tell.
 use Rattle.std.proofs.Common.{◌≡◌, ℕ, ◌≤◌, Result, Ok, Err, MatchResult, IfOk, IfErr, IsUtf8, List, [], length, refl, arith}
 use Rattle.std.specs.List.{AllByRecursion}
-use Rattle.net_base.specs.declared.fault.Fault.{Fault}
-use Rattle.net_base.specs.declared.fault.Fault.TheVariants.{OutOfMemory, At}
+use Rattle.net_base.specs.declared.diagnostic.Fault.{Fault}
+use Rattle.net_base.specs.declared.diagnostic.Fault.TheVariants.{OutOfMemory, At}
 use Rattle.net_base.specs.Outcomes.{bare}
 use Rattle.net_base.specs.declared.diagnostic.Language.{Language}
 use Rattle.net_lex.specs.declared.token.Token.{Token}

@@ -4,8 +4,8 @@ use Rattle.std.specs.Prelude.{◌≡◌, ℕ, ◌≤◌, List, length, Result, I
 use Rattle.std.specs.List.{AllByRecursion}
 use Rattle.std.specs.Str.{IsUtf8}
 use Rattle.net_base.specs.declared.error_code.ErrorCode.{ErrorCode}
-use Rattle.net_base.specs.declared.fault.Fault.{Fault}
-use Rattle.net_base.specs.declared.fault.Fault.TheVariants.{OutOfMemory, At}
+use Rattle.net_base.specs.declared.diagnostic.Fault.{Fault}
+use Rattle.net_base.specs.declared.diagnostic.Fault.TheVariants.{OutOfMemory, At}
 use Rattle.net_base.specs.Outcomes.{bare}
 use Rattle.net_base.specs.declared.diagnostic.Language.{Language}
 use Rattle.net_base.specs.declared.diagnostic.Span.{Span}

@@ -1,6 +1,7 @@
 -- Limits of model and data files in this profile: lengths of files and tokens in bytes, and the
 -- absolute value of a numeral.
 use Rattle.std.specs.Prelude.{ℕ}
+use Rattle.net_normal.specs.Limits.{value_limit}
 use Rattle.net_base.specs.declared.diagnostic.Language.{Language}
 use Rattle.net_base.specs.declared.diagnostic.Language.TheVariants.{Model, Data}
 
@@ -10,7 +11,7 @@ pub record Limits : Type 0 where
   pub value : ℕ
 
 abbrev pub limits : Limits
-limits = record { token = 255; value = 1000000000000 }
+limits = record { token = 255; value = value_limit }
 
 -- 1 MiB for a model, 16 MiB for a data file
 abbrev pub text_limit : Language → ℕ

@@ -6,11 +6,11 @@ ghost use Rattle.net_lex.specs.Shapes.{data_front};
 
 use crate::bare_word::word_len;
 use crate::bytes::first;
+use crate::reserved_words::data_mark_len;
 use crate::shape::{BadFront, Shape, mark_front};
 use crate::string::{is_quote, string_at};
 use crate::token::Token;
 use crate::tokens::lex;
-use crate::words::data_mark_len;
 use net_base::{Fault, Language};
 use std::alloc::Global;
 

@@ -1,10 +1,16 @@
 //! The first error of a text, without its tokens.
-ghost use Rattle.std.specs.Prelude.{◌≤◌, ◌^◌, List, length, MatchOption};
+
+ghost use Rattle.std.specs.Prelude.{◌≤◌, ◌^◌, List, length, MatchOption, ◌≡◌, ℕ};
 ghost use Rattle.net_lex.specs.Limits.{limits};
-ghost use Rattle.net_lex.specs.Reading.{EndsInGap};
+ghost use Rattle.net_lex.specs.Reading.{EndsInGap, Reads};
 ghost use Rattle.net_lex.specs.Faults.{IsFault, StandSound};
 ghost use Rattle.net_lex.specs.Lexing.{AreTokensOf, IsFirstFault};
-ghost use Rattle.net_lex.specs.declared.token.Token.{Token as Word};
+ghost use Rattle.net_lex.specs.declared.token.Token.{Token as Word, Token};
+ghost use Rattle.net_base.specs.declared.error_code.ErrorCode.{ErrorCode};
+ghost use Rattle.net_base.specs.declared.diagnostic.Language.{Language};
+ghost use Rattle.net_base.specs.declared.diagnostic.Span.{Span};
+ghost use Rattle.std.specs.List.{AllByRecursion};
+ghost use Rattle.net_lex.specs.LineEnds.{HasNoLineEnd};
 
 use crate::scan::step;
 use crate::tokens::text_limit;
@@ -52,3 +58,27 @@ pub fn first_error(language: Language, text: &[u8]) -> Option<(ErrorCode, Span)>
         Ok(text) => first_error_in(language, text),
     }
 }
+
+/// Theorem: a text consists of at most one list of tokens.
+pub fn one_reading()
+    ensures value { (language : Language) (text : List ℕ) (tokens others : List Token)
+        → Reads language text tokens → Reads language text others → tokens ≡ others }
+{}
+
+/// Theorem: no text has both tokens and a first error.
+pub fn read_or_rejected()
+    ensures value { (language : Language) (text : List ℕ) (tokens : List Token) (error_code : ErrorCode) (span : Span)
+        → AreTokensOf language text tokens → IsFirstFault language text error_code span → ⊥ }
+{}
+
+/// Theorem: a text has at most one first error.
+pub fn one_first_fault()
+    ensures value { (language : Language) (text : List ℕ) (error_code other : ErrorCode) (span place : Span)
+        → IsFirstFault language text error_code span → IsFirstFault language text other place → (error_code ≡ other) × (span ≡ place) }
+{}
+
+/// Theorem: no token of a text contains a line ending.
+pub fn tokens_have_no_line_ends()
+    ensures value { (language : Language) (text : List ℕ) (tokens : List Token)
+        → AreTokensOf language text tokens → AllByRecursion (λ token. HasNoLineEnd token.text) tokens }
+{}

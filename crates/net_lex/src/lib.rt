@@ -6,10 +6,9 @@ mod bytes;
 mod data_text;
 mod error_search;
 mod gap;
-mod laws;
 mod model_text;
 mod numeral;
-mod places;
+mod reserved_words;
 mod scan;
 mod shape;
 mod significand;
@@ -17,13 +16,12 @@ mod string;
 mod token;
 mod tokens;
 mod whole;
-mod words;
 
 pub use data_text::{DATA_LIMIT, lex_data};
-pub use error_search::first_error;
-pub use laws::{one_first_fault, one_reading, read_or_rejected, tokens_have_no_line_ends};
+pub use error_search::{
+    first_error, one_first_fault, one_reading, read_or_rejected, tokens_have_no_line_ends,
+};
 pub use model_text::{MODEL_LIMIT, lex_model};
 pub use net_base::{Fault as LexFault, Span};
-pub use places::line_column;
-pub use token::{Kind, Token};
+pub use token::{Kind, Token, line_column};
 pub use whole::{NumFault, VALUE_LIMIT, whole_of};

@@ -8,11 +8,11 @@ ghost use Rattle.net_lex.specs.Shapes.{unnamed_front, model_front};
 
 use crate::bytes::first;
 use crate::numeral::numeral_at;
+use crate::reserved_words::model_mark_len;
 use crate::shape::{BadFront, Shape, mark_front};
 use crate::string::{is_quote, string_at};
 use crate::token::Token;
 use crate::tokens::lex;
-use crate::words::model_mark_len;
 use net_base::{Fault, Language};
 use std::alloc::Global;
 

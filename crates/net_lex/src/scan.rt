@@ -11,10 +11,10 @@ ghost use Rattle.net_lex.specs.declared.shape.Shape.TheVariants.{Word};
 use crate::data_text::data_front;
 use crate::gap::gap_len;
 use crate::model_text::model_front;
+use crate::reserved_words::is_reserved;
 use crate::shape::{BadFront, Shape};
 use crate::token::{Kind, Token};
 use crate::whole::{NumFault, whole_of};
-use crate::words::is_reserved;
 use net_base::{ErrorCode, Excerpt, Language, Span};
 
 /// The maximum length of a token, in bytes.

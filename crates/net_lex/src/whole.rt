@@ -26,7 +26,7 @@ pub enum NumFault {
 }
 
 /// The maximum absolute value of a numeral.
-pub const VALUE_LIMIT: u64 = 1_000_000_000_000;
+pub const VALUE_LIMIT: u64 = net_normal::VALUE_LIMIT as u64;
 
 /// Represents every exponent that is greater than any possible number of digits.
 const FAR: u128 = 0x1_0000_0000_0000_0000_0000;

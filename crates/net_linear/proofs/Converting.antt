@@ -15,8 +15,8 @@ use Rattle.net_expr.specs.declared.row.Row.{Row}
 use Rattle.net_tree.specs.Operations.{reduction, is_minus, operation}
 use Rattle.net_expr.specs.Values.{index}
 use Rattle.net_expr.specs.Worlds.{World, Scope}
-use Rattle.net_base.specs.declared.fault.Fault.{Fault}
-use Rattle.net_base.specs.declared.fault.Fault.TheVariants.{OutOfMemory, At}
+use Rattle.net_base.specs.declared.diagnostic.Fault.{Fault}
+use Rattle.net_base.specs.declared.diagnostic.Fault.TheVariants.{OutOfMemory, At}
 use Rattle.net_linear.specs.Arcs.{Arcs}
 use Rattle.net_linear.specs.Forms.{Linear, Term, join, turn, total, gathered, gathered_over}
 use Rattle.net_linear.specs.Objectives.{names_arc, any_arc, first_or_any, braces_arc, is_sum, is_linear, mixed, linear, key_of, arc_term, condition, objective, otherwise, chained, with_arcs}

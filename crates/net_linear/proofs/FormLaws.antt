@@ -19,7 +19,7 @@ use Rattle.net_linear.specs.Forms.{Products, more, with_times, all_small, Linear
 use Rattle.net_linear.specs.Objectives.{plain_term, mixed, linear}
 use Rattle.net_base.specs.Outcomes.{Outcome, Refines, and_then, rejected}
 use Rattle.net_linear.specs.Amounts.{number_or_none}
-use Rattle.net_base.specs.declared.fault.Fault.{Fault}
+use Rattle.net_base.specs.declared.diagnostic.Fault.{Fault}
 use Rattle.net_linear.specs.ObjectiveValues.{read, number_at, combine, sum_over, sum_in, choose}
 use Rattle.net_normal.proofs.WholeNumbers.{mul-add}
 use Rattle.net_linear.proofs.Ranges.{ok_then}

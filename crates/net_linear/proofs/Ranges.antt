@@ -15,7 +15,7 @@ use Rattle.net_expr.specs.Worlds.{World, Scope}
 use Rattle.net_linear.specs.declared.condition.Comparison.{Comparison}
 use Rattle.net_linear.specs.declared.condition.Comparison.TheVariants.{Equal, AtMost, AtLeast}
 use Rattle.net_linear.specs.declared.condition.Sides.{Sides}
-use Rattle.net_base.specs.declared.fault.Fault.{Fault}
+use Rattle.net_base.specs.declared.diagnostic.Fault.{Fault}
 use Rattle.net_linear.specs.declared.net_term.NetTerm.{NetTerm}
 use Rattle.net_linear.specs.declared.net_term.NetTerm.TheVariants.{Absent, Inflow, Outflow}
 use Rattle.net_linear.specs.Conditions.{comparison_in, side_at, Compares, Holds, compared_with, flipped, solved, solved_sides, met_ends, from_to, sides_in, are_crossed, uncrossed, range_in, AreSides, AnswersRange}

@@ -2,7 +2,7 @@
 use Rattle.std.specs.Prelude.{◌≡◌, true, false, Option, Some, Result, ℤ}
 use Rattle.std.proofs.Common.{sym, subst}
 use Rattle.net_base.specs.declared.diagnostic.Span.{Span}
-use Rattle.net_base.specs.declared.fault.Fault.{Fault}
+use Rattle.net_base.specs.declared.diagnostic.Fault.{Fault}
 use Rattle.net_base.specs.Outcomes.{Refines}
 use Rattle.net_linear.specs.Forms.{Linear, Term, is_number, just, sized, scaled, times}
 use Rattle.net_linear.specs.Objectives.{plain_term}

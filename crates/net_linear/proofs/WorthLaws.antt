@@ -13,7 +13,7 @@ use Rattle.net_linear.specs.Forms.{Linear, Term, just, join, turn, as_form, form
 use Rattle.net_linear.specs.Laws.{HaveValue}
 use Rattle.net_linear.specs.Objectives.{names_arc, any_arc, braces_arc, is_sum, is_linear, key_of, condition, objective, otherwise, chained, objective_form}
 use Rattle.net_base.specs.Outcomes.{Outcome, Refines, and_then}
-use Rattle.net_base.specs.declared.fault.Fault.{Fault}
+use Rattle.net_base.specs.declared.diagnostic.Fault.{Fault}
 use Rattle.net_linear.specs.ObjectiveValues.{combine, value_of_tree, value_of_else, value_of_chain}
 use Rattle.net_linear.proofs.FormLaws.{term_at, same_term, form_just, join_ok, turn_ok, total_ok, mixed_ok, no_arcs, linear_ok, arc_ok, choose_ok}
 use Rattle.net_linear.proofs.Ranges.{ok_then}

@@ -9,8 +9,8 @@ ghost use Rattle.net_linear.specs.Conditions as conditions;
 ghost use Rattle.net_base.specs.Outcomes.{Refines};
 ghost use Rattle.net_linear.specs.declared.condition.Comparison.TheVariants.{Equal};
 
+use crate::linear_value::number_or_none;
 use crate::net_term::{NetTerm, net_side};
-use crate::value::number_or_none;
 use net_base::{ErrorCode, Fault, Span};
 use net_expr::{Env, Scope, is_small};
 use net_normal::NodeRange;

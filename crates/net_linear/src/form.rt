@@ -4,6 +4,8 @@ ghost use Rattle.std.specs.Prelude.{◌≡◌, [], ◌≤◌, ◌+◌, ◌^◌, 
 ghost use Rattle.net_expr.specs.Limits.{is_small};
 ghost use Rattle.net_normal.specs.Limits.{IsSized, value_limit};
 ghost use Rattle.net_linear.specs.Forms as forms;
+ghost use Rattle.net_linear.specs.Laws.{HaveValue};
+ghost use Rattle.net_linear.specs.Soundness.{ConditionsAreSound, ObjectivesAreSound};
 
 use crate::products::{add_times, are_small, both, coefficient_of, product_of, sum_of};
 use indexmap::IndexMap;
@@ -218,3 +220,20 @@ impl Affine {
         narrow(&coefficient)
     }
 }
+
+/// Theorem: at each assignment, the value of an objective's linear form is the value of its
+/// expression.
+pub fn forms_have_value()
+    ensures value_of_tree { HaveValue }
+{}
+
+/// Theorem: at each assignment, the value of an objective's linear form is a value of its
+/// expression.
+pub fn objectives_are_sound()
+    ensures value { ObjectivesAreSound }
+{}
+
+/// Theorem: a condition is true of a net inflow exactly when its linear form holds for it.
+pub fn conditions_are_sound()
+    ensures value { ConditionsAreSound }
+{}

@@ -2,22 +2,20 @@
 //! objectives.
 #![tactic(auto)]
 
+mod arc_names;
 mod condition;
 mod form;
 mod key_numbers;
-mod laws;
-mod names;
+mod linear_value;
 mod net_term;
+mod objective_price;
 mod objectives;
-mod price;
 mod products;
 mod term;
-mod value;
 
 pub use condition::{Comparison, Sides, node_range};
-pub use form::Affine;
+pub use form::{Affine, conditions_are_sound, forms_have_value, objectives_are_sound};
 pub use key_numbers::{KeyNumbers, NumberedNames};
-pub use laws::{conditions_are_sound, forms_have_value, objectives_are_sound};
 pub use net_term::NetTerm;
+pub use objective_price::with_price;
 pub use objectives::{key_of, objective};
-pub use price::with_price;

@@ -11,11 +11,11 @@ ghost use Rattle.net_linear.specs.Objectives as objectives;
 ghost use Rattle.net_base.specs.Outcomes.{Refines, and_then};
 ghost use Rattle.net_linear.specs.ObjectiveValues.{value_of_tree};
 
+use crate::arc_names::{any_arc, braces_arc, is_linear, names_arc};
 use crate::form::{Affine, Sum};
 use crate::key_numbers::{NumberedNames, arc_at};
-use crate::names::{any_arc, braces_arc, is_linear, names_arc};
+use crate::linear_value::{is_sum, number_or_none, truth_of};
 use crate::term::{gather, join, plain_term, sized, turn};
-use crate::value::{is_sum, number_or_none, truth_of};
 use net_base::{Boxed, ErrorCode, Fault, Span};
 use net_expr::{Env, Keys, Scope, index_of, reject_tree};
 use net_lex::Token;

@@ -5,7 +5,7 @@ use Rattle.std.specs.List.{AllZip}
 use Rattle.std.specs.Str.{bytes_eq}
 use Rattle.net_sets.specs.Sets.{Tuple, same_tuple}
 use Rattle.net_expr.specs.Worlds.{Name}
-use Rattle.net_normal.specs.declared.link.Link.{Link}
+use Rattle.net_normal.specs.declared.problem.Link.{Link}
 use Rattle.net_normal.specs.declared.problem.FlowArc.{FlowArc}
 use Rattle.net_normal.specs.declared.problem.Problem.{Problem}
 use Rattle.net_normal.specs.Flows.{net_outflow, IsWithinCapacity, IsFeasibleFlow, cost_of}

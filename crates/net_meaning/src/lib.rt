@@ -1,6 +1,6 @@
 //! The meaning of a model with its data, as relations without errors.
 #![tactic(auto)]
 
-mod laws;
+mod meaning_laws;
 
-pub use laws::{evaluation_is_sound, texts_come_from_tokens, values_are_unique};
+pub use meaning_laws::{evaluation_is_sound, texts_come_from_tokens, values_are_unique};

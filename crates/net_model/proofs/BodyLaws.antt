@@ -13,7 +13,7 @@ use Rattle.net_tree.specs.Phrases.{IsNothing, IsNumeral, IsBound, IsOperand, IsV
 use Rattle.net_model.specs.declared.phrases.Slot.{Slot}
 use Rattle.net_model.specs.declared.phrases.Slot.TheVariants as slots
 use Rattle.net_model.specs.declared.expected.Expected.TheVariants as sorts
-use Rattle.net_model.specs.declared.parse_error.Awaiting.TheVariants as awaiting
+use Rattle.net_model.specs.declared.model_parser.Awaiting.TheVariants as awaiting
 use Rattle.net_model.specs.Reading.{Tokens, next_is}
 use Rattle.net_model.specs.Expressions.{Inner, all_links, climb, unary_at, unary, nested, is_subscripted, subscripts_at, named_at}
 use Rattle.net_model.specs.Phrases.{body_of}

@@ -12,7 +12,7 @@ use Rattle.net_tree.specs.Depth.{depth, condition_depth}
 use Rattle.net_tree.specs.WellFormed.{precedence}
 use Rattle.net_tree.specs.Conditions.{IsSum, IsNetSum, same_order, IsCondition}
 use Rattle.net_model.specs.declared.expected.Expected.TheVariants as sorts
-use Rattle.net_model.specs.declared.parse_error.Awaiting.TheVariants as awaiting
+use Rattle.net_model.specs.declared.model_parser.Awaiting.TheVariants as awaiting
 use Rattle.net_model.specs.Reading.{Tokens, rejected, next_is}
 use Rattle.net_model.specs.Expressions.{Inner, climb, unary, nested}
 use Rattle.net_model.specs.Conditions.{is_at_most, is_at_least, chains, chain_next, high_at, middle_at, bounded_at, said_at, condition_at}

@@ -5,7 +5,7 @@ use Rattle.net_resolve.specs.Names.{names_fault}
 use Rattle.net_resolve.specs.Reported as names
 use Rattle.net_resolve.specs.Reported.{diagnostic_of}
 use Rattle.net_tree.specs.Tree.{Declaration}
-use Rattle.net_model.specs.declared.parse_error.ParseError.TheVariants as stops
+use Rattle.net_model.specs.declared.model_parser.ParseError.TheVariants as stops
 use Rattle.net_model.specs.Reading.{Tokens, Read}
 use Rattle.net_model.specs.Expressions.{nested}
 use Rattle.net_model.specs.Rows.{row}

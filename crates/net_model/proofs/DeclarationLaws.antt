@@ -17,7 +17,7 @@ use Rattle.net_tree.specs.Declarations.{IsIndexing, IsObjective, IsDeclaration}
 use Rattle.net_model.specs.declared.phrases.Owner.{Owner}
 use Rattle.net_model.specs.declared.phrases.Owner.TheVariants as owners
 use Rattle.net_model.specs.declared.expected.Expected.TheVariants as sorts
-use Rattle.net_model.specs.declared.parse_error.Awaiting.TheVariants as awaiting
+use Rattle.net_model.specs.declared.model_parser.Awaiting.TheVariants as awaiting
 use Rattle.net_model.specs.Reading.{Tokens, next_is}
 use Rattle.net_model.specs.Expressions.{Inner, nested, unary, wide, part_at, present_at}
 use Rattle.net_model.specs.Phrases.{nothing_stood}

@@ -9,8 +9,8 @@ use Rattle.net_tree.specs.WellFormed.{IsWellFormed}
 use Rattle.net_tree.specs.Conditions.{IsCondition}
 use Rattle.net_tree.specs.Phrases.{AreParamPhrases}
 use Rattle.net_tree.specs.Declarations.{IsDeclaration}
-use Rattle.net_model.specs.declared.parse_error.Awaiting.TheVariants.{Other}
-use Rattle.net_model.specs.declared.parse_error.ParseError.TheVariants.{Rejected, TooDeep}
+use Rattle.net_model.specs.declared.model_parser.Awaiting.TheVariants.{Other}
+use Rattle.net_model.specs.declared.model_parser.ParseError.TheVariants.{Rejected, TooDeep}
 use Rattle.net_model.specs.Reading.{expect}
 use Rattle.net_model.specs.Expressions.{operator_at, chain_at, climb, named_at, unary_at, unary, inner_of, nested}
 use Rattle.net_model.specs.Declarations.{indexing_at, check_at, declared_at, declaration_at, declaration_step, model_at}

@@ -9,9 +9,9 @@ use Rattle.net_tree.specs.Tree.{leaf, indexed, negated, braced, signed, reduced,
 use Rattle.net_tree.specs.WellFormed.{precedence, joins}
 use Rattle.net_model.specs.declared.expected.Expected.{Expected}
 use Rattle.net_model.specs.declared.expected.Expected.TheVariants as sorts
-use Rattle.net_model.specs.declared.parse_error.Awaiting.TheVariants as awaiting
-use Rattle.net_model.specs.declared.parse_error.ParseError.{ParseError}
-use Rattle.net_model.specs.declared.parse_error.ParseError.TheVariants as stops
+use Rattle.net_model.specs.declared.model_parser.Awaiting.TheVariants as awaiting
+use Rattle.net_model.specs.declared.model_parser.ParseError.{ParseError}
+use Rattle.net_model.specs.declared.model_parser.ParseError.TheVariants as stops
 use Rattle.net_model.specs.Reading.{Tokens, Read, ◌>>=◌, read_as, rejected, too_deep, next_is, is_sort, expect}
 use Rattle.net_model.specs.Expressions.{Reader, Inner, operator_at, links, all_links, chained, chain_at, climb, present_at, part_at, is_subscripted, subscripts_at, named_at, closed, listed, parens_from, parens_at, not_shut, negated_at, ends_braces, empty_braces_at, items_at, braces_at, braces, reduction_at, conditional_at, unary_at, unary, if_at, wide, inner_of, nested}
 

@@ -11,7 +11,7 @@ use Rattle.net_tree.specs.Print.{put, put_links, put_operator}
 use Rattle.net_tree.specs.Depth.{depth, links_depth}
 use Rattle.net_tree.specs.WellFormed.{precedence, room, joins, head_of, IsOperator, IsWellFormed, AreWellFormed}
 use Rattle.net_model.specs.declared.expected.Expected.TheVariants as sorts
-use Rattle.net_model.specs.declared.parse_error.Awaiting.TheVariants as awaiting
+use Rattle.net_model.specs.declared.model_parser.Awaiting.TheVariants as awaiting
 use Rattle.net_model.specs.Reading.{Tokens, next_is}
 use Rattle.net_model.specs.Expressions.{Reader, operator_at, links, all_links, chain_at, climb, unary, if_at, nested}
 use Rattle.net_model.proofs.Tools.{expect-complete}

@@ -11,7 +11,7 @@ use Rattle.net_tree.specs.Tree.{Tree, Links, leaf, indexed, parens, tuple, negat
 use Rattle.net_tree.specs.WellFormed.{precedence, joins}
 use Rattle.net_model.specs.declared.expected.Expected.{Expected}
 use Rattle.net_model.specs.declared.expected.Expected.TheVariants as sorts
-use Rattle.net_model.specs.declared.parse_error.Awaiting.TheVariants as awaiting
+use Rattle.net_model.specs.declared.model_parser.Awaiting.TheVariants as awaiting
 use Rattle.net_model.specs.Meaning.{opens}
 use Rattle.net_model.specs.Reading.{Tokens, Read, ◌>>=◌, read_as, rejected, next_is, is_sort, expect}
 use Rattle.net_model.specs.Expressions.{Reader, Inner, operator_at, links, all_links, chained, chain_at, climb, present_at, part_at, subscripts_at, named_at, closed, listed, parens_from, parens_at, not_shut, negated_at, ends_braces, empty_braces_at, items_at, braces_at, braces, reduction_at, conditional_at, unary_at, unary, if_at, wide, inner_of, nested}

@@ -3,9 +3,9 @@ use Rattle.std.specs.Prelude.{◌≡◌, ◌≤◌, ℕ, suc, Bool, true, false,
 use Rattle.std.proofs.Common.{refl, sym, ap, ◌∙◌, arith, subst}
 use Rattle.net_lex.specs.declared.token.Token.{Token}
 use Rattle.net_tree.specs.Role.{role_of}
-use Rattle.net_model.specs.declared.parse_error.Awaiting.{Awaiting}
-use Rattle.net_model.specs.declared.parse_error.ParseError.{ParseError}
-use Rattle.net_model.specs.declared.parse_error.ParseError.TheVariants as stops
+use Rattle.net_model.specs.declared.model_parser.Awaiting.{Awaiting}
+use Rattle.net_model.specs.declared.model_parser.ParseError.{ParseError}
+use Rattle.net_model.specs.declared.model_parser.ParseError.TheVariants as stops
 use Rattle.net_model.specs.Meaning.{announces}
 use Rattle.net_model.specs.Reading.{Tokens, Read, ◌>>=◌, rejected, too_deep}
 use Rattle.net_model.proofs.Readers.{put_before, twice-before}

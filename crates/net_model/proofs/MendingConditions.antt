@@ -8,7 +8,7 @@ use Rattle.net_tree.specs.Print.{put, put_condition}
 use Rattle.net_tree.specs.Depth.{depth, condition_depth}
 use Rattle.net_tree.specs.Conditions.{IsSum, IsNetSum, IsCondition}
 use Rattle.net_model.specs.declared.expected.Expected.TheVariants as sorts
-use Rattle.net_model.specs.declared.parse_error.Awaiting.TheVariants as awaiting
+use Rattle.net_model.specs.declared.model_parser.Awaiting.TheVariants as awaiting
 use Rattle.net_model.specs.Reading.{Tokens, ◌>>=◌, read_as, rejected, next_is, expect}
 use Rattle.net_model.specs.Expressions.{Inner, climb, unary}
 use Rattle.net_model.specs.Conditions.{chains, sum_at, high_at, middle_at, bounded_at, said_at, condition_at}

@@ -14,7 +14,7 @@ use Rattle.net_tree.specs.Depth.{indexing_depth, declaration_depth}
 use Rattle.net_tree.specs.Declarations.{IsIndexing, IsDeclaration}
 use Rattle.net_model.specs.declared.phrases.Owner.TheVariants as owners
 use Rattle.net_model.specs.declared.expected.Expected.TheVariants as sorts
-use Rattle.net_model.specs.declared.parse_error.Awaiting.TheVariants as awaiting
+use Rattle.net_model.specs.declared.model_parser.Awaiting.TheVariants as awaiting
 use Rattle.net_model.specs.Reading.{Tokens, next_is}
 use Rattle.net_model.specs.Expressions.{Inner, climb, unary, wide, braces, part_at, nested}
 use Rattle.net_model.specs.Phrases.{phrases, phrases_end}

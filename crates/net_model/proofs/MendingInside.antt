@@ -11,8 +11,8 @@ use Rattle.net_tree.specs.Depth.{depth}
 use Rattle.net_tree.specs.WellFormed.{precedence, IsWellFormed}
 use Rattle.net_tree.specs.Phrases.{IsReference}
 use Rattle.net_model.specs.declared.expected.Expected.TheVariants as sorts
-use Rattle.net_model.specs.declared.parse_error.Awaiting.TheVariants as awaiting
-use Rattle.net_model.specs.declared.parse_error.ParseError.TheVariants as stops
+use Rattle.net_model.specs.declared.model_parser.Awaiting.TheVariants as awaiting
+use Rattle.net_model.specs.declared.model_parser.ParseError.TheVariants as stops
 use Rattle.net_model.specs.Meaning.{announces}
 use Rattle.net_model.specs.Reading.{Tokens, Read, ◌>>=◌, read_as, rejected, too_deep, next_is}
 use Rattle.net_model.specs.Expressions.{Inner, climb, named_at, not_shut, negated_at, braces_at, braces, reduction_at, unary_at, unary, if_at, wide, inner_of, nested}

@@ -12,9 +12,9 @@ use Rattle.net_tree.specs.Depth.{depth, links_depth}
 use Rattle.net_tree.specs.WellFormed.{precedence, room, joins, head_of, IsOperator, IsWellFormed, AreWellFormed}
 use Rattle.net_model.specs.declared.expected.Expected.{Expected}
 use Rattle.net_model.specs.declared.expected.Expected.TheVariants as sorts
-use Rattle.net_model.specs.declared.parse_error.Awaiting.{Awaiting}
-use Rattle.net_model.specs.declared.parse_error.Awaiting.TheVariants as awaiting
-use Rattle.net_model.specs.declared.parse_error.ParseError.{ParseError}
+use Rattle.net_model.specs.declared.model_parser.Awaiting.{Awaiting}
+use Rattle.net_model.specs.declared.model_parser.Awaiting.TheVariants as awaiting
+use Rattle.net_model.specs.declared.model_parser.ParseError.{ParseError}
 use Rattle.net_model.specs.Reading.{Tokens, Read, ◌>>=◌, read_as, next_is, is_sort, expect}
 use Rattle.net_model.specs.Expressions.{Reader, operator_at, links, all_links, chain_at, climb, present_at, part_at}
 use Rattle.net_model.proofs.Tools.{expect-sound}

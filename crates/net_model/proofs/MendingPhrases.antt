@@ -15,7 +15,7 @@ use Rattle.net_model.specs.declared.phrases.Slot.{Slot}
 use Rattle.net_model.specs.declared.phrases.Slot.TheVariants as slots
 use Rattle.net_model.specs.declared.phrases.Stood.{Stood}
 use Rattle.net_model.specs.declared.expected.Expected.TheVariants as sorts
-use Rattle.net_model.specs.declared.parse_error.Awaiting.TheVariants as awaiting
+use Rattle.net_model.specs.declared.model_parser.Awaiting.TheVariants as awaiting
 use Rattle.net_model.specs.Reading.{Tokens, Read, ◌>>=◌, read_as, rejected, expect}
 use Rattle.net_model.specs.Expressions.{Inner, climb, unary, wide, named_at}
 use Rattle.net_model.specs.Phrases.{slot_of, stood_before, and_then_stood, nothing_stood, phrase_next, awaited, body_of, phrase_of_slot, worded, comma_at, phrase_at, phrases, phrases_end}

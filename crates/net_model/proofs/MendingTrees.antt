@@ -10,7 +10,7 @@ use Rattle.net_tree.specs.Depth.{depth, links_depth}
 use Rattle.net_tree.specs.WellFormed.{precedence, IsWellFormed, AreWellFormed, IsElse}
 use Rattle.net_tree.specs.Phrases.{IsReference}
 use Rattle.net_model.specs.declared.expected.Expected.TheVariants as sorts
-use Rattle.net_model.specs.declared.parse_error.Awaiting.TheVariants as awaiting
+use Rattle.net_model.specs.declared.model_parser.Awaiting.TheVariants as awaiting
 use Rattle.net_model.specs.Reading.{Tokens, next_is, is_sort}
 use Rattle.net_model.specs.Expressions.{Inner, all_links, part_at, is_subscripted, subscripts_at, named_at, closed, listed, parens_from, parens_at, negated_at, ends_braces, empty_braces_at, items_at, braces_at, braces, reduction_at, conditional_at}
 use Rattle.net_model.proofs.LinksSound.{UpTo, links-sound}

@@ -18,10 +18,10 @@ use Rattle.net_model.specs.declared.phrases.Slot.{Slot}
 use Rattle.net_model.specs.declared.phrases.Slot.TheVariants as slots
 use Rattle.net_model.specs.declared.phrases.Stood.{Stood}
 use Rattle.net_model.specs.declared.expected.Expected.TheVariants as sorts
-use Rattle.net_model.specs.declared.parse_error.Awaiting.{Awaiting}
-use Rattle.net_model.specs.declared.parse_error.Awaiting.TheVariants as awaiting
-use Rattle.net_model.specs.declared.parse_error.ParseError.{ParseError}
-use Rattle.net_model.specs.declared.parse_error.ParseError.TheVariants as stops
+use Rattle.net_model.specs.declared.model_parser.Awaiting.{Awaiting}
+use Rattle.net_model.specs.declared.model_parser.Awaiting.TheVariants as awaiting
+use Rattle.net_model.specs.declared.model_parser.ParseError.{ParseError}
+use Rattle.net_model.specs.declared.model_parser.ParseError.TheVariants as stops
 use Rattle.net_model.specs.Reading.{Tokens, ◌>>=◌, read_as, rejected, next_is, expect}
 use Rattle.net_model.specs.Rows.{Step, row}
 use Rattle.net_model.specs.Expressions.{Inner, operator_at, chained, climb, part_at, unary, wide, named_at, braces, nested}

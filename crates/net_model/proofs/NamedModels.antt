@@ -5,8 +5,8 @@ use Rattle.net_tree.specs.Tree.{Declaration}
 use Rattle.net_resolve.specs.Names.{names_fault, IsWellNamed}
 use Rattle.net_resolve.specs.Reported as names
 use Rattle.net_resolve.specs.Reported.{ReportsOf}
-use Rattle.net_base.specs.declared.fault.Fault.{Fault}
-use Rattle.net_base.specs.declared.fault.Fault.TheVariants as faults
+use Rattle.net_base.specs.declared.diagnostic.Fault.{Fault}
+use Rattle.net_base.specs.declared.diagnostic.Fault.TheVariants as faults
 use Rattle.net_model.specs.Declarations.{model_at, nesting_limit}
 use Rattle.net_model.specs.Meaning.{Means}
 use Rattle.net_model.specs.Models.{unless_fault, meant_by, meant, IsFault, of_grammar, of_names}

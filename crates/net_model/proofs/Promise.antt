@@ -10,11 +10,11 @@ use Rattle.net_tree.specs.Role.{role_of}
 use Rattle.net_tree.specs.Tree.{Declaration}
 use Rattle.net_base.specs.declared.error_code.ErrorCode.{ErrorCode}
 use Rattle.net_base.specs.declared.error_code.ErrorCode.TheVariants as error_codes
-use Rattle.net_base.specs.declared.fault.Fault.{Fault}
-use Rattle.net_base.specs.declared.fault.Fault.TheVariants as faults
-use Rattle.net_model.specs.declared.parse_error.Awaiting.{Awaiting}
-use Rattle.net_model.specs.declared.parse_error.ParseError.{ParseError}
-use Rattle.net_model.specs.declared.parse_error.ParseError.TheVariants as stops
+use Rattle.net_base.specs.declared.diagnostic.Fault.{Fault}
+use Rattle.net_base.specs.declared.diagnostic.Fault.TheVariants as faults
+use Rattle.net_model.specs.declared.model_parser.Awaiting.{Awaiting}
+use Rattle.net_model.specs.declared.model_parser.ParseError.{ParseError}
+use Rattle.net_model.specs.declared.model_parser.ParseError.TheVariants as stops
 use Rattle.net_model.specs.Reading.{Tokens, Read, Fails, next_is}
 use Rattle.net_model.specs.Declarations.{model_at, nesting_limit}
 use Rattle.net_model.specs.Faults.{begins_gain, foreign_error_code, foreign_for, misplaced, is_after_node, error_code_of, left_of, rejected_fault, deep_fault, reported, IsReportedOf}

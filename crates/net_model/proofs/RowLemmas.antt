@@ -2,7 +2,7 @@
 use Rattle.std.specs.Prelude.{◌≡◌, ◌≤◌, ◌+◌, ◌-◌, ℕ, zero, suc, Bool, true, false, cond, List, [], ◌∷◌, ◌++◌, length, map, Ok, Err}
 use Rattle.std.proofs.Common.{refl, sym, ap, ◌∙◌, arith, length-append, append_assoc}
 use Rattle.std.proofs.lemmas.List.{map-append}
-use Rattle.net_model.specs.declared.parse_error.ParseError.{ParseError}
+use Rattle.net_model.specs.declared.model_parser.ParseError.{ParseError}
 use Rattle.net_model.specs.Reading.{Tokens, Read, ◌>>=◌, read_as, Fails}
 use Rattle.net_model.specs.Rows.{Step, row, with_row}
 use Rattle.net_model.proofs.Turning.{fails}

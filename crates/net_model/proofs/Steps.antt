@@ -6,7 +6,7 @@ use Rattle.net_tree.specs.Precedence.{of_or}
 use Rattle.net_tree.specs.Role.{role_of}
 use Rattle.net_tree.specs.Tree.{negated}
 use Rattle.net_model.specs.declared.expected.Expected.TheVariants as sorts
-use Rattle.net_model.specs.declared.parse_error.Awaiting.TheVariants as awaiting
+use Rattle.net_model.specs.declared.model_parser.Awaiting.TheVariants as awaiting
 use Rattle.net_model.specs.Reading.{Tokens, Read, ◌>>=◌, read_as, rejected, too_deep, is_sort, expect}
 use Rattle.net_model.specs.Expressions.{Reader, Inner, nested, inner_of, climb, chain_at, braces, braces_at, negated_at, not_shut}
 

@@ -12,7 +12,7 @@ use Rattle.net_tree.specs.Print.{put, put_links, put_part, put_braces}
 use Rattle.net_tree.specs.Depth.{depth, links_depth, part_depth, braces_depth}
 use Rattle.net_tree.specs.WellFormed.{precedence, joins, is_value, IsLinked, IsWellFormed, AreWellFormed, IsElse, IsFilter, AreBraces}
 use Rattle.net_model.specs.declared.expected.Expected.TheVariants as sorts
-use Rattle.net_model.specs.declared.parse_error.Awaiting.TheVariants as awaiting
+use Rattle.net_model.specs.declared.model_parser.Awaiting.TheVariants as awaiting
 use Rattle.net_model.specs.Reading.{Tokens, ◌>>=◌, read_as, next_is}
 use Rattle.net_model.specs.Expressions.{Reader, Inner, all_links, chain_at, climb, present_at, part_at, subscripts_at, named_at, closed, listed, parens_from, parens_at, negated_at, ends_braces, filter_at, empty_braces_at, items_at, braces_at, braces, reduction_at, conditional_at, unary_at, unary, if_at, wide, inner_of, nested}
 use Rattle.net_model.proofs.Tools.{expect-complete}

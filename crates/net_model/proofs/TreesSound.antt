@@ -12,7 +12,7 @@ use Rattle.net_tree.specs.Depth.{part_depth, braces_depth}
 use Rattle.net_tree.specs.WellFormed.{precedence, joins, is_value, IsWellFormed, IsElse, IsFilter, AreBraces}
 use Rattle.net_model.specs.declared.expected.Expected.{Expected}
 use Rattle.net_model.specs.declared.expected.Expected.TheVariants as sorts
-use Rattle.net_model.specs.declared.parse_error.Awaiting.TheVariants as awaiting
+use Rattle.net_model.specs.declared.model_parser.Awaiting.TheVariants as awaiting
 use Rattle.net_model.specs.Reading.{Tokens, Read, ◌>>=◌, read_as, next_is, is_sort}
 use Rattle.net_model.specs.Expressions.{Reader, Inner, climb, present_at, part_at, is_subscripted, subscripts_at, named_at, closed, listed, parens_from, parens_at, not_shut, negated_at, ends_braces, empty_braces_at, items_at, braces_at, braces, reduction_at, conditional_at, unary_at, unary, if_at, wide, inner_of, nested}
 use Rattle.net_model.proofs.Tools.{bind_ok, given, chosen, on, off, expect-sound}

@@ -7,8 +7,8 @@ use Rattle.net_tree.specs.declared.role.Role.{Role}
 use Rattle.net_tree.specs.Tree.{Tree, Links, none, link}
 use Rattle.net_tree.specs.WellFormed.{joins}
 use Rattle.net_tree.specs.View.{links_of, link_of}
-use Rattle.net_model.specs.declared.parse_error.ParseError.{ParseError}
-use Rattle.net_model.specs.declared.parse_error.ParseError.TheVariants as stops
+use Rattle.net_model.specs.declared.model_parser.ParseError.{ParseError}
+use Rattle.net_model.specs.declared.model_parser.ParseError.TheVariants as stops
 use Rattle.net_model.specs.Reading.{Tokens, Read, ◌>>=◌, read_as, next_is, Fails}
 use Rattle.net_model.specs.Expressions.{Reader, operator_at, links}
 use Rattle.net_model.specs.Chains.{joined, with_links}

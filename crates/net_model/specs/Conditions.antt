@@ -9,7 +9,7 @@ use Rattle.net_tree.specs.Role.{role_of, is_net, is_sign, is_colon}
 use Rattle.net_tree.specs.Precedence.{of_product, of_sum}
 use Rattle.net_tree.specs.Tree.{Tree, net, Condition, unsaid, one, between}
 use Rattle.net_tree.specs.View.{links_from}
-use Rattle.net_model.specs.declared.parse_error.Awaiting.TheVariants as awaiting
+use Rattle.net_model.specs.declared.model_parser.Awaiting.TheVariants as awaiting
 use Rattle.net_model.specs.declared.expected.Expected.TheVariants as sorts
 use Rattle.net_model.specs.Reading.{Tokens, Read, ◌>>=◌, read_as, rejected, next_is, expect}
 use Rattle.net_model.specs.Expressions.{Inner, unary, climb, operator_at, chained}

@@ -12,7 +12,7 @@ use Rattle.net_tree.specs.Precedence.{of_comma, of_reduction, of_product, of_sum
 use Rattle.net_tree.specs.WellFormed.{precedence, joins}
 use Rattle.net_model.specs.declared.expected.Expected.{Expected}
 use Rattle.net_model.specs.declared.expected.Expected.TheVariants as sorts
-use Rattle.net_model.specs.declared.parse_error.Awaiting.TheVariants as awaiting
+use Rattle.net_model.specs.declared.model_parser.Awaiting.TheVariants as awaiting
 use Rattle.net_model.specs.Reading.{Tokens, Read, ◌>>=◌, read_as, rejected, too_deep, next_is, is_sort, expect}
 
 abbrev pub Reader : Type 0

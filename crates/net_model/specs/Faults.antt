@@ -10,17 +10,17 @@ use Rattle.net_tree.specs.declared.declaration.Model.{Model}
 use Rattle.net_tree.specs.Role.{role_of}
 use Rattle.net_tree.specs.Tree.{Declaration}
 use Rattle.net_tree.specs.View as views
-use Rattle.net_model.specs.declared.parse_error.Awaiting.{Awaiting}
-use Rattle.net_model.specs.declared.parse_error.Awaiting.TheVariants as awaiting
-use Rattle.net_model.specs.declared.parse_error.ParseError.{ParseError}
-use Rattle.net_model.specs.declared.parse_error.ParseError.TheVariants as stops
+use Rattle.net_model.specs.declared.model_parser.Awaiting.{Awaiting}
+use Rattle.net_model.specs.declared.model_parser.Awaiting.TheVariants as awaiting
+use Rattle.net_model.specs.declared.model_parser.ParseError.{ParseError}
+use Rattle.net_model.specs.declared.model_parser.ParseError.TheVariants as stops
 use Rattle.net_base.specs.declared.error_code.ErrorCode.{ErrorCode}
 use Rattle.net_base.specs.declared.error_code.ErrorCode.TheVariants as error_codes
 use Rattle.net_base.specs.declared.diagnostic.Detail.{Detail}
 use Rattle.net_base.specs.declared.diagnostic.Detail.TheVariants.{Nothing, Reported}
 use Rattle.net_base.specs.declared.diagnostic.Diagnostic.{Diagnostic}
-use Rattle.net_base.specs.declared.fault.Fault.{Fault}
-use Rattle.net_base.specs.declared.fault.Fault.TheVariants.{OutOfMemory, At}
+use Rattle.net_base.specs.declared.diagnostic.Fault.{Fault}
+use Rattle.net_base.specs.declared.diagnostic.Fault.TheVariants.{OutOfMemory, At}
 use Rattle.net_base.specs.declared.diagnostic.Language.TheVariants as languages
 use Rattle.net_base.specs.Outcomes.{bare, diagnostic_at}
 use Rattle.net_model.specs.Reading.{Tokens, Read}

@@ -11,8 +11,8 @@ use Rattle.net_tree.specs.Depth.{model_depth}
 use Rattle.net_tree.specs.Declarations.{AreDeclarations}
 use Rattle.net_base.specs.declared.error_code.ErrorCode.TheVariants as error_codes
 use Rattle.net_base.specs.declared.error_code.ErrorCode.{ErrorCode}
-use Rattle.net_base.specs.declared.fault.Fault.{Fault}
-use Rattle.net_base.specs.declared.fault.Fault.TheVariants as faults
+use Rattle.net_base.specs.declared.diagnostic.Fault.{Fault}
+use Rattle.net_base.specs.declared.diagnostic.Fault.TheVariants as faults
 use Rattle.net_model.specs.Reading.{Tokens}
 use Rattle.net_model.specs.Declarations.{nesting_limit}
 use Rattle.net_model.specs.Faults.{end_of}

@@ -9,8 +9,8 @@ use Rattle.net_resolve.specs.Reported as names
 use Rattle.net_resolve.specs.Reported.{diagnostic_of}
 use Rattle.net_resolve.specs.Names.{names_fault}
 use Rattle.net_base.specs.declared.diagnostic.Diagnostic.{Diagnostic}
-use Rattle.net_base.specs.declared.fault.Fault.{Fault}
-use Rattle.net_base.specs.declared.fault.Fault.TheVariants as faults
+use Rattle.net_base.specs.declared.diagnostic.Fault.{Fault}
+use Rattle.net_base.specs.declared.diagnostic.Fault.TheVariants as faults
 use Rattle.net_model.specs.Reading.{Tokens, Read}
 use Rattle.net_model.specs.Faults.{reported}
 use Rattle.net_model.specs.Declarations.{model_at, nesting_limit}

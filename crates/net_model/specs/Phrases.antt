@@ -13,8 +13,8 @@ use Rattle.net_model.specs.declared.phrases.Owner.TheVariants as owners
 use Rattle.net_model.specs.declared.phrases.Slot.{Slot}
 use Rattle.net_model.specs.declared.phrases.Slot.TheVariants as slots
 use Rattle.net_model.specs.declared.phrases.Stood.{Stood}
-use Rattle.net_model.specs.declared.parse_error.Awaiting.{Awaiting}
-use Rattle.net_model.specs.declared.parse_error.Awaiting.TheVariants as awaiting
+use Rattle.net_model.specs.declared.model_parser.Awaiting.{Awaiting}
+use Rattle.net_model.specs.declared.model_parser.Awaiting.TheVariants as awaiting
 use Rattle.net_model.specs.declared.expected.Expected.TheVariants as sorts
 use Rattle.net_model.specs.Reading.{Tokens, Read, ◌>>=◌, read_as, rejected, next_is, expect}
 use Rattle.net_model.specs.Expressions.{Inner, unary, climb, wide, named_at}

@@ -8,13 +8,12 @@ ghost use Rattle.net_model.specs.Expressions as grammar;
 ghost use Rattle.net_model.specs.Expressions.{nested, inner_of, unary};
 ghost use Rattle.net_model.specs.Reading.{Tokens, Gives, read_as};
 
-use crate::carried::Carried;
 use crate::chains::{climb_to, links_from};
 use crate::choices::introduced;
-use crate::cursor::{Cursor, expect};
 use crate::expected::Expected;
-use crate::parse_error::{Awaiting, ParseError};
-use crate::stored::{Stored, boxed};
+use crate::model_parser::{Awaiting, ParseError};
+use crate::stored::{Carried, Stored, boxed};
+use crate::token_cursor::{Cursor, expect};
 use net_base::Boxed;
 use net_lex::Token;
 use net_tree::{Braces, Expr, Operands, Part, Reducer, precedence};

@@ -8,12 +8,11 @@ ghost use Rattle.net_model.specs.Expressions.{nested, inner_of, unary};
 ghost use Rattle.net_model.specs.Reading.{Gives};
 ghost use Rattle.net_model.specs.declared.expected.Expected.TheVariants as sorts;
 
-use crate::carried::Carried;
 use crate::chains::climb_to;
-use crate::cursor::{Cursor, expect};
 use crate::expected::Expected;
-use crate::parse_error::{Awaiting, ParseError};
-use crate::stored::{Stored, boxed};
+use crate::model_parser::{Awaiting, ParseError};
+use crate::stored::{Carried, Stored, boxed};
+use crate::token_cursor::{Cursor, expect};
 use net_base::Boxed;
 use net_lex::Token;
 use net_tree::{Expr, Part, precedence};

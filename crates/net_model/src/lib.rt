@@ -2,27 +2,23 @@
 #![tactic(auto)]
 
 mod braces;
-mod carried;
 mod chains;
 mod checked_model;
 mod choices;
 mod conditions;
-mod cursor;
 mod declarations;
 mod expected;
 mod expressions;
-mod fault;
-mod laws;
-mod parse;
-mod parse_error;
+mod model_fault;
+mod model_parser;
 mod phrases;
 mod stored;
-mod trees;
+mod token_cursor;
 
 pub use checked_model::CheckedModel;
-pub use laws::{
-    grammar_complete, grammar_sound, grammar_unique, one_tree, parsed_or_rejected, read_back,
+pub use model_parser::{
+    free_model, grammar_complete, grammar_sound, grammar_unique, one_tree, parse_declarations,
+    parse_model, parsed_or_rejected, read_back,
 };
 pub use net_base::Fault as ModelFault;
 pub use net_tree::{Decl, Expr, Model, NetCond};
-pub use parse::{free_model, parse_declarations, parse_model};

@@ -1,9 +1,9 @@
 //! Allocating boxes and lists in the parser, and a boxed wrapper that makes dropping a large value one call.
 
 ghost use Rattle.std.specs.Prelude.{◌≡◌, [], ◌∷◌, ◌++◌, IfOk, OnOk, IfErr};
-ghost use Rattle.net_model.specs.declared.parse_error.ParseError.TheVariants.{OutOfMemory};
+ghost use Rattle.net_model.specs.declared.model_parser.ParseError.TheVariants.{OutOfMemory};
 
-use crate::parse_error::ParseError;
+use crate::model_parser::ParseError;
 use net_base::Boxed;
 use std::alloc::Global;
 use std::marker::Model;
@@ -73,4 +73,45 @@ pub(crate) fn push<T: Drop>(list: &mut Vec<T>, item: Stored<T>) -> Result<(), Pa
 {
     list.push(item.into_inner())?;
     Ok(())
+}
+
+/// A value that stays alive across `?`; contracts see the value. Dropping it is one call, so that
+/// the prover does not analyze each form of the value at every `?`.
+pub(crate) struct Carried<T: Drop> {
+    inner: T,
+}
+
+impl<T: Drop> Model for Carried<T> {
+    ghost Value = { T };
+
+    ghost coded = { T.code };
+
+    ghost view = { λ c. c.inner };
+}
+
+impl<T: Drop> Drop for Carried<T> {
+    fn drop(self) {
+        let Carried { inner: _inner } = self;
+    }
+}
+
+impl<T: Drop> Carried<T> {
+    pub(crate) fn new(inner: T) -> Carried<T>
+        ensures { result ≡ inner }
+    {
+        Carried { inner }
+    }
+
+    pub(crate) fn into_inner(self) -> T
+        ensures { result ≡ self }
+    {
+        let Carried { inner } = self;
+        inner
+    }
+
+    pub(crate) fn get(&self) -> &T
+        ensures { result.now ≡ self.now }
+    {
+        &self.inner
+    }
 }

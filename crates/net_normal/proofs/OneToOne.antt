@@ -18,7 +18,7 @@ use Rattle.net_normal.specs.declared.instance.Sense.TheVariants.{Minimise, Maxim
 use lib.IntN.{neg_ℤ-neg_ℤ}
 use Rattle.net_normal.specs.declared.problem.FlowArc.{FlowArc}
 use Rattle.net_normal.specs.declared.problem.Problem.{Problem}
-use Rattle.net_normal.specs.declared.link.Link.{Link}
+use Rattle.net_normal.specs.declared.problem.Link.{Link}
 use Rattle.net_normal.specs.declared.profile.Profile.{Profile}
 use Rattle.net_normal.proofs.ArcSums.{added, lessened, flow_on-append, flow_on-added, flow_on-le, flow_on-ge, price_of-append, price_of-added, zipped_parts, zipped_whole, zipped-weaker, zipped-length, added-lessened, lessened-added}
 use Rattle.net_normal.proofs.NodeRuns.{EachNode, each-get_from_zero, each-from_get_zero, slice_get-inside, sum_over_last}

@@ -7,7 +7,7 @@ use Rattle.net_normal.specs.Flows.{IsFeasibleFlow, cost_of}
 use Rattle.net_normal.specs.Links.{mapped_back, value_at}
 use Rattle.net_normal.specs.declared.instance.Instance.{Instance}
 use Rattle.net_normal.specs.declared.problem.Problem.{Problem}
-use Rattle.net_normal.specs.declared.link.Link.{Link}
+use Rattle.net_normal.specs.declared.problem.Link.{Link}
 
 pub record CorrespondsOneToOne (instance : Instance) (problem : Problem) (link : Link) : Type 0 where
   -- each feasible flow maps to a feasible assignment

@@ -5,7 +5,7 @@ use Rattle.net_normal.specs.Links.{mapped_back, value_at}
 use Rattle.net_normal.specs.NormalForm.{IsNormalForm, IsLeanForm}
 use Rattle.net_normal.specs.declared.instance.Instance.{Instance}
 use Rattle.net_normal.specs.declared.problem.Problem.{Problem}
-use Rattle.net_normal.specs.declared.link.Link.{Link}
+use Rattle.net_normal.specs.declared.problem.Link.{Link}
 
 -- each feasible flow of `problem` has a feasible flow of `other` with the same assignment and the
 -- same objective value

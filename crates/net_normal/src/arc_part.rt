@@ -5,9 +5,8 @@ ghost use Rattle.net_normal.specs.Links.{signed};
 ghost use Rattle.net_normal.specs.Limits.{IsSized, IsArcOf, value_limit, node_limit, arc_limit, sum_limit, constant_limit};
 ghost use Rattle.net_normal.specs.NormalForm.{offset_of, is_left_out, offsets_of, numbers_from, flow_arc_of, written_arcs, constant_of};
 
-use crate::arc_count::count_arc;
 use crate::instance::{InstArc, Instance, Sense};
-use crate::node_sums::NodeSums;
+use crate::node_sums::{NodeSums, count_arc};
 use crate::problem::FlowArc;
 use crate::profile::Profile;
 use std::alloc::{AllocError, Global};

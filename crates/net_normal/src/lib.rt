@@ -2,27 +2,21 @@
 //! flows back to assignments.
 #![tactic(auto)]
 
-mod arc_count;
 mod arc_part;
 mod instance;
-mod laws;
 mod limits;
-mod link;
 mod node_part;
 mod node_sums;
 mod normal_form;
 mod problem;
 mod profile;
-mod sides;
 
 pub use instance::{InstArc, Instance, NodeRange, Sense};
-pub use laws::forms_are_alike;
 pub use limits::{
     ARC_LIMIT, COST_LIMIT, FLOW_ARC_LIMIT, FLOW_LIMIT, FLOW_NODE_LIMIT, NODE_LIMIT, RANGE_LIMIT,
     VALUE_LIMIT,
 };
-pub use link::Link;
-pub use normal_form::{normalise, normalise_lean};
-pub use problem::{FlowArc, Problem};
+pub use normal_form::{forms_are_alike, normalise, normalise_lean};
+pub use problem::{FlowArc, Link, Problem};
 pub use profile::Profile;
 pub use std::alloc::AllocError as OutOfMemory;

@@ -4,13 +4,13 @@ ghost use Rattle.std.specs.Prelude.{◌≡◌, ◌↔◌, All, IfOk, pos};
 ghost use Rattle.std.specs.List.{AllZip};
 ghost use Rattle.net_normal.specs.NormalForm.{IsFormIn, IsNormalForm, IsLeanForm};
 ghost use Rattle.net_normal.specs.Correspondence.{CorrespondsOneToOne};
+ghost use Rattle.net_normal.specs.Laws.{AreAlike};
 
 use crate::OutOfMemory;
 use crate::arc_part::ArcPart;
 use crate::instance::Instance;
-use crate::link::Link;
 use crate::node_part::NodePart;
-use crate::problem::Problem;
+use crate::problem::{Link, Problem};
 use crate::profile::Profile;
 use std::alloc::Global;
 
@@ -65,3 +65,9 @@ fn form(
     };
     Ok((Problem { supplies, arcs }, link))
 }
+
+/// Theorem: the normal form and the lean form of a network have the same feasible assignments, with
+/// the same objective values.
+pub fn forms_are_alike()
+    ensures value { AreAlike }
+{}

@@ -10,8 +10,8 @@ use Rattle.net_lex.specs.LineEnds.{ends_line, HasNoLineEnd}
 use Rattle.net_sets.specs.Sets.{Tuple}
 use Rattle.net_sets.specs.declared.member.Member.{Member}
 use Rattle.net_sets.specs.declared.member.Member.TheVariants.{Number, Name}
-use Rattle.net_inst.specs.declared.names.Declared.{Declared}
-use Rattle.net_inst.specs.declared.names.Key.{Key}
+use Rattle.net_inst.specs.declared.network_names.Declared.{Declared}
+use Rattle.net_inst.specs.declared.network_names.Key.{Key}
 use Rattle.net_expr.specs.References.{doubled, quoted, member_text, further_text, members_text, reference_text}
 use Rattle.net_report.specs.References.{declared_name, name_in, names_in}
 use Rattle.net_report.specs.LineNames.{IsWithinLine, AreWithinLine, HasLineNames}

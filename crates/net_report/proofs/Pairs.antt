@@ -3,8 +3,8 @@ use Rattle.std.proofs.Common.{◌≡◌, ℕ, zero, suc, ◌+◌, ◌-◌, Bool,
 use Rattle.std.proofs.Math.Seq.{drop-cons, drop-drop}
 use Rattle.std.specs.Prelude.{nat_eq}
 use Rattle.std.specs.List.{zip, flat_map, prefix_len, take_while}
-use Rattle.net_inst.specs.declared.names.Declared.{Declared}
-use Rattle.net_inst.specs.declared.names.Key.{Key}
+use Rattle.net_inst.specs.declared.network_names.Declared.{Declared}
+use Rattle.net_inst.specs.declared.network_names.Key.{Key}
 use Rattle.net_report.specs.Displays.{Assigned, value_line, row, is_of, block, blocks}
 
 pub take_pairs : {A B : Type 0} (n : ℕ) (ks : List A) (zs : List B) → take n (zip ks zs) ≡ zip (take n ks) (take n zs)

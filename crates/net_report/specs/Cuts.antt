@@ -6,7 +6,7 @@ use Rattle.net_normal.specs.declared.problem.Problem.{Problem}
 use Rattle.net_check.specs.Certificates.{is_in, supply_in, most_out, least_out}
 use Rattle.net_check.specs.declared.certificate.Side.{Side}
 use Rattle.net_check.specs.declared.certificate.Side.TheVariants.{Over, Under}
-use Rattle.net_inst.specs.declared.names.Names.{Names}
+use Rattle.net_inst.specs.declared.network_names.Names.{Names}
 use Rattle.net_report.specs.References.{names_in}
 
 -- the supply of the set

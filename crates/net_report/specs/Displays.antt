@@ -4,9 +4,9 @@ use Rattle.std.specs.Fmt.{signed_decimal}
 use Rattle.std.specs.List.{zip, flat_map, filter, take_while, prefix_len}
 use Rattle.net_sets.specs.Sets.{Tuple}
 use Rattle.net_expr.specs.References.{member_text}
-use Rattle.net_inst.specs.declared.names.Declared.{Declared}
-use Rattle.net_inst.specs.declared.names.Key.{Key}
-use Rattle.net_inst.specs.declared.names.Names.{Names}
+use Rattle.net_inst.specs.declared.network_names.Declared.{Declared}
+use Rattle.net_inst.specs.declared.network_names.Key.{Key}
+use Rattle.net_inst.specs.declared.network_names.Names.{Names}
 
 -- an arc's key and its value in the assignment
 abbrev pub Assigned : Type 0

@@ -5,8 +5,8 @@ use Rattle.std.specs.Fmt.{signed_decimal}
 use Rattle.net_lex.specs.LineEnds.{ends_line}
 use Rattle.net_normal.specs.declared.instance.Sense.{Sense}
 use Rattle.net_normal.specs.declared.instance.Sense.TheVariants.{Minimise, Maximise}
-use Rattle.net_normal.specs.declared.link.Link.{Link}
-use Rattle.net_inst.specs.declared.names.Names.{Names}
+use Rattle.net_normal.specs.declared.problem.Link.{Link}
+use Rattle.net_inst.specs.declared.network_names.Names.{Names}
 use Rattle.net_report.specs.References.{names_in}
 
 -- the objective value of a flow with cost 0

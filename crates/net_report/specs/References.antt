@@ -3,8 +3,8 @@ use Rattle.std.specs.Prelude.{ℕ, List, [], map, Option, None, Some, slice_get}
 use Rattle.net_sets.specs.Sets.{Tuple}
 use Rattle.net_expr.specs.References.{reference_text}
 use Rattle.net_inst.specs.Lists.{Listed}
-use Rattle.net_inst.specs.declared.names.Declared.{Declared}
-use Rattle.net_inst.specs.declared.names.Key.{Key}
+use Rattle.net_inst.specs.declared.network_names.Declared.{Declared}
+use Rattle.net_inst.specs.declared.network_names.Key.{Key}
 
 -- a declared name, followed by its key in brackets if it is indexed; empty if there is no
 -- declaration

@@ -2,15 +2,11 @@
 //! plans and cuts.
 #![tactic(auto)]
 
-mod cut;
+mod cut_text;
 mod display;
-mod laws;
 mod links;
-mod mapping_back;
 
-pub use cut::write_cut;
-pub use display::write_display;
-pub use laws::{line_names_are_names, names_stay_within_lines};
-pub use links::{push_in_line, write_links};
-pub use mapping_back::map_back;
+pub use cut_text::write_cut;
+pub use display::{map_back, write_display};
+pub use links::{line_names_are_names, names_stay_within_lines, push_in_line, write_links};
 pub use std::alloc::AllocError as OutOfMemory;

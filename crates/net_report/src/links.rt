@@ -1,11 +1,14 @@
 //! The lines that map the numbers of a problem back to the names of its model.
 
-ghost use Rattle.std.specs.Prelude.{◌≡◌, ◌+◌, ◌^◌, ◌<◌, ◌≤◌, ◌∷◌, ◌++◌, IfOk, OnOk, MatchOption, length, not, string_bytes, vec_len};
-ghost use Rattle.std.specs.List.{prefix_len};
+ghost use Rattle.std.specs.Prelude.{◌≡◌, ◌+◌, ◌^◌, ◌<◌, ◌≤◌, ◌∷◌, ◌++◌, IfOk, OnOk, MatchOption, length, not, string_bytes, vec_len, ℕ, List};
+ghost use Rattle.std.specs.List.{prefix_len, AllByRecursion};
 ghost use Rattle.std.specs.Str.{IsUtf8};
-ghost use Rattle.net_lex.specs.LineEnds.{ends_line};
+ghost use Rattle.net_lex.specs.LineEnds.{ends_line, HasNoLineEnd};
 ghost use Rattle.net_report.specs.References.{name_in, names_in};
 ghost use Rattle.net_report.specs.Links as lines;
+ghost use Rattle.net_inst.specs.Lists.{Listed};
+ghost use Rattle.net_report.specs.LineNames.{HasLineNames};
+ghost use Rattle.net_report.specs.Links.{in_line};
 
 use crate::OutOfMemory;
 use itoa::Buffer;
@@ -185,3 +188,15 @@ pub(crate) fn push_name(
         }
     }
 }
+
+/// Theorem: a name without line endings is unchanged as written within a line.
+pub fn line_names_are_names()
+    ensures value { (name : List ℕ) → HasNoLineEnd name → in_line name ≡ name }
+{}
+
+/// Theorem: if no declared name and no text of a key contains a line ending, no printed name of a
+/// node or an arc contains one, so all names are unchanged as written within a line.
+pub fn names_stay_within_lines()
+    ensures value { (listed : Listed) → HasLineNames listed → AllByRecursion HasNoLineEnd (names_in listed) }
+    ensures unchanged { (listed : Listed) → HasLineNames listed → AllByRecursion (λ name. in_line name ≡ name) (names_in listed) }
+{}

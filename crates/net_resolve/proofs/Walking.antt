@@ -11,8 +11,8 @@ use Rattle.net_tree.specs.Weights.{weight, weights}
 use Rattle.net_tree.proofs.Views.{links_of-cons, next_link}
 use Rattle.net_resolve.specs.declared.meaning.Meaning.TheVariants as meanings
 use Rattle.net_resolve.specs.declared.meaning.Need.{Need}
-use Rattle.net_resolve.specs.declared.fault.NameFault.{NameFault}
-use Rattle.net_resolve.specs.declared.fault.NameFault.TheVariants as faults
+use Rattle.net_resolve.specs.declared.name_fault.NameFault.{NameFault}
+use Rattle.net_resolve.specs.declared.name_fault.NameFault.TheVariants as faults
 use Rattle.net_resolve.specs.Scopes.{Scope, meaning_in, with_name}
 use Rattle.net_resolve.specs.Reported.{Fault, first, Reports}
 use Rattle.net_tree.proofs.Items.{behind}

@@ -5,10 +5,10 @@ use Rattle.net_resolve.specs.declared.meaning.Meaning.{Meaning}
 use Rattle.net_resolve.specs.declared.meaning.Need.{Need}
 use Rattle.net_base.specs.declared.error_code.ErrorCode.{ErrorCode}
 use Rattle.net_base.specs.declared.error_code.ErrorCode.TheVariants as error_codes
-use Rattle.net_resolve.specs.declared.fault.NameFault.{NameFault}
-use Rattle.net_resolve.specs.declared.fault.NameFault.TheVariants as faults
-use Rattle.net_base.specs.declared.fault.Fault as outcomes
-use Rattle.net_base.specs.declared.fault.Fault.TheVariants as reported_faults
+use Rattle.net_resolve.specs.declared.name_fault.NameFault.{NameFault}
+use Rattle.net_resolve.specs.declared.name_fault.NameFault.TheVariants as faults
+use Rattle.net_base.specs.declared.diagnostic.Fault as outcomes
+use Rattle.net_base.specs.declared.diagnostic.Fault.TheVariants as reported_faults
 use Rattle.net_base.specs.declared.diagnostic.Detail.TheVariants.{Reported}
 use Rattle.net_base.specs.declared.diagnostic.Diagnostic.{Diagnostic}
 use Rattle.net_base.specs.declared.diagnostic.Language.TheVariants.{Model}

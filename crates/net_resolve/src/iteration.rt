@@ -5,7 +5,7 @@
 ghost use Rattle.std.specs.Prelude.{◌≡◌, OnOk};
 
 use crate::meaning::Meaning;
-use crate::scope::Scope;
+use crate::name_scope::Scope;
 use net_tree::{Expr, single_name};
 use std::alloc::AllocError;
 

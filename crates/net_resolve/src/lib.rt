@@ -2,17 +2,16 @@
 //! by the world and the scope.
 #![tactic(auto)]
 
-mod declarations;
-mod dummies;
-mod expressions;
-mod fault;
+mod declaration_names;
+mod expression_names;
 mod hints;
 mod iteration;
-mod laws;
 mod meaning;
-mod scope;
+mod name_fault;
+mod name_laws;
+mod name_scope;
 
-pub use declarations::check_names;
+pub use declaration_names::check_names;
 pub use hints::Hints;
-pub use laws::{front_of_names, name_errors_are_in_model, new_dummy, well_named_each};
 pub use meaning::{Meaning, Need};
+pub use name_laws::{front_of_names, name_errors_are_in_model, new_dummy, well_named_each};

@@ -8,7 +8,7 @@ use Rattle.std.proofs.lemmas.Bool.Decides.{Decides-like, same_from_decides}
 use Rattle.std.proofs.lemmas.Iterator.Adapters.{position_from-zero}
 use Rattle.std.proofs.lemmas.Slice.Eq.{bytes_eq-Decides}
 use Rattle.indexmap.specs.IndexMap.{insert_entry}
-use Rattle.net_sets.specs.Names.{named}
+use Rattle.net_sets.specs.Names.{located, named}
 
 turned : (a b : List ℕ) → bytes_eq a b ≡ bytes_eq b a
 turned a b = same_from_decides (bytes_eq a b) (bytes_eq b a) (bytes_eq-Decides a b) (Decides-like (bytes_eq b a) (λ e. sym e) (λ e. sym e) (bytes_eq-Decides b a))
@@ -63,6 +63,38 @@ module _ {T : Type 0} (test : List ℕ → Bool) (name : List ℕ) (alike : (key
 
   pub not_there : (k : ℕ) (es : List (List ℕ × T)) → None ≡ position test (keys_of es) → None ≡ named (take k es) name
   not_there k es at = sym (seen_as k es None at)
+
+  -- the entry at a position from i on is the one with the name
+  abbrev IsLocated : ℕ → List (List ℕ × T) → Option ℕ → Type 0
+  IsLocated i es None = located i es name ≡ None
+  IsLocated i es (Some n) = (i ≤ n) × ((key : List ℕ) (value : T) → slice_get es (n - i) ≡ Some (key, value) → located i es name ≡ Some (n, value))
+
+  is_located : (i : ℕ) (es : List (List ℕ × T)) → IsLocated i es (position_from test i (keys_of es))
+  is_located i [] = refl
+  is_located i (e ∷ es) = go (test e.0) refl (position_from test (i + 1) (keys_of es)) (is_located (i + 1) es)
+    where
+      found : (b : Bool) → test e.0 ≡ b → located i (e ∷ es) name ≡ (if b then Some (i, e.1) else located (i + 1) es name)
+      found b q = ap (λ c. if c then Some (i, e.1) else located (i + 1) es name) (turned e.0 name ∙ (sym (alike e.0) ∙ q))
+
+      go : (b : Bool) → test e.0 ≡ b → (o : Option ℕ) → IsLocated (i + 1) es o → IsLocated i (e ∷ es) (cond b (Some i) o)
+      go true q o h =
+          let here : i - i ≡ zero = omega arith in
+          (omega arith, λ key value there. let is : Some e ≡ Some (key, value) = ap (slice_get (e ∷ es)) (sym here) ∙ there in found true q ∙ ap (option_map (λ (x : List ℕ × T). (i, x.1))) is)
+      go false q None h = found false q ∙ h
+      go false q (Some n) h =
+          let further : n - i ≡ suc (n - (i + 1)) = omega (arith, h.0) in
+          (omega (arith, h.0), λ key value there. found false q ∙ h.1 key value (ap (slice_get (e ∷ es)) (sym further) ∙ there))
+
+  located_as : (es : List (List ℕ × T)) (o : Option ℕ) → o ≡ position test (keys_of es) → IsLocated 0 es o
+  located_as es o e = subst (IsLocated 0 es) (sym (e ∙ position_from-zero test (keys_of es))) (is_located 0 es)
+
+  pub located_there : (n : ℕ) (es : List (List ℕ × T)) (key : List ℕ) (value : T) → Some n ≡ position test (keys_of es) → slice_get es n ≡ Some (key, value) → Some (n, value) ≡ located 0 es name
+  located_there n es key value at there =
+      let same : n - 0 ≡ n = omega arith in
+      sym ((located_as es (Some n) at).1 key value (ap (slice_get es) same ∙ there))
+
+  pub located_nowhere : (es : List (List ℕ × T)) → None ≡ position test (keys_of es) → None ≡ located 0 es name
+  located_nowhere es at = sym (located_as es None at)
 
   -- a name that has no value goes last
   pub added_last : (eq : List ℕ → List ℕ → Bool) (es new : List (List ℕ × T)) (key : List ℕ) (value : T) → new ≡ insert_entry eq es key value → key ≡ name → ((x : List ℕ) → eq name x ≡ test x)

@@ -1,7 +1,9 @@
 pub mod Limits
+pub mod KeyValues
 pub mod Texts
 pub mod Sets
 pub mod Names
+pub mod KeyedHash
 pub mod Hashes
 pub mod EqualHashes
 pub mod TupleSets

@@ -8,10 +8,10 @@ use crate::component_index::{Chains, chains_of};
 use crate::cursor::place_from;
 use crate::member::Member;
 use crate::operations::{narrowest, widest};
-use crate::shared_set::SharedSet;
 use crate::tuple_set::TupleSet;
 use std::alloc::{AllocError, Global};
 use std::marker::Model;
+use std::rc::Rc;
 
 /// A set with an optional index for finding the tuples with a given member at one component;
 /// without it they are found by linear search. Contracts see only the set. A set of single members
@@ -129,5 +129,52 @@ impl<'s> IndexedSet<'s> {
                 }
             }
         }
+    }
+}
+
+/// An immutable shared set, which contracts see as the list of its tuples. It is stored once.
+pub struct SharedSet<'s> {
+    set: Rc<TupleSet<'s>>,
+}
+
+impl<'s> Model for SharedSet<'s> {
+    ghost use Rattle.std.specs.Prelude.{List};
+    ghost use Rattle.net_sets.specs.declared.member.Member.{Member};
+
+    ghost Value = { List (List Member) };
+
+    ghost view = { λ s. s.set.value };
+}
+
+impl<'s> Drop for SharedSet<'s> {
+    fn drop(self) {
+        let SharedSet { set: _set } = self;
+    }
+}
+
+impl<'s> SharedSet<'s> {
+    /// Makes a set shared. Allocates memory once.
+    pub fn new(alloc: Global, set: TupleSet<'s>) -> Result<SharedSet<'s>, AllocError>
+        ensures { IfOk result (λ shared. shared ≡ set.entry) }
+    {
+        Ok(SharedSet {
+            set: Rc::new(alloc, set)?,
+        })
+    }
+
+    /// Returns the set.
+    pub fn get(&self) -> &TupleSet<'s>
+        ensures { result.now ≡ self.now }
+    {
+        self.set.as_ref()
+    }
+
+    /// Returns another reference to the set; copies no tuples.
+    pub fn copied(&self) -> Result<SharedSet<'s>, AllocError>
+        ensures { IfOk result (λ shared. shared ≡ self.now) }
+    {
+        Ok(SharedSet {
+            set: self.set.clone()?,
+        })
     }
 }

@@ -4,15 +4,13 @@
 mod component_index;
 mod cow;
 mod cursor;
-mod fault;
 mod indexed_set;
 mod key;
-mod laws;
+mod key_values;
 mod member;
 mod name_map;
 mod operations;
 mod range;
-mod shared_set;
 mod table;
 mod text;
 mod tuple;
@@ -20,18 +18,17 @@ mod tuple_set;
 
 pub use cow::Cow;
 pub use cursor::Cursor;
-pub use fault::SetFault;
-pub use indexed_set::IndexedSet;
+pub use indexed_set::{IndexedSet, SharedSet};
 pub use key::HashKey;
-pub use laws::{products_are_lists, range_has_what_it_lists, walks_those_that_agree};
+pub use key_values::KeyValues;
 pub use member::Member;
 pub use name_map::NameMap;
 pub use operations::{
-    cross, difference, intersection, is_within, narrowest, symmetric_difference, union, widest,
+    cross, difference, intersection, is_within, narrowest, products_are_lists,
+    range_has_what_it_lists, symmetric_difference, union, walks_those_that_agree, widest,
 };
 pub use range::Range;
-pub use shared_set::SharedSet;
 pub use table::Table;
 pub use text::Text;
-pub use tuple::Tuple;
-pub use tuple_set::{TUPLES_LIMIT, TupleSet};
+pub use tuple::{ARITY_LIMIT, Tuple};
+pub use tuple_set::{SetFault, TUPLES_LIMIT, TupleSet};

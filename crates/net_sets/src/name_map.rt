@@ -1,9 +1,9 @@
 //! Values by name, in the order in which the names came.
 
-ghost use Rattle.std.specs.Prelude.{◌≡◌, [], ◌∷◌, ◌++◌, None, length, take, OnOk, OnErr};
+ghost use Rattle.std.specs.Prelude.{◌≡◌, [], ◌∷◌, ◌++◌, None, length, option_map, take, OnOk, OnErr};
 ghost use Rattle.std.specs.Option.{option_copied};
 ghost use Rattle.std.specs.Str.{bytes_eq};
-ghost use Rattle.net_sets.specs.Names.{named};
+ghost use Rattle.net_sets.specs.Names.{located, named};
 
 use crate::key::HashKey;
 use crate::text::hash_bytes;
@@ -118,6 +118,18 @@ impl<'s, T> NameMap<'s, T> {
         self.entries.get(&Name {
             text: name.as_str(),
         })
+    }
+
+    /// Returns the position of a name, counted from 0, and its value.
+    pub fn get_full(&self, name: &Excerpt<'s>) -> Option<(usize, &T)>
+        ensures { option_map (λ found. (found.0, found.1.now)) result ≡ located 0 self.now name.now }
+    {
+        match self.entries.get_full(&Name {
+            text: name.as_str(),
+        }) {
+            None => None,
+            Some((position, _, value)) => Some((position, value)),
+        }
     }
 
     /// Returns the value of a name if it is one of the first `known`.

@@ -1,29 +1,22 @@
 //! The operations on two sets of tuples.
-ghost use Rattle.std.specs.Prelude.{◌≡◌, ◌<◌, ◌+◌, ◌≤◌, ◌++◌, ◌∷◌, [], false, if◌then◌else◌, length, IfOk, OnOk, IsErrOf};
+
+ghost use Rattle.std.specs.Prelude.{◌≡◌, ◌<◌, ◌+◌, ◌≤◌, ◌++◌, ◌∷◌, map, length, IfOk, IsErrOf};
 ghost use Rattle.net_sets.specs.Limits.{arity_limit, tuples_limit};
 ghost use Rattle.net_sets.specs.Made.{IsMade, IsCrossed, with_set};
-ghost use Rattle.net_sets.specs.Operations.{union, product, difference, intersection, symmetric_difference, is_within, is_chosen, chosen, joined_to, widest};
-ghost use Rattle.net_sets.specs.Operations.{narrowest};
-ghost use Rattle.net_sets.specs.Sets.{added, has};
+ghost use Rattle.net_sets.specs.Operations.{union, product, difference, intersection, symmetric_difference};
+ghost use Rattle.net_sets.specs.Operations.{is_within, is_chosen, chosen, joined_to, widest, narrowest};
+ghost use Rattle.net_sets.specs.Laws.{Ends, GoesOn, ProductsAreLists, RangeHas};
 
-use crate::fault::SetFault;
-use crate::tuple::Tuple;
-use crate::tuple_set::{TUPLES_LIMIT, TupleSet};
+use crate::tuple::{ARITY_LIMIT, Tuple};
+use crate::tuple_set::{SetFault, TUPLES_LIMIT, TupleSet};
 use std::alloc::{AllocError, Global};
 
-/// Returns the first set's tuples, followed by those that only the second has.
-pub fn union<'s>(
-    alloc: Global,
-    first: &TupleSet<'s>,
-    second: &TupleSet<'s>,
-) -> Result<TupleSet<'s>, SetFault>
-    ensures { IsMade (union first.now second.now) result }
+/// Adds the tuples that only the second set has to the first.
+pub fn union<'s>(first: TupleSet<'s>, second: &TupleSet<'s>) -> Result<TupleSet<'s>, SetFault>
+    ensures { IsMade (union first.entry second.now) result }
 {
-    let _few = first.len();
-    let mut all = first.copied(alloc)?;
-    for tuple in second.as_slice() {
-        all.add(tuple.copied())?;
-    }
+    let mut all = first;
+    all.add_all(second.as_slice())?;
     Ok(all)
 }
 
@@ -37,101 +30,93 @@ fn is_chosen<'s>(shared: bool, second: &TupleSet<'s>, tuple: &Tuple<'s>) -> bool
     }
 }
 
-/// Appends the tuple if `wanted` is true. Fails only if memory runs out.
-fn push_where<'s>(wanted: bool, all: &mut TupleSet<'s>, tuple: &Tuple<'s>) -> Result<(), AllocError>
-    requires fresh { has all.old tuple.now ≡ false }
-    requires room { length all.old < tuples_limit }
-    ensures { OnOk result (all.new ≡ (if wanted then all.old ++ tuple.now ∷ [] else all.old)) }
-{
-    if wanted {
-        all.push(tuple.copied())
-    } else {
-        Ok(())
-    }
-}
-
-/// Returns the tuples of the first set that the second contains, or that it does not contain. Fails
-/// only if memory runs out.
-fn chosen<'s>(
+/// Returns for each tuple of the first set whether the second contains it, or whether it does not
+/// contain it. Fails only if memory runs out.
+fn answers<'s>(
     alloc: Global,
     shared: bool,
     first: &TupleSet<'s>,
     second: &TupleSet<'s>,
-) -> Result<TupleSet<'s>, AllocError>
-    ensures { IfOk result (λ all. all ≡ chosen shared first.now second.now) }
+) -> Result<Vec<bool>, AllocError>
+    ensures { IfOk result (λ found. found.items ≡ map (is_chosen shared second.now) first.now) }
 {
-    let mut all = TupleSet::new(alloc, first.key());
+    let mut found = Vec::new(alloc);
     for tuple in first.as_slice() {
-        push_where(is_chosen(shared, second, tuple), &mut all, tuple)?;
+        found.push(is_chosen(shared, second, tuple))?;
     }
-    Ok(all)
+    Ok(found)
 }
 
-/// Returns the tuples of the first set that the second does not contain. Fails only if memory runs
-/// out.
-pub fn difference<'s>(
+/// Returns the first set with those of its tuples that the second contains, or that it does not
+/// contain. Fails only if memory runs out.
+fn chosen<'s>(
     alloc: Global,
-    first: &TupleSet<'s>,
+    shared: bool,
+    first: TupleSet<'s>,
     second: &TupleSet<'s>,
 ) -> Result<TupleSet<'s>, AllocError>
-    ensures { IfOk result (λ all. all ≡ difference first.now second.now) }
+    ensures { IfOk result (λ all. all ≡ chosen shared first.entry second.now) }
+{
+    let answers = answers(alloc, shared, &first, second)?;
+    let mut left = first;
+    left.retain_at(answers.as_slice());
+    Ok(left)
+}
+
+/// Removes the tuples that the second set contains from the first. Fails only if memory runs out.
+pub fn difference<'s>(
+    alloc: Global,
+    first: TupleSet<'s>,
+    second: &TupleSet<'s>,
+) -> Result<TupleSet<'s>, AllocError>
+    ensures { IfOk result (λ all. all ≡ difference first.entry second.now) }
 {
     chosen(alloc, false, first, second)
 }
 
-/// Returns the tuples of the first set that the second contains. Fails only if memory runs out.
+/// Removes the tuples that the second set does not contain from the first. Fails only if memory
+/// runs out.
 pub fn intersection<'s>(
     alloc: Global,
-    first: &TupleSet<'s>,
+    first: TupleSet<'s>,
     second: &TupleSet<'s>,
 ) -> Result<TupleSet<'s>, AllocError>
-    ensures { IfOk result (λ all. all ≡ intersection first.now second.now) }
+    ensures { IfOk result (λ all. all ≡ intersection first.entry second.now) }
 {
     chosen(alloc, true, first, second)
 }
 
-/// Adds the tuples of the first set that the second does not contain.
-fn add_difference<'s>(
-    all: &mut TupleSet<'s>,
-    first: &TupleSet<'s>,
-    second: &TupleSet<'s>,
-) -> Result<(), SetFault>
-    ensures { IsMade (union all.old (difference first.now second.now)) (with_set result all.new) }
+/// Returns copies of the tuples of a set that another does not contain. Fails only if memory runs
+/// out.
+fn unshared<'s>(
+    alloc: Global,
+    set: &TupleSet<'s>,
+    other: &TupleSet<'s>,
+) -> Result<Vec<Tuple<'s>>, AllocError>
+    ensures { IfOk result (λ found. found.items ≡ difference set.now other.now) }
 {
-    let _few = all.len();
-    for tuple in first.as_slice() {
-        add_unless(second.contains(tuple), all, tuple)?;
+    let mut found = Vec::new(alloc);
+    for tuple in set.as_slice() {
+        if !other.contains(tuple) {
+            found.push(tuple.copied())?;
+        }
     }
-    Ok(())
+    Ok(found)
 }
 
-/// Adds the tuple unless it is left out.
-fn add_unless<'s>(
-    is_left_out: bool,
-    all: &mut TupleSet<'s>,
-    tuple: &Tuple<'s>,
-) -> Result<(), SetFault>
-    requires { length all.old ≤ tuples_limit }
-    ensures { IsMade (if is_left_out then all.old else added all.old tuple.now) (with_set result all.new) }
-{
-    if is_left_out {
-        Ok(())
-    } else {
-        all.add(tuple.copied())
-    }
-}
-
-/// Returns the tuples that only the first set contains, then those that only the second contains.
+/// Removes the tuples that both sets contain from the first, and adds those that only the second
+/// contains.
 pub fn symmetric_difference<'s>(
     alloc: Global,
-    first: &TupleSet<'s>,
+    first: TupleSet<'s>,
     second: &TupleSet<'s>,
 ) -> Result<TupleSet<'s>, SetFault>
-    ensures { IsMade (symmetric_difference first.now second.now) result }
+    ensures { IsMade (symmetric_difference first.entry second.now) result }
 {
     let _distinct = second.as_slice();
+    let more = unshared(alloc, second, &first)?;
     let mut all = difference(alloc, first, second)?;
-    add_difference(&mut all, second, first)?;
+    all.add_all(more.as_slice())?;
     Ok(all)
 }
 
@@ -163,7 +148,7 @@ pub fn widest<'s>(set: &TupleSet<'s>) -> usize
 pub fn narrowest(set: &TupleSet<'_>) -> usize
     ensures { result ≡ narrowest set.now }
 {
-    let mut width = 4;
+    let mut width = ARITY_LIMIT;
     for tuple in set.as_slice() {
         width = width.min(tuple.len());
     }
@@ -207,3 +192,20 @@ pub fn cross<'s>(
     }
     Ok(all)
 }
+
+/// Theorem: iterating from index to next index visits each matching tuple in order, and no other.
+pub fn walks_those_that_agree()
+    ensures some { GoesOn }
+    ensures none { Ends }
+{}
+
+/// Theorem: membership in a range can be decided without enumerating its numbers.
+pub fn range_has_what_it_lists()
+    ensures { RangeHas }
+{}
+
+/// Theorem: the product of two sets, the first with tuples of equal length, contains no tuple
+/// twice.
+pub fn products_are_lists()
+    ensures { ProductsAreLists }
+{}

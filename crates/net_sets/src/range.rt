@@ -5,11 +5,10 @@ ghost use Rattle.net_sets.specs.Limits.{tuples_limit};
 ghost use Rattle.net_sets.specs.Made.{IsMade};
 ghost use Rattle.net_sets.specs.Ranges.{IsRange, in_range, number_at, range, range_size, singles, way_on};
 
-use crate::fault::SetFault;
 use crate::key::HashKey;
 use crate::member::Member;
 use crate::tuple::Tuple;
-use crate::tuple_set::{TUPLES_LIMIT, TupleSet};
+use crate::tuple_set::{SetFault, TUPLES_LIMIT, TupleSet};
 use std::alloc::Global;
 
 /// The integers `first`, `first + by`, and so on up to `last`, or down to it if `by` is negative.

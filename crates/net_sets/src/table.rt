@@ -9,11 +9,10 @@ ghost use Rattle.net_sets.specs.Made.{HasRoom};
 ghost use Rattle.net_sets.specs.Sets.{at_key, place_of, same_tuple};
 ghost use Rattle.net_sets.specs.Tables.{IsTable, keys_at, numbered, rows_of};
 
-use crate::fault::SetFault;
+use crate::indexed_set::SharedSet;
 use crate::member::Member;
-use crate::shared_set::SharedSet;
 use crate::tuple::Tuple;
-use crate::tuple_set::{TUPLES_LIMIT, TupleSet};
+use crate::tuple_set::{SetFault, TUPLES_LIMIT, TupleSet};
 use indexmap::IndexMap;
 use std::alloc::{AllocError, Global};
 use std::marker::Model;

@@ -8,10 +8,13 @@ use arrayvec::ArrayVec;
 use std::hash::{Hash, Hasher};
 use std::marker::Model;
 
+/// The maximum number of members of a tuple.
+pub const ARITY_LIMIT: usize = 4;
+
 /// Up to four members, which contracts see as a list.
 #[derive(PartialEq, Eq, Drop)]
 pub struct Tuple<'s> {
-    members: ArrayVec<Member<'s>, 4>,
+    members: ArrayVec<Member<'s>, ARITY_LIMIT>,
 }
 
 impl<'s> Model for Tuple<'s> {

@@ -2,18 +2,17 @@
 
 ghost use Rattle.std.specs.Prelude.{◌≡◌, ◌<◌, ◌≤◌, ◌++◌, ◌∷◌, [], false, length, slice_get, not, IfOk, OnOk, OnErr, IsErrOf};
 ghost use Rattle.std.specs.Option.{option_copied};
-ghost use Rattle.std.specs.List.{IsDistinct};
+ghost use Rattle.std.specs.List.{IsDistinct, items_where_true};
 ghost use Rattle.net_sets.specs.TupleSets.{is_at};
 ghost use Rattle.net_sets.specs.Limits.{tuples_limit};
 ghost use Rattle.net_sets.specs.Made.{IsMade, with_set};
 ghost use Rattle.net_sets.specs.Operations.{union};
 ghost use Rattle.net_sets.specs.Sets.{has, added, place_of, same_tuple};
 
-use crate::fault::SetFault;
 use crate::key::HashKey;
 use crate::tuple::Tuple;
 use indexmap::IndexSet;
-use std::alloc::{AllocError, Global};
+use std::alloc::{AllocError, AllocFailed, Global};
 use std::marker::Model;
 
 /// The greatest number of tuples of a set.
@@ -67,9 +66,7 @@ impl<'s> TupleSet<'s> {
         ensures { IsMade (union [] tuples.now) result }
     {
         let mut all = TupleSet::new(alloc, key);
-        for tuple in tuples {
-            all.add(tuple.copied())?;
-        }
+        all.add_all(tuples)?;
         Ok(all)
     }
 
@@ -170,6 +167,29 @@ impl<'s> TupleSet<'s> {
         }
     }
 
+    /// Appends each of `tuples` that the set does not have. Returns `TooMany` if the set would exceed its limit.
+    pub(crate) fn add_all(&mut self, tuples: &[Tuple<'s>]) -> Result<(), SetFault>
+        ensures { IsMade (union self.old tuples.now) (with_set result self.new) }
+    {
+        let _few = self.len();
+        for tuple in tuples {
+            self.add(tuple.copied())?;
+        }
+        Ok(())
+    }
+
+    /// Keeps the tuples at the positions where `answers` is true, in their order.
+    pub(crate) fn retain_at(&mut self, answers: &[bool])
+        requires { length answers.now ≡ length self.old }
+        ensures { self.new ≡ items_where_true answers.now self.old }
+    {
+        let mut rest = answers.iter();
+        self.tuples.retain(move |_| match rest.next() {
+            None => false,
+            Some(answer) => *answer,
+        });
+    }
+
     /// Frees the memory that is reserved for more tuples.
     pub fn shrink_to_fit(&mut self)
         ensures { self.new ≡ self.old }
@@ -186,5 +206,35 @@ impl<'s> TupleSet<'s> {
             copy.push(tuple.copied())?;
         }
         Ok(copy)
+    }
+}
+
+/// Why a set cannot be built.
+#[derive(Drop)]
+pub enum SetFault {
+    OutOfMemory,
+    /// It would have more tuples than the limit.
+    TooMany,
+}
+
+impl From<AllocError> for SetFault {
+    ghost use Rattle.std.specs.Prelude.{◌≡◌};
+    ghost use Rattle.net_sets.specs.declared.tuple_set.SetFault.TheVariants.{OutOfMemory};
+
+    ghost from_gives = { λ _ e. e ≡ OutOfMemory };
+
+    fn from(_rejected: AllocError) -> SetFault {
+        SetFault::OutOfMemory
+    }
+}
+
+impl<T: Drop> From<AllocFailed<T>> for SetFault {
+    ghost use Rattle.std.specs.Prelude.{◌≡◌};
+    ghost use Rattle.net_sets.specs.declared.tuple_set.SetFault.TheVariants.{OutOfMemory};
+
+    ghost from_gives = { λ _ e. e ≡ OutOfMemory };
+
+    fn from(_rejected: AllocFailed<T>) -> SetFault {
+        SetFault::OutOfMemory
     }
 }

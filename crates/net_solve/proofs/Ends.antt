@@ -17,7 +17,7 @@ use Rattle.net_check.specs.declared.certificate.Certificate.TheVariants.{Optimal
 use Rattle.net_check.proofs.Pairs.{got, zipped-at, zipped-lengths}
 use Rattle.net_solve.specs.Pseudoflows.{no_arc}
 use Rattle.net_normal.proofs.NodeRuns.{slice_get-inside}
-use Rattle.net_solve.specs.declared.machine.Machine.{Machine}
+use Rattle.net_solve.specs.declared.scaling.Machine.{Machine}
 use Rattle.net_solve.specs.Runs.{Reaches, at_start, start, HasEnded, excess_at, epsilon, greatest_scaled}
 use Rattle.net_solve.specs.Machines.{AreDeep, AreEpsilonOptimal, IsConsistent, state_of}
 use Rattle.net_solve.specs.Rounding.{IsRounded}

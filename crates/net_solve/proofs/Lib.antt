@@ -1,4 +1,5 @@
 pub mod Carrying
+pub mod Certified
 pub mod Changes
 pub mod Closing
 pub mod Costs

@@ -10,7 +10,7 @@ use Rattle.net_normal.specs.declared.problem.FlowArc.{FlowArc}
 use Rattle.net_normal.specs.declared.problem.Problem.{Problem}
 use Rattle.net_solve.specs.Pseudoflows.{arc_at}
 use Rattle.net_solve.specs.declared.carried.Carried.{Carried}
-use Rattle.net_solve.specs.declared.machine.Machine.{Machine}
+use Rattle.net_solve.specs.declared.scaling.Machine.{Machine}
 use Rattle.net_solve.specs.Runs.{State, Reaches, by_phase, by_step, MayBegin, Begins, Saturates, reduced, factor, epsilon, greatest_scaled}
 use Rattle.net_solve.specs.Machines.{IsCarried, IsEpsilonOptimal, AreEpsilonOptimal, IsConsistent, IsRunning, state_of}
 

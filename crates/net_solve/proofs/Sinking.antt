@@ -8,7 +8,7 @@ use Rattle.net_normal.specs.declared.problem.Problem.{Problem}
 use Rattle.net_solve.specs.Pseudoflows.{no_arc, arc_at, changed}
 use Rattle.net_solve.proofs.Changes.{set-added}
 use lib.Signed.{lt_z, le_z}
-use Rattle.net_solve.specs.declared.machine.Machine.{Machine}
+use Rattle.net_solve.specs.declared.scaling.Machine.{Machine}
 use Rattle.net_solve.specs.Runs.{Reaches, IsLeastOut, reduced, factor, epsilon, tail_of}
 use Rattle.net_solve.specs.Machines.{IsRunning, state_of, IsDeep, AreDeep, IsEpsilonOptimal, AreEpsilonOptimal, MaySink}
 use Rattle.net_solve.proofs.Carrying.{set-cases}

@@ -8,7 +8,7 @@ use Rattle.net_normal.specs.declared.problem.Problem.{Problem}
 use Rattle.net_solve.specs.Pseudoflows.{arc_at, changed}
 use Rattle.net_solve.specs.Runs.{State, Reaches, by_step, IsStep, reduced, reduced_along, factor, epsilon, tail_of, residual_of}
 use Rattle.net_solve.specs.declared.carried.Carried.{Carried}
-use Rattle.net_solve.specs.declared.machine.Machine.{Machine}
+use Rattle.net_solve.specs.declared.scaling.Machine.{Machine}
 use Rattle.net_solve.specs.Machines.{IsRunning, IsSendable, IsCarried, IsEpsilonOptimal, AreEpsilonOptimal}
 use Rattle.net_solve.proofs.Carrying.{Known, known, set-cases}
 

@@ -4,7 +4,7 @@ use Rattle.net_normal.specs.Flows.{IsWithinCapacity}
 use Rattle.net_normal.specs.declared.problem.FlowArc.{FlowArc}
 use Rattle.net_normal.specs.declared.problem.Problem.{Problem}
 use Rattle.net_solve.specs.Pseudoflows.{arc_at}
-use Rattle.net_solve.specs.declared.machine.Machine.{Machine}
+use Rattle.net_solve.specs.declared.scaling.Machine.{Machine}
 use Rattle.net_solve.specs.Runs.{State, Reaches, excess_at, reduced, factor, epsilon, tail_of, residual_of, reduced_along}
 
 -- flows within their bounds, and the excess of each node

@@ -5,7 +5,7 @@ use Rattle.net_normal.specs.declared.problem.Problem.{Problem}
 use Rattle.net_check.specs.Certificates.{IsCertificate}
 use Rattle.net_check.specs.declared.certificate.Certificate.{Certificate}
 use Rattle.net_check.specs.declared.certificate.Certificate.TheVariants.{Optimal, Cut}
-use Rattle.net_solve.specs.declared.machine.Machine.{Machine}
+use Rattle.net_solve.specs.declared.scaling.Machine.{Machine}
 use Rattle.net_solve.specs.declared.scaling.ScalingRun.{ScalingRun}
 use Rattle.net_solve.specs.Runs.{State, Reaches, HasEnded, IsBalanced, greatest_scaled}
 use Rattle.net_solve.specs.Machines.{IsRunning}

@@ -8,8 +8,7 @@ ghost use Rattle.net_check.specs.declared.certificate.Side.TheVariants.{Over};
 ghost use Rattle.net_solve.specs.Pseudoflows.{AreFromTo, IsUnderWay, IsClear, IsSlackArc, arc_at, too_much};
 ghost use Rattle.net_solve.specs.Forests.{IsGrown, HasNoDeficit, JoinsOne, level_limit};
 
-use crate::forest::Forest;
-use crate::forest_lowering::lower;
+use crate::forest::{Forest, lower};
 use crate::pseudoflow::Pseudoflow;
 use crate::slack::{SlackArc, min_slack_arc};
 use net_normal::Problem;

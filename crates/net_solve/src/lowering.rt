@@ -4,7 +4,7 @@ ghost use Rattle.std.specs.Prelude.{◌≡◌, ◌<◌, true, pos, ◌+ℤ◌, �
 ghost use Rattle.net_solve.specs.Runs.{IsLeastOut};
 ghost use Rattle.net_solve.specs.Machines.{IsDeep, IsRunning, MaySink, state_of};
 
-use crate::machine::Machine;
+use crate::scaling::Machine;
 use net_normal::Problem;
 
 /// The minimum of potentials.

@@ -1,10 +1,13 @@
 //! Rounding potentials to the original costs, if no reduced cost of a residual arc is below -1.
 
-ghost use Rattle.std.specs.Prelude.{◌≡◌, ◌≢◌, ℕ, ◌+◌, ◌-◌, ◌/◌, ◌%◌, ◌<◌, ◌≤◌, ◌^◌, true, pos, ◌-ℤ◌, nat_abs, IfOk, IfSome, length, vec_len, slice_index_or};
-ghost use Rattle.net_normal.specs.Limits.{flow_node_limit};
+ghost use Rattle.std.specs.Prelude.{◌≡◌, ◌≢◌, ℕ, ◌+◌, ◌-◌, ◌/◌, ◌%◌, ◌<◌, ◌≤◌, ◌^◌};
+ghost use Rattle.std.specs.Prelude.{true, pos, ◌-ℤ◌, nat_abs, IfOk, IfSome, length, vec_len, slice_index_or, All};
+ghost use Rattle.net_normal.specs.Limits.{flow_node_limit, IsFlowArcOf, IsSized, cost_limit};
 ghost use Rattle.net_solve.specs.Machines.{AreDeep, IsDeep};
 ghost use Rattle.net_solve.specs.Rounding.{AreFromZero, IsFree, IsLowest, IsRounded, is_taken, level, level_at};
+ghost use Rattle.net_solve.specs.Runs.{reduced, greatest_cost};
 
+use net_normal::FlowArc;
 use std::alloc::{AllocError, Global};
 
 /// Returns the distance of a potential below 0.
@@ -127,4 +130,30 @@ pub fn whole_potentials(alloc: Global, potentials: &[i64]) -> Result<Option<Vec<
         rounded.push(whole(potential, top, free, factor))?;
     }
     Ok(Some(rounded))
+}
+
+/// Returns the scaled cost of an arc plus the potential of its tail minus the potential of its
+/// head.
+pub fn reduced(arc: &FlowArc, potentials: &[i64]) -> i64
+    requires arc { IsFlowArcOf (length potentials.now) arc.now }
+    requires few { length potentials.now ≤ flow_node_limit }
+    requires deep { AreDeep (length potentials.now) potentials.now }
+    ensures value { result ≡ reduced (length potentials.now + 1) potentials.now arc.now }
+    ensures size { IsSized (2 ^ 62) result }
+{
+    let factor = potentials.len() as i64 + 1;
+    arc.cost * factor + potentials[arc.src as usize] - potentials[arc.dst as usize]
+}
+
+/// Returns the maximum absolute value of a cost.
+pub fn greatest_cost(arcs: &[FlowArc]) -> u64
+    requires { All (λ arc. IsSized cost_limit arc.cost) arcs.now }
+    ensures value { result ≡ greatest_cost arcs.now }
+    ensures size { result ≤ cost_limit }
+{
+    let mut most = 0_u64;
+    for arc in arcs {
+        most = most.max(arc.cost.unsigned_abs());
+    }
+    most
 }

@@ -8,8 +8,8 @@ ghost use Rattle.net_solve.specs.Runs.{Begins, MayBegin, Saturates, factor, grea
 ghost use Rattle.net_solve.specs.Machines.{AreDeep, IsCarried, IsRunning, IsConsistent, state_of};
 
 use crate::carried::Carried;
-use crate::machine::Machine;
-use crate::reduced::reduced;
+use crate::rounding::reduced;
+use crate::scaling::Machine;
 use net_normal::{FlowArc, Problem};
 
 /// Returns LOW if the reduced cost is positive, CAP if it is negative, else the arc's flow.

@@ -6,8 +6,8 @@ ghost use Rattle.net_solve.specs.Runs.{IsLeastOut};
 ghost use Rattle.net_solve.specs.Rows.{AreRows};
 ghost use Rattle.net_solve.specs.Machines.{IsDeep, IsRunning, state_of};
 
-use crate::machine::Machine;
 use crate::rows::{Entry, Rows};
+use crate::scaling::Machine;
 use net_normal::Problem;
 
 /// Returns the minimum of the least reduced cost so far and that of one more entry, if that has

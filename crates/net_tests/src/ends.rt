@@ -1,9 +1,9 @@
 //! Streams in memory that fail at each call.
 
 use crate::comparison::expect;
-use crate::filling::Filling;
 use net_io::{MemorySink, MemorySource, OfWrite, ReadFault, read_to_limit, write_whole};
 use std::alloc::{AllocError, Global};
+use std::io::{self, Write};
 use std::test::Fail;
 
 const FIVE: &[u8] = &[1, 2, 3, 4, 5];
@@ -86,4 +86,34 @@ fn a_writer_that_takes_nothing_has_failed(rt: HostRuntime) -> Result<(), Fail> {
         expect(wanted, filled(rt.alloc(), *room), wanted)?;
     }
     Ok(())
+}
+
+/// A writer that accepts one byte per call until it is full, then none.
+#[derive(Drop)]
+pub struct Filling {
+    pub taken: Vec<u8>,
+    room: usize,
+}
+
+impl Filling {
+    /// Creates a writer that accepts at most `room` bytes.
+    pub fn new(alloc: Global, room: usize) -> Filling {
+        Filling {
+            taken: Vec::new(alloc),
+            room,
+        }
+    }
+}
+
+impl Write for Filling {
+    fn write(&mut self, bytes: &[u8]) -> io::Result<usize> {
+        let count = bytes.len().min(self.room).min(1);
+        self.taken.extend_from_slice(&bytes[..count])?;
+        self.room -= count;
+        Ok(count)
+    }
+
+    fn flush(&mut self) -> io::Result<()> {
+        Ok(())
+    }
 }

@@ -9,24 +9,22 @@ mod asking;
 #[cfg(test)]
 mod calls;
 #[cfg(test)]
-mod choices;
+mod choice_cases;
 mod comparison;
 #[cfg(test)]
 mod ends;
 #[cfg(test)]
-mod filling;
 #[cfg(test)]
 mod guesses;
 #[cfg(test)]
 mod instances;
 #[cfg(test)]
-mod numerals;
 #[cfg(test)]
 mod pieces;
 #[cfg(test)]
-mod runs;
+mod run_cases;
 #[cfg(test)]
-mod scaling;
+mod scaling_cases;
 #[cfg(test)]
 mod shapes;
 #[cfg(test)]

@@ -2,7 +2,7 @@
 
 ghost use Rattle.std.specs.Prelude.{◌≡◌, ◌≤◌, false};
 
-use crate::filling::Filling;
+use crate::ends::Filling;
 use crate::texts::{CERTIFICATE, COMPILED, DATA, MODEL, PLAN, PROBLEM};
 use net_driver::{Fault, run_check, run_compile, run_min, run_solve};
 use net_io::{MemorySink, MemorySource, OfWrite, Sink};

@@ -1,11 +1,14 @@
 //! What expressions come to in a world, as texts to compare.
 
+use crate::comparison::expect;
 use crate::steps::line_of;
 use net_base::Excerpt;
 use net_eval::{Keys, Member, Scope, Tuple, World, holds, index_of, members, value};
 use net_expr::{Row, push_member};
+use net_lex::whole_of;
 use net_tree::{Braces, Expr};
 use std::alloc::{AllocError, Global};
+use std::test::Fail;
 
 fn member_shown(alloc: Global, member: &Member<'_>) -> Result<String, AllocError> {
     let mut out = String::new(alloc);
@@ -110,4 +113,33 @@ pub fn index_shown<'s>(
         Ok(keys) => keys_shown(alloc, &keys),
         Err(fault) => line_of(alloc, &fault),
     }
+}
+
+/// The value of a numeral, or why it has none.
+fn value_of(alloc: Global, numeral: &str) -> Result<String, AllocError> {
+    match whole_of(numeral) {
+        Ok(value) => format!(in alloc; "{value}"),
+        Err(fault) => format!(in alloc; "{fault:?}"),
+    }
+}
+
+const NUMERALS: &[(&str, &str)] = &[
+    ("450.0", "450"),
+    ("250e-1", "25"),
+    ("0e99", "0"),
+    ("-1e12", "-1000000000000"),
+    ("2.5", "NotWhole"),
+    ("1e-400", "NotWhole"),
+    ("1e13", "TooLarge"),
+    ("0.5e13", "TooLarge"),
+    ("1e999999999999", "TooLarge"),
+    ("1e", "NotNumeral"),
+];
+
+#[test]
+fn numerals_have_whole_values(rt: HostRuntime) -> Result<(), Fail> {
+    for (numeral, wanted) in NUMERALS {
+        expect(numeral, value_of(rt.alloc(), numeral), wanted)?;
+    }
+    Ok(())
 }

@@ -4,10 +4,10 @@ use Rattle.std.specs.Option.{option_copied}
 use Rattle.clap.specs.Words.{Text}
 use Rattle.net_driver.specs.declared.solve_run.ExitKind.{ExitKind}
 use Rattle.net_driver.specs.declared.solve_run.ExitKind.TheVariants.{Done}
-use Rattle.net_driver.specs.declared.fault.Fault.{Fault}
-use Rattle.net_driver.specs.declared.fault.Fault.TheVariants.{Unread}
-use Rattle.net_driver.specs.declared.fault.TextName.{TextName}
-use Rattle.net_driver.specs.declared.fault.TextName.TheVariants.{Model, Data, Problem, Certificate}
+use Rattle.net_driver.specs.declared.driver_fault.Fault.{Fault}
+use Rattle.net_driver.specs.declared.driver_fault.Fault.TheVariants.{Unread}
+use Rattle.net_driver.specs.declared.driver_fault.TextName.{TextName}
+use Rattle.net_driver.specs.declared.driver_fault.TextName.TheVariants.{Model, Data, Problem, Certificate}
 use Rattle.net_driver.specs.Runs.{IsCompileRun, IsSolveRun, IsMinRun, IsCheckRun, Sink, Source}
 use Rattle.netflow.specs.declared.call.Call.{Call}
 use Rattle.netflow.specs.declared.call.Call.TheVariants.{Compile, Solve, Min, Check}

@@ -2,8 +2,8 @@
 use Rattle.std.specs.Prelude.{ℕ}
 use Rattle.net_driver.specs.declared.solve_run.ExitKind.{ExitKind}
 use Rattle.net_driver.specs.declared.solve_run.ExitKind.TheVariants as endings
-use Rattle.net_driver.specs.declared.fault.Fault.{Fault}
-use Rattle.net_driver.specs.declared.fault.Fault.TheVariants as faults
+use Rattle.net_driver.specs.declared.driver_fault.Fault.{Fault}
+use Rattle.net_driver.specs.declared.driver_fault.Fault.TheVariants as faults
 use Rattle.netflow.specs.declared.status.Status.{Status}
 use Rattle.netflow.specs.declared.status.Status.TheVariants.{Done, Refuted, Rejected, EndFailed, OutOfMemory, Usage}
 

@@ -2,10 +2,13 @@
 
 ghost use Rattle.netflow.specs.CommandLine.{IsCallOf, path_at};
 ghost use Rattle.std.specs.Option.{option_copied};
-ghost use Rattle.std.specs.Prelude.{◌≡◌, string_bytes, option_map};
+ghost use Rattle.std.specs.Prelude.{◌≡◌, string_bytes, option_map, ℕ, List, Option, false, ⊤, IfSome};
 
 use crate::words::{Action, Words};
 use net_driver::Options;
+use net_io::{OfRead, Source};
+use std::fs;
+use std::fs::Files;
 
 /// A call with the paths of its files.
 pub enum Call<'w> {
@@ -59,5 +62,39 @@ pub fn call_of(words: &Words) -> Call<'_>
         Action::Solve => Call::Solve(path_at(words, 0), path_at(words, 1), options_in(words)),
         Action::Min => Call::Min(path_at(words, 0)),
         Action::Check => Call::Check(path_at(words, 0), path_at(words, 1)),
+    }
+}
+
+/// Files that can be opened by their paths.
+pub trait InputFiles {
+    /// An opened file.
+    type Input: Source + Drop;
+
+    // Opening this path can give this file, or `None` if there is no file to read.
+    ghost opens: { Self → List ℕ → Option Self.Input → Type 0 };
+
+    /// Opens the file at a path, or returns `None` if it cannot be opened.
+    fn open(&self, path: &str) -> Option<Self::Input>
+        ensures opened { opens self.now path.now result }
+        ensures unread { IfSome result (λ file. Self.Input.failed file ≡ false) };
+}
+
+/// The files of a runtime.
+#[derive(Drop)]
+pub struct RuntimeFiles<'r, R> {
+    pub runtime: &'r R,
+}
+
+impl<R: Files> InputFiles for RuntimeFiles<'_, R> {
+    type Input = OfRead<R::File>;
+
+    // std's contracts do not say which bytes a file has, so opening it can give any file.
+    ghost opens = { λ _ _ _. ⊤ };
+
+    fn open(&self, path: &str) -> Option<OfRead<R::File>> {
+        match fs::open(self.runtime, path) {
+            Ok(file) => Some(OfRead::new(file)),
+            Err(_) => None,
+        }
     }
 }

@@ -1,19 +1,18 @@
 //! The program: from its arguments to its exit status.
 
-ghost use Rattle.std.specs.Prelude.{◌≡◌, false, map, string_bytes};
-ghost use Rattle.netflow.specs.Calls.{IsCallRun, IsProgramRun};
+ghost use Rattle.std.specs.Prelude.{◌≡◌, ℕ, List, false, map, string_bytes};
+ghost use Rattle.netflow.specs.Calls.{IsCallRun, IsIdle, IsProgramRun};
+ghost use Rattle.netflow.specs.CommandLine.{IsRejection};
 ghost use Rattle.netflow.specs.Statuses.{status_of_fault};
 
-use crate::call::{Call, call_of};
-use crate::files::{InputFiles, RuntimeFiles};
+use crate::call::{Call, InputFiles, call_of};
 use crate::status::Status;
 use crate::words::{WordsFault, words_of};
 use net_driver::{
     ExitKind, Fault, Options, TextName, run_check, run_compile_with, run_min, run_solve_with,
 };
-use net_io::{OfWrite, Sink};
+use net_io::Sink;
 use std::alloc::Global;
-use std::process::ExitCode;
 use std::rt::Runtime;
 use std::{env, io};
 
@@ -110,35 +109,8 @@ fn check_files<F: InputFiles, W: Sink>(
     run_check(alloc, &mut problem, &mut certificate, output)
 }
 
-/// Runs a call on its files.
-fn run_call<F: InputFiles, W: Sink>(
-    alloc: Global,
-    files: &F,
-    output: &mut W,
-    call: Call<'_>,
-) -> Result<ExitKind, Fault>
-    requires { W.failed output.old ≡ false }
-    ensures { IsCallRun
-        (record { opens = F.opens files.now; remaining = F.Input.remaining; failed = F.Input.failed; reads = F.Input.reads })
-        (record { taken = W.taken; failed = W.failed; old = output.old; new = output.new })
-        call.entry result }
-{
-    match call {
-        Call::Compile(model, data, options) => {
-            compile_files(alloc, files, output, model, data, &options)
-        }
-        Call::Solve(model, data, options) => {
-            solve_files(alloc, files, output, model, data, &options)
-        }
-        Call::Min(problem) => min_file(alloc, files, output, problem),
-        Call::Check(problem, certificate) => {
-            check_files(alloc, files, output, problem, certificate)
-        }
-    }
-}
-
 /// Runs the program on its arguments: the call that they request, or none.
-fn run_program<R: Runtime + AllocGlobal, F: InputFiles, W: Sink>(
+pub fn run_program<R: Runtime + AllocGlobal, F: InputFiles, W: Sink>(
     rt: &R,
     files: &F,
     output: &mut W,
@@ -152,21 +124,42 @@ fn run_program<R: Runtime + AllocGlobal, F: InputFiles, W: Sink>(
 {
     let words = match words_of(rt.alloc(), words) {
         Ok(words) => words,
-        Err(WordsFault::OutOfMemory) => return tell(rt, &Fault::OutOfMemory),
-        Err(WordsFault::Usage(error)) => {
+        Err(fault) => return print_usage(rt, fault),
+    };
+    let ran = match call_of(&words) {
+        Call::Compile(model, data, options) => {
+            compile_files(rt.alloc(), files, output, model, data, &options)
+        }
+        Call::Solve(model, data, options) => {
+            solve_files(rt.alloc(), files, output, model, data, &options)
+        }
+        Call::Min(problem) => min_file(rt.alloc(), files, output, problem),
+        Call::Check(problem, certificate) => {
+            check_files(rt.alloc(), files, output, problem, certificate)
+        }
+    };
+    match ran {
+        Ok(exit_kind) => Status::of_exit_kind(exit_kind),
+        Err(fault) => tell(rt, &fault),
+    }
+}
+
+/// Prints why the arguments request no call, or the requested help or version; returns the status.
+fn print_usage<R: Print + Eprint>(rt: &R, fault: WordsFault) -> Status
+    ensures { (words : List (List ℕ)) → IsRejection words fault → IsIdle words result }
+{
+    match fault {
+        WordsFault::OutOfMemory => tell(rt, &Fault::OutOfMemory),
+        WordsFault::Usage(error) => {
             let shown = error.print(rt).is_ok();
-            return if error.use_stderr() {
+            if error.use_stderr() {
                 Status::Usage
             } else if shown {
                 Status::Done
             } else {
                 Status::EndFailed
-            };
+            }
         }
-    };
-    match run_call(rt.alloc(), files, output, call_of(&words)) {
-        Ok(exit_kind) => Status::of_exit_kind(exit_kind),
-        Err(fault) => tell(rt, &fault),
     }
 }
 
@@ -180,7 +173,7 @@ fn tell<R: Eprint>(rt: &R, fault: &Fault) -> Status
 }
 
 /// Returns the arguments of the program, or its exit status if they are not available.
-fn called_words<R: Runtime + AllocGlobal>(rt: &R) -> Result<Vec<String>, Status> {
+pub fn called_words<R: Runtime + AllocGlobal>(rt: &R) -> Result<Vec<String>, Status> {
     let args = match env::args(rt) {
         Ok(args) => args,
         Err(error) if error.kind() == io::ErrorKind::OutOfMemory => {
@@ -195,17 +188,4 @@ fn called_words<R: Runtime + AllocGlobal>(rt: &R) -> Result<Vec<String>, Status>
         Ok(words) => Ok(words),
         Err(_) => Err(tell(rt, &Fault::OutOfMemory)),
     }
-}
-
-/// Runs the program on the arguments with which it was called.
-pub fn run_called<R: Runtime + AllocGlobal>(rt: &R) -> ExitCode {
-    let status = match called_words(rt) {
-        Ok(words) => {
-            let files = RuntimeFiles { runtime: rt };
-            let mut output = OfWrite::new(io::writer(rt));
-            run_program(rt, &files, &mut output, &words)
-        }
-        Err(status) => status,
-    };
-    ExitCode::from(status.code())
 }

@@ -17,7 +17,7 @@ use Rattle.net_expr.specs.Worlds.{bound, name_at}
 use Rattle.net_expr.specs.Values.{value, values, index, places, holds, with_sign}
 use Rattle.net_tree.specs.Tree.{link}
 use Rattle.net_tree.specs.Weights.{weights}
-use Rattle.net_expr.specs.Walks.{by_sides, index_items, component_places}
+use Rattle.net_expr.specs.Walks.{joined, by_sides, index_items, component_places}
 use Rattle.net_expr.proofs.Cases.{in_indexed, in_parens, in_tuple, in_negated, in_signed, in_reduced, in_chain, in_choice, in_filled}
 use Rattle.net_expr.proofs.Walking.{answers_by, and_then-assoc, is_tuple, value-indexed, value-tuple, value-negated, value-signed, value-reduced, value-chain, value-choice, index-filled, left-tuple, left-other, place-sides, link_lighter, stops, goes, leaves_answers, from_start, ok_same, split_first, rest_first, chained-left, values-left, kept-next, kept-all, gathered-left, if_some_by, unconditioned}
 use Rattle.net_expr.specs.Frames.{weight_of}
@@ -430,9 +430,6 @@ eval::choice-returns-else-branch t c = grind (arith)
 pub eval::choice-returns-then-branch : goal.eval::choice-returns-then-branch
 eval::choice-returns-then-branch t c = grind (arith)
 
-pub eval::joined-returns-in_ok-other-in-None : goal.eval::joined-returns-in_ok-other-in-None
-eval::joined-returns-in_ok-other-in-None t c = grind (arith)
-
 pub eval::reduced-returns : goal.eval::reduced-returns
 eval::reduced-returns t c =
     answers_by _ _ _
@@ -503,6 +500,13 @@ eval::gather-one_more-requires t c = grind (arith)
 
 pub eval::joined-returns-in-Some : goal.eval::joined-returns-in-Some
 eval::joined-returns-in-Some t c = grind (arith)
+
+pub eval::joined-returns : goal.eval::joined-returns
+eval::joined-returns t c =
+    answers_by _ _ _
+    (ap (λ o. joined (span_of (tree c.args.whole.now)) o (value c.args.env.now c.args.scope.now (tree c.args.link.now.operand)) c.args.value) (sym c.op-operation.ensures)
+    ∙ goes _ _ _ _ refl (c.in_ok-found.ensures ∙ ap Ok c.in-None.is))
+    (c.apply_to.ensures _ c.evaluate-other.ensures)
 
 pub eval::tupled-returns : goal.eval::tupled-returns
 eval::tupled-returns t c = grind (arith)

@@ -2,7 +2,7 @@ use Rattle.std.proofs.Common.{◌≡◌, ◌+◌, ◌-◌, ℕ, sym, subst, arit
 use Rattle.std.proofs.lemmas.Grind.{common_steps}
 use Rattle.net_check.specs.Certificates.{IsComplementary}
 use Rattle.net_check.specs.FirstFaults.{ArcKeeps, IsSlack}
-use Rattle.net_check.specs.declared.verdict.Reason.{Reason}
+use Rattle.net_check.specs.declared.checker.Reason.{Reason}
 use Rattle.net_check.proofs.Pairs.{keeps-here, keeps-all}
 use Rattle.net_check.proofs.slackness.check_slackness.Goals as goal
 

@@ -1,36 +1,59 @@
 use Rattle.std.proofs.Common.{sym, subst}
 use Rattle.std.specs.Option.{option_copied}
 use Rattle.net_driver.specs.IsSolved.{IsSolved}
+use Rattle.net_driver.specs.Reporting.{IsRejection}
 use Rattle.net_driver.proofs.NoMemory.{model_may, no_memory}
 use Rattle.net_driver.proofs.Compilations.{solutions_are_sound}
+use Rattle.net_driver.proofs.Networks.{lies_there, network_read}
+use Rattle.net_driver.proofs.Stops.{passed_on}
 use Rattle.net_driver.proofs.answer.solve_model_with.Goals as goal
 
+pub reported-requires : goal.reported-requires
+reported-requires c = lies_there _ c.args.model.now c.args.data.now _ c.read_network-read.ensures.rejected
+
 pub solve_network-requires : goal.solve_network-requires
-solve_network-requires c = c.in_ok-network.ensures.value.sizes
+solve_network-requires c =
+    let network = network_read _ c.args.model.now c.args.data.now _ c.in_ok-named.named c.in_ok-named.ensures.ok c.read_network-read.ensures.ok in
+    (c.in_ok-network.ensures _ _ _ network).sizes
 
 pub with_text-requires : goal.with_text-requires
-with_text-requires c = c.in_ok-network.ensures.value.sizes
+with_text-requires c =
+    let network = network_read _ c.args.model.now c.args.data.now _ c.in_ok-named.named c.in_ok-named.ensures.ok c.read_network-read.ensures.ok in
+    (c.in_ok-network.ensures _ _ _ network).sizes
 
 pub returns-clause-value : goal.returns-clause-value
 returns-clause-value c =
+    let network = network_read _ c.args.model.now c.args.data.now _ c.in_ok-named.named c.in_ok-named.ensures.ok c.read_network-read.ensures.ok in
     subst (λ compiled. IsSolved c.args.options.now.lean (option_copied c.args.options.now.objective) c.args.model.now c.args.data.now (record { compiled = compiled; outcome = c.in_ok-outcome.outcome }))
-    (sym c.in_ok-compiled.ensures) (c.in_ok-outcome.ensures _ _ _ _ c.in_ok-network.ensures.value)
+    (sym c.in_ok-compiled.ensures) (c.in_ok-outcome.ensures _ _ _ _ (c.in_ok-network.ensures _ _ _ network))
 
 pub returns-clause-means : goal.returns-clause-means
 returns-clause-means c =
     let wanted = option_copied c.args.options.now.objective in
+    let network = network_read wanted c.args.model.now c.args.data.now _ c.in_ok-named.named c.in_ok-named.ensures.ok c.read_network-read.ensures.ok in
     let answers =
     subst (λ compiled. IsSolved c.args.options.now.lean wanted c.args.model.now c.args.data.now (record { compiled = compiled; outcome = c.in_ok-outcome.outcome }))
-    (sym c.in_ok-compiled.ensures) (c.in_ok-outcome.ensures _ _ _ _ c.in_ok-network.ensures.value) in
+    (sym c.in_ok-compiled.ensures) (c.in_ok-outcome.ensures _ _ _ _ (c.in_ok-network.ensures _ _ _ network)) in
     solutions_are_sound c.args.options.now.lean wanted c.args.model.now c.args.data.now
     (record { compiled = c.in_ok-compiled.compiled; outcome = c.in_ok-outcome.outcome }) answers
 
+pub returns-in_err-named-clause-rejected : goal.returns-in_err-named-clause-rejected
+returns-in_err-named-clause-rejected c =
+    let wanted = option_copied c.args.options.now.objective in
+    passed_on (IsRejection wanted c.args.model.now c.args.data.now) _ c.from_residual.result _ (λ e h. h)
+    (c.in_err-named.ensures.rejected wanted c.read_network-read.ensures.rejected) c.from_residual.ensures.1
+
+pub returns-in_err-network-clause-rejected : goal.returns-in_err-network-clause-rejected
+returns-in_err-network-clause-rejected c =
+    let network = network_read _ c.args.model.now c.args.data.now _ c.in_ok-named.named c.in_ok-named.ensures.ok c.read_network-read.ensures.ok in
+    no_memory _ c.args.model.now c.args.data.now c.from_residual-in_err-network.result _ (λ e h. h) (model_may c.args.model.now _ network.model) c.from_residual-in_err-network.ensures.1
+
 pub returns-in_err-outcome-clause-rejected : goal.returns-in_err-outcome-clause-rejected
 returns-in_err-outcome-clause-rejected c =
-    no_memory _ c.args.model.now c.args.data.now c.from_residual-in_err-outcome.result _ (λ e h. h)
-    (model_may c.args.model.now _ c.in_ok-network.ensures.value.accepts.model) c.from_residual-in_err-outcome.ensures.1
+    let network = network_read _ c.args.model.now c.args.data.now _ c.in_ok-named.named c.in_ok-named.ensures.ok c.read_network-read.ensures.ok in
+    no_memory _ c.args.model.now c.args.data.now c.from_residual-in_err-outcome.result _ (λ e h. h) (model_may c.args.model.now _ network.model) c.from_residual-in_err-outcome.ensures.1
 
 pub returns-in_err-compiled-clause-rejected : goal.returns-in_err-compiled-clause-rejected
 returns-in_err-compiled-clause-rejected c =
-    no_memory _ c.args.model.now c.args.data.now c.from_residual-in_err-compiled.result _ (λ e h. h)
-    (model_may c.args.model.now _ c.in_ok-network.ensures.value.accepts.model) c.from_residual-in_err-compiled.ensures.1
+    let network = network_read _ c.args.model.now c.args.data.now _ c.in_ok-named.named c.in_ok-named.ensures.ok c.read_network-read.ensures.ok in
+    no_memory _ c.args.model.now c.args.data.now c.from_residual-in_err-compiled.result _ (λ e h. h) (model_may c.args.model.now _ network.model) c.from_residual-in_err-compiled.ensures.1

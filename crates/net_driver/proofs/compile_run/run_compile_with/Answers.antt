@@ -4,16 +4,30 @@ use Rattle.net_driver.specs.IsBuilt.{IsBuilt}
 use Rattle.net_driver.specs.CompiledNetwork.{written}
 use Rattle.net_driver.specs.Reporting.{IsRejection}
 use Rattle.net_driver.proofs.Reading.{read_whole}
-use Rattle.net_driver.proofs.Running.{texts_of, rejected_run}
+use Rattle.net_driver.proofs.Networks.{lies_there, network_read}
+use Rattle.net_driver.proofs.Running.{texts_of, rejected_run, stopped_run}
 use Rattle.net_driver.proofs.Compilations.{compilations_are_sound}
 use Rattle.net_driver.proofs.compile_run.run_compile_with.Goals as goal
+
+pub reported-requires : goal.reported-requires
+reported-requires g c =
+    let stopped = rw (c.deref.ensures.value, c.deref-2.ensures.value) at c.read_network-read.ensures.rejected in
+    rw (c.deref-3.ensures.value, c.deref-4.ensures.value) (lies_there _ c.in_ok-model_text.model_text.items c.in_ok-data_text.data_text.items _ stopped)
+
+pub write_links-requires : goal.write_links-requires
+write_links-requires g c =
+    let m = c.in_ok-model_text.model_text.items in
+    let d = c.in_ok-data_text.data_text.items in
+    let found = rw (c.deref.ensures.value, c.deref-2.ensures.value) at c.read_network-read.ensures.ok in
+    (c.in_ok-network.ensures _ m d (network_read _ m d _ c.in_ok-named.named c.in_ok-named.ensures.ok found)).sizes.arcs
 
 pub returns-in-Ok-clause-run : goal.returns-in-Ok-clause-run
 returns-in-Ok-clause-run g c =
     let m = c.in_ok-model_text.model_text.items in
     let d = c.in_ok-data_text.data_text.items in
     let answer = written c.in_ok-network.network in
-    let promise : IsBuilt c.args.options.now.lean (option_copied c.args.options.now.objective) m d answer = search rules in
+    let found = rw (c.deref.ensures.value, c.deref-2.ensures.value) at c.read_network-read.ensures.ok in
+    let promise : IsBuilt c.args.options.now.lean (option_copied c.args.options.now.objective) m d answer = c.in_ok-network.ensures _ m d (network_read _ m d _ c.in_ok-named.named c.in_ok-named.ensures.ok found) in
     record {
       ok = record {
         texts = texts_of m d [] [];
@@ -33,7 +47,8 @@ returns-clause-run g c =
     let m = c.in_ok-model_text.model_text.items in
     let d = c.in_ok-data_text.data_text.items in
     let answer = written c.in_ok-network.network in
-    let promise : IsBuilt c.args.options.now.lean (option_copied c.args.options.now.objective) m d answer = search rules in
+    let found = rw (c.deref.ensures.value, c.deref-2.ensures.value) at c.read_network-read.ensures.ok in
+    let promise : IsBuilt c.args.options.now.lean (option_copied c.args.options.now.objective) m d answer = c.in_ok-network.ensures _ m d (network_read _ m d _ c.in_ok-named.named c.in_ok-named.ensures.ok found) in
     record {
       ok = tt;
       err = (
@@ -51,11 +66,19 @@ returns-clause-run g c =
       reads = (search rules, (search rules, tt));
     }
 
-pub returns-in_err-network-clause-run : goal.returns-in_err-network-clause-run
-returns-in_err-network-clause-run g c =
+pub returns-in_err-named-clause-run : goal.returns-in_err-named-clause-run
+returns-in_err-named-clause-run g c =
     let m = c.in_ok-model_text.model_text.items in
     let d = c.in_ok-data_text.data_text.items in
-    let wrong : IsRejection (option_copied c.args.options.now.objective) m d c.in_err-network.field-0.0 = search rules in
+    let wanted = option_copied c.args.options.now.objective in
+    let stopped = rw (c.deref.ensures.value, c.deref-2.ensures.value) at c.read_network-read.ensures.rejected in
+    let wrong : IsRejection wanted m d c.in_err-named.field-0.0 =
+    rw (← c.deref-3.ensures.value, ← c.deref-4.ensures.value) (c.in_err-named.ensures.rejected wanted (rw (c.deref-3.ensures.value, c.deref-4.ensures.value) stopped)) in
     rejected_run _ _ _ _ (texts_of m d [] []) (λ name h. h) (λ h. h) (c.in_ok-model_text.ensures.value, (c.in_ok-data_text.ensures.value, tt)) refl
     (grind (arith), (grind (arith), tt)) (grind (arith)) (c.in_ok-model_text.ensures.reads, (c.in_ok-data_text.ensures.reads, tt))
-    c.in_err-network.field-0.0 wrong _ _ (λ e h. h) c.from_residual-in_err-network.ensures.1
+    c.in_err-named.field-0.0 wrong _ _ (λ e h. h) c.from_residual-in_err-named.ensures.1
+
+pub returns-in_err-network-clause-run : goal.returns-in_err-network-clause-run
+returns-in_err-network-clause-run g c =
+    stopped_run _ _ _ _ refl (grind (arith), (grind (arith), tt)) (grind (arith)) (c.in_ok-model_text.ensures.reads, (c.in_ok-data_text.ensures.reads, tt))
+    _ _ (λ e h. h) c.from_residual-in_err-network.ensures.1

@@ -22,9 +22,9 @@ returns c = λ rows.
     let becomes : phrase_value is_becomes p.phrases ≡ None = grind (arith, c.phrase_value.ensures, c.is_some-is_assigned.ensures, c.if-is_assigned.false) in
     let default : phrase_value is_default p.phrases ≡ None = grind (arith, c.phrase_value-2.ensures, c.is_some-otherwise.ensures, c.if-otherwise.false) in
     let nothing : c.in_ok-default.default ≡ None = grind (arith, c.is_some.ensures, c.if-is_some.false) in
-    let said : data_of ws p.keys p.index (is_some (phrase_value is_becomes p.phrases)) ms ≡ Ok (taken, None) =
-    ap (λ b. data_of ws p.keys p.index b ms) (ap is_some becomes ∙ sym c.if-is_assigned.false)
-    ∙ ap (λ t. each (with_statement ws p.keys p.index (key_count p.keys) c.is_some-is_assigned.result) ms (t, None)) (sym c.in_ok-values.ensures)
+    let said : data_of ws p (is_some (phrase_value is_becomes p.phrases)) ms ≡ Ok (taken, None) =
+    ap (λ b. data_of ws p b ms) (ap is_some becomes ∙ sym c.if-is_assigned.false)
+    ∙ ap (λ t. each (with_statement ws p (key_count p.keys) c.is_some-is_assigned.result) ms (t, None)) (sym c.in_ok-values.ensures)
     ∙ c.in_ok-default.ensures
     ∙ ap (λ d. Ok (taken, d)) nothing in
     let entry : c.in_ok-parameter_entry.field-0 ≡ Parameter p.keys p.index taken.0 = grind (arith, c.in_ok-parameter_entry.ensures, c.into_table.ensures) in

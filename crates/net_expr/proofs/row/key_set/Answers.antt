@@ -2,7 +2,7 @@ use Rattle.std.specs.Prelude.{◌≡◌, ◌<◌, ℕ, suc, List, ◌∷◌, Err
 use Rattle.std.proofs.Common.{refl, sym, ap, ◌∙◌, rules, arith}
 use Rattle.std.proofs.lemmas.Grind.{common_steps}
 use Rattle.std.proofs.Math.Seq.{drop-cons}
-use Rattle.net_sets.specs.declared.fault.SetFault.{SetFault}
+use Rattle.net_sets.specs.declared.tuple_set.SetFault.{SetFault}
 use Rattle.net_sets.specs.Made.{IsMade}
 use Rattle.net_sets.specs.Operations.{union}
 use Rattle.net_sets.specs.Sets.{Tuple, added}

@@ -4,8 +4,8 @@ use Rattle.std.proofs.lemmas.Result.{err_from_is_err_and}
 use Rattle.net_tree.specs.View.{declaration_of}
 use Rattle.net_tree.specs.declared.declaration.Decl.{Decl}
 use Rattle.net_model.specs.Declarations.{declaration_at, declaration_step, any_left, model_at}
-use Rattle.net_model.specs.declared.parse_error.ParseError.{ParseError}
-use Rattle.net_model.specs.declared.parse_error.ParseError.TheVariants.{OutOfMemory, Rejected, TooDeep}
+use Rattle.net_model.specs.declared.model_parser.ParseError.{ParseError}
+use Rattle.net_model.specs.declared.model_parser.ParseError.TheVariants.{OutOfMemory, Rejected, TooDeep}
 use Rattle.net_model.specs.Expressions.{Inner, nested}
 use Rattle.net_model.specs.Rows.{row}
 use Rattle.net_model.proofs.RowLemmas.{row_read, row_turn, row_stops}

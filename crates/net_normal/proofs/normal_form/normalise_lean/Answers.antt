@@ -1,7 +1,7 @@
 use Rattle.std.proofs.lemmas.Result.{IfOk-weaker}
 use Rattle.net_normal.proofs.Profiles.{lean-no_low, lean-left_out}
 use Rattle.net_normal.specs.declared.problem.Problem.{Problem}
-use Rattle.net_normal.specs.declared.link.Link.{Link}
+use Rattle.net_normal.specs.declared.problem.Link.{Link}
 use Rattle.net_normal.proofs.normal_form.normalise_lean.Goals as goal
 
 pub returns-clause-no_low : goal.returns-clause-no_low

@@ -1,5 +1,0 @@
-use Rattle.net_check.proofs.NoFlow.{cut-no_flow}
-use Rattle.net_check.proofs.laws.no_flow.Goals as goal
-
-pub returns : goal.returns
-returns c = record { value = cut-no_flow }

@@ -1,5 +1,0 @@
-use Rattle.net_data.proofs.GrammarAgrees.{unambiguous}
-use Rattle.net_data.proofs.laws.grammar_is_unambiguous.Goals as goal
-
-pub returns : goal.returns
-returns c = record { value = unambiguous }

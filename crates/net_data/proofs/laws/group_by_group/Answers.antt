@@ -1,5 +1,0 @@
-use Rattle.net_data.proofs.GroupLemmas.{groups-cons}
-use Rattle.net_data.proofs.laws.group_by_group.Goals as goal
-
-pub returns-clause-next : goal.returns-clause-next
-returns-clause-next c = groups-cons

@@ -1,5 +1,0 @@
-use Rattle.net_driver.proofs.FaultPlaces.{fault_lies}
-use Rattle.net_driver.proofs.laws.first_error_is_in_its_file.Goals as goal
-
-pub returns : goal.returns
-returns c = record { value = fault_lies }

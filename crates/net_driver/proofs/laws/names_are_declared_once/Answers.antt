@@ -1,5 +1,0 @@
-use Rattle.net_driver.proofs.NamesOnce.{nodes_once, arcs_once}
-use Rattle.net_driver.proofs.laws.names_are_declared_once.Goals as goal
-
-pub returns : goal.returns
-returns c = record { nodes = nodes_once; arcs = arcs_once }

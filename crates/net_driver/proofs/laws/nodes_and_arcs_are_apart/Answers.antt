@@ -1,5 +1,0 @@
-use Rattle.net_driver.proofs.Apart.{bound_apart, read_apart}
-use Rattle.net_driver.proofs.laws.nodes_and_arcs_are_apart.Goals as goal
-
-pub returns : goal.returns
-returns c = record { bound = bound_apart; read = read_apart }

@@ -1,5 +1,0 @@
-use Rattle.net_driver.proofs.OneFault.{read_or_rejected}
-use Rattle.net_driver.proofs.laws.read_or_rejected.Goals as goal
-
-pub returns : goal.returns
-returns c = record { value = read_or_rejected }

@@ -1,5 +1,0 @@
-use Rattle.net_driver.proofs.Compilations.{compilations_are_sound}
-use Rattle.net_driver.proofs.meaning.compilations_are_sound.Goals as goal
-
-pub returns : goal.returns
-returns c = record { value = compilations_are_sound }

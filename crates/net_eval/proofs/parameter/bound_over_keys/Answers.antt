@@ -1,0 +1,14 @@
+use Rattle.std.proofs.Common.{sym, subst}
+use Rattle.net_eval.specs.BoundParameters.{with_data}
+use Rattle.net_eval.specs.FromData.{Answers}
+use Rattle.net_eval.specs.ParameterViews.{parameter_of}
+use Rattle.net_eval.proofs.SameEverywhere.{nothing}
+use Rattle.net_eval.proofs.parameter.bound_over_keys.Goals as goal
+
+pub returns-in-empty : goal.returns-in-empty
+returns-in-empty c = λ rows listed.
+    subst (λ ms. Answers (with_data c.args.earlier.now.env c.args.earlier.now.widths.now (parameter_of c.args.parameter.now) ms rows) c.same_everywhere.result)
+    (sym (nothing c.args.named_data.now c.in-empty.len_below)) (c.same_everywhere.ensures rows listed)
+
+pub returns-then-not-has_source : goal.returns-then-not-has_source
+returns-then-not-has_source c = λ rows listed. c.from_data_alone.ensures rows

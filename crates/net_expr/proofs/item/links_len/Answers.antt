@@ -1,6 +1,0 @@
-use Rattle.std.proofs.Common.{sym}
-use Rattle.net_expr.proofs.Walking.{size-links}
-use Rattle.net_expr.proofs.item.links_len.Goals as goal
-
-pub returns : goal.returns
-returns c = sym (size-links c.args.links.now)

@@ -1,5 +1,0 @@
-use Rattle.net_expr.proofs.KeysOnce.{have_distinct_keys}
-use Rattle.net_expr.proofs.laws.keys_are_distinct.Goals as goal
-
-pub returns : goal.returns
-returns c = record { value = have_distinct_keys }

@@ -1,5 +1,0 @@
-use Rattle.net_inst.proofs.Written.{have_names}
-use Rattle.net_inst.proofs.laws.names_are_declared.Goals as goal
-
-pub returns : goal.returns
-returns c = record { value = have_names }

@@ -1,5 +1,0 @@
-use Rattle.net_inst.proofs.Aiming.{have_objective}
-use Rattle.net_inst.proofs.laws.objective_is_written.Goals as goal
-
-pub returns : goal.returns
-returns c = record { value = have_objective }

@@ -1,5 +1,0 @@
-use Rattle.net_inst.proofs.SoundProblems.{problems_represent}
-use Rattle.net_inst.proofs.laws.problems_represent_networks.Goals as goal
-
-pub returns : goal.returns
-returns c = record { value = problems_represent }

@@ -1,5 +1,0 @@
-use Rattle.net_inst.proofs.Written.{have_exact_ranges}
-use Rattle.net_inst.proofs.laws.ranges_are_conditions.Goals as goal
-
-pub returns : goal.returns
-returns c = record { value = have_exact_ranges }

@@ -1,5 +1,0 @@
-use Rattle.net_linear.proofs.ConditionsSound.{conditions_are_sound}
-use Rattle.net_linear.proofs.laws.conditions_are_sound.Goals as goal
-
-pub returns : goal.returns
-returns c = record { value = conditions_are_sound }

@@ -1,5 +1,0 @@
-use Rattle.net_linear.proofs.WorthLaws.{have_value}
-use Rattle.net_linear.proofs.laws.forms_have_value.Goals as goal
-
-pub returns : goal.returns
-returns c = record { value_of_tree = have_value }

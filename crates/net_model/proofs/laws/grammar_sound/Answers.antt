@@ -1,5 +1,0 @@
-use Rattle.net_model.proofs.GrammarModelsSound.{model-sound}
-use Rattle.net_model.proofs.laws.grammar_sound.Goals as goal
-
-pub returns : goal.returns
-returns c = record { value = model-sound }

@@ -1,5 +1,0 @@
-use Rattle.net_model.proofs.GrammarModelsSound.{model-unique}
-use Rattle.net_model.proofs.laws.grammar_unique.Goals as goal
-
-pub returns : goal.returns
-returns c = record { value = model-unique }

@@ -1,5 +1,0 @@
-use Rattle.net_model.proofs.Deciding.{decided}
-use Rattle.net_model.proofs.laws.parsed_or_rejected.Goals as goal
-
-pub returns : goal.returns
-returns c = record { value = decided }
