@@ -1,8 +1,8 @@
 // usage: floor MODEL DATA
 //
 // The job of `netflow compile` done plainly, as a measure of what it must cost at least: tokens, sets, parameters, nodes and arcs, and the
-// same text. It reads what the models of bench/make_planner and bench/make_pairs use and no more, stops at the first thing that is wrong
-// without saying where, and has a hash that a sender of texts could choose against.
+// same text. It reads what the models of bench/make_planner, make_pairs, make_matrix, make_crew and make_days use and no more, stops at
+// the first thing that is wrong without saying where, and has a hash for which an author of an input can choose colliding names.
 #include <functional>
 #include <initializer_list>
 #include <memory>
@@ -10,8 +10,9 @@
 #include "floor_forms.h"
 #include "floor_sets.h"
 
-// What data say of a name: the cells, how many values stand behind a key and which is meant, and a default.
-struct Given { size_t from = 0, to = 0, values = 0, place = 0; };
+// The data of a name: its cells, how many values follow a key, and which of them is its own. The heading is that of a table, or 0; it
+// has as many members as a row has values.
+struct Given { size_t from = 0, to = 0, values = 0, place = 0, heading = 0; };
 
 struct Declared { enum { none, set, param } kind = none; int place = 0; };
 
@@ -111,14 +112,23 @@ struct World {
     }
 
     // ---- values
+    // The place of a key among the values: over two sets it is row * columns + column.
+    long place_of(const Param &param, const Member *key) const {
+        long place = 0;
+        for (int of : param.sets) {
+            long found = sets[of].find(key);
+            if (found < 0) return -1;
+            place = place * long(sets[of].count()) + found;
+            key += sets[of].size;
+        }
+        return place;
+    }
     Member param_at(const Param &param, const Member *key) const {
-        if (param.keys == 0) return param.values.at(0);
-        long place = (param.of >= 0 ? sets[param.of] : param.own).find(key);
-        if (place >= 0 && param.values[place] != nothing) return param.values[place];
-        want(param.otherwise != nothing, "no value");
-        if (param.of >= 0) want(place >= 0, "outside the set");
-        for (size_t part = 0; part < param.sets.size(); part++) want(sets[param.sets[part]].find(key + part) >= 0, "outside the set");
-        return param.otherwise;
+        long place = place_of(param, key);
+        want(place >= 0, "outside the set");
+        Member found = param.values[place] != nothing ? param.values[place] : param.otherwise;
+        want(found != nothing, "no value");
+        return found;
     }
     int64_t number(const Expr &it, Dummies &dummies) const { return number_of(value(it, dummies)); }
     Member value(const Expr &it, Dummies &dummies) const {
@@ -188,21 +198,31 @@ struct World {
 
     // ---- data
     Member cell(size_t place) const { return data[place].kind == Kind::number ? of_number(data[place].value) : data[place].value * 2 + 1; }
+    bool is_mark(size_t place, int64_t it) const { return data[place].kind == Kind::mark && data[place].value == it; }
+    size_t next_mark(size_t place, int64_t it) const {
+        for (; !is_mark(place, it); place++) want(data[place].kind != Kind::end, "a mark is missing");
+        return place;
+    }
     void read_data() {
         for (size_t here = 0; data[here].kind != Kind::end;) {
             bool is_set = words.texts[data[here++].value] == "set";
-            vector<int64_t> heads;
-            int64_t leader = -1;
-            for (; data[here].kind != Kind::mark || (data[here].value != both(':', '=') && data[here].value != ';'); here++) {
-                if (data[here].kind == Kind::word) heads.push_back(data[here].value);
-                else if (data[here].value == ':' && !heads.empty()) leader = heads.back(), heads.pop_back();
-            }
-            size_t from = ++here;
-            while (data[here].kind != Kind::mark || data[here].value != ';') here++;
-            if (leader >= 0) given[leader] = {from, here, heads.size(), 0};
-            for (size_t place = 0; place < heads.size(); place++) given[heads[place]] = {from, here, is_set ? 0 : heads.size(), place};
-            here++;
+            size_t assign = next_mark(here, both(':', '=')), end = next_mark(assign, ';');
+            if (data[here].kind == Kind::word && is_mark(here + 1, ':')) {
+                size_t heading = here + 2;
+                given[data[here].value] = {assign + 1, end, assign - heading, 0, heading};
+            } else read_heads(here, assign, end, is_set);
+            here = end + 1;
         }
+    }
+    void read_heads(size_t here, size_t assign, size_t end, bool is_set) {
+        vector<int64_t> heads;
+        int64_t leader = -1;
+        for (; here < assign; here++) {
+            if (data[here].kind == Kind::word) heads.push_back(data[here].value);
+            else if (data[here].value == ':' && !heads.empty()) leader = heads.back(), heads.pop_back();
+        }
+        if (leader >= 0) given[leader] = {assign + 1, end, heads.size()};
+        for (size_t place = 0; place < heads.size(); place++) given[heads[place]] = {assign + 1, end, is_set ? 0 : heads.size(), place};
     }
     size_t rows_of(const Given &given, size_t size) const { want((given.to - given.from) % size == 0, "a row is short"); return (given.to - given.from) / size; }
 
@@ -248,9 +268,10 @@ struct World {
             int64_t bound = next().value;
             bounds.emplace_back(bound, sum());
         }
-        if (param.sets.size() == 1) param.of = param.sets[0], param.sets.clear(), param.values.assign(sets[param.of].count(), nothing);
-        param.own = Set(param.keys ? param.keys : 1);
-        if (auto found = given.find(it); found != given.end()) fill(param, found->second);
+        size_t count = 1;
+        for (int set : param.sets) count *= sets[set].count();
+        param.values.assign(count, nothing);
+        if (auto found = given.find(it); found != given.end()) found->second.heading ? fill_table(param, found->second) : fill(param, found->second);
         for (Member at : param.values)
             for (auto &[bound, side] : bounds) {
                 int64_t other = number(side, none), own = at == nothing ? other : number_of(at);
@@ -259,23 +280,37 @@ struct World {
         declared[it] = {Declared::param, int(params.size())};
         params.push_back(std::move(param));
     }
+    void give(Param &param, long place, Member value) {
+        want(place >= 0 && param.values[place] == nothing, "outside the set, or twice");
+        param.values[place] = value;
+    }
     void fill(Param &param, const Given &given) {
         size_t width = param.keys + given.values, rows = rows_of(given, width);
+        const Set *only = param.sets.size() == 1 ? &sets[param.sets[0]] : nullptr;
         Member key[4];
         for (size_t row = 0; row < rows; row++) {
             size_t from = given.from + row * width;
             for (size_t part = 0; part < param.keys; part++) key[part] = cell(from + part);
-            Member value = cell(from + param.keys + given.place);
-            if (param.of >= 0) {
-                const Set &set = sets[param.of];
-                long place = row < set.count() && set.is_at(row, key) ? long(row) : set.find(key);
-                want(place >= 0 && param.values[place] == nothing, "outside the set, or twice");
-                param.values[place] = value;
-            } else {
-                for (size_t part = 0; part < param.sets.size(); part++) want(sets[param.sets[part]].find(key + part) >= 0, "outside the set");
-                want(param.keys == 0 || param.own.add(key), "a value twice");
-                param.values.push_back(value);
-            }
+            long place = only && row < only->count() && only->is_at(row, key) ? long(row) : place_of(param, key);
+            give(param, place, cell(from + param.keys + given.place));
+        }
+    }
+    void fill_table(Param &param, const Given &given) {
+        want(param.sets.size() == 2 && param.keys == 2, "a table needs two sets of members");
+        const Set &rows = sets[param.sets[0]], &columns = sets[param.sets[1]];
+        vector<long> places;
+        for (size_t column = 0; column < given.values; column++) {
+            Member member = cell(given.heading + column);
+            places.push_back(columns.find(&member));
+            want(places.back() >= 0, "outside the set");
+        }
+        size_t width = 1 + given.values, count = rows_of(given, width);
+        for (size_t row = 0; row < count; row++) {
+            size_t from = given.from + row * width;
+            Member member = cell(from);
+            long place = rows.find(&member);
+            want(place >= 0, "outside the set");
+            for (size_t column = 0; column < given.values; column++) give(param, place * long(columns.count()) + places[column], cell(from + 1 + column));
         }
     }
     void check() {
@@ -307,10 +342,14 @@ struct World {
     void declare_node() {
         int64_t it = name();
         Braces over = braces();
-        need(':');
-        want(word("net_out"), "net_out");
-        need('=');
-        Expr supply = sum();
+        Expr supply{Form::number};
+        bool is_in = false;
+        if (mark(':')) {
+            is_in = word("net_in");
+            want(is_in || word("net_out"), "no condition of a node");
+            need('=');
+            supply = sum();
+        }
         need(';');
         scope.clear();
         Nodes &made = nodes[it];
@@ -318,7 +357,8 @@ struct World {
         walk(over.items, over.condition.empty() ? nullptr : &over.condition[0], none, [&](const vector<Member> &key, Dummies &now) {
             if (!made.keys) made.keys = std::make_unique<Set>(key.empty() ? 1 : key.size());
             want(key.empty() || made.keys->add(key.data()), "a node twice");
-            supplies.push_back(number(supply, now));
+            int64_t out = number(supply, now);
+            supplies.push_back(is_in ? -out : out);
             tell(node_names.append("c node ").append(std::to_string(supplies.size())).append(" "), it, key);
         });
     }

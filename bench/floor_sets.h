@@ -37,5 +37,5 @@ struct Set {
     }
 };
 
-// Values by the places of a declared set, or of keys of its own.
-struct Param { size_t keys = 0; int of = -1; vector<int> sets; Set own{1}; vector<Member> values; Member otherwise = nothing; };
+// A parameter over sets: how many members a key has, a value or nothing for each key, and the default.
+struct Param { vector<int> sets; size_t keys = 0; vector<Member> values; Member otherwise = nothing; };
