@@ -1,4 +1,4 @@
-//! The tokens of a row or table of data, without the commas among them.
+//! The cells of a row or table of data: its tokens, of which contracts see those that are not commas.
 
 ghost use Rattle.std.specs.Prelude.{◌≡◌, ◌+◌, ◌<◌, ◌^◌, ◌++◌, length, IfOk, OnOk, ◌≤◌};
 ghost use Rattle.net_data.specs.Reading.{last_span, run, run_len};

@@ -171,7 +171,7 @@ fn tables<'t, 's>(
 }
 
 /// Parses the tokens of a data file. Commas are allowed anywhere and significant only in tuples.
-/// The first error is `Syntax` at the first token that is not allowed, or at the end of the last
+/// The first error is `DataSyntax` at the first token that is not allowed, or at the end of the last
 /// one; `TableWidth` at the `:=` of a heading without a column or a name; or `RowWidth` at the last
 /// cell of a table that does not fill complete rows.
 pub fn parse_data<'t, 's>(alloc: Global, tokens: &'t [Token<'s>]) -> Result<Tables<'t, 's>, Fault>

@@ -17,7 +17,6 @@ pub(crate) type Next<'t, 's> = (&'t Token<'s>, &'t [Token<'s>]);
 pub(crate) type Kept<'t, 's> = (Word<'t, 's>, &'t [Token<'s>]);
 
 /// Returns the next token that is not a comma, and the tokens after it.
-
 pub(crate) fn front<'t, 's>(tokens: &'t [Token<'s>]) -> Option<Next<'t, 's>>
     ensures value { MatchOption result (front tokens.entry.now ≡ None) (λ x. front tokens.entry.now ≡ Some (x.0.now, x.1.now)) }
     ensures shorter { IfSome result (λ x. length x.1.now < length tokens.entry.now) }

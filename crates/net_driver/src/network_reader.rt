@@ -19,8 +19,7 @@ use net_sets::HashKey;
 use net_tree::Model;
 use std::alloc::Global;
 
-/// Returns the network of a model with hints and a data file. (Taken apart from `network_of`, since
-/// the prover's steps do not suffice for both at once.)
+/// Returns the network of a model with its hints and a data file.
 fn network_with<'s>(
     alloc: Global,
     declared: &Model<'s>,
@@ -71,7 +70,7 @@ pub fn read_network<'s>(
     ensures ok { IfOk result (λ n. IsNetworkOf (option_copied objective.entry) model.entry.now «data».entry.now (seen_as n)) }
     ensures rejected { IfErr result (IsStop (option_copied objective.entry) model.entry.now «data».entry.now) }
 {
-    // The tokens of the model are freed before the data are read.
+    // The tokens of the model are freed before those of the data are made.
     let declared = {
         let tokens = lex_model(alloc, model)?;
         parse_model(alloc, HashKey::of_texts(model, data), &tokens)?

@@ -9,7 +9,7 @@ use Rattle.net_base.specs.declared.diagnostic.Span.{Span}
 use Rattle.net_lex.specs.declared.token.Token.{Token}
 use Rattle.net_sets.specs.declared.member.Member.TheVariants.{Number, Name}
 use Rattle.net_sets.specs.Limits.{arity_limit}
-use Rattle.net_sets.specs.Operations.{is_within}
+use Rattle.net_sets.specs.Operations.{AreLong, is_within}
 use Rattle.net_sets.specs.Sets.{Tuple, same_tuple, has}
 use Rattle.net_sets.proofs.Sames.{tuple_decides}
 use Rattle.net_tree.specs.Role.{role_of}
@@ -22,7 +22,6 @@ use Rattle.net_expr.specs.declared.value.Value.TheVariants.{One, Several, Many, 
 use Rattle.net_expr.specs.SetValues.{IsSetOf, GivesSets}
 use Rattle.net_expr.specs.Values.{value}
 use Rattle.net_expr.specs.Worlds.{World}
-use Rattle.net_expr.proofs.Alike.{AreLong}
 use Rattle.net_expr.proofs.Walked.{none_there}
 use Rattle.net_eval.specs.declared.set_phrase.SetWord.{SetWord}
 use Rattle.net_eval.specs.declared.set_phrase.SetWord.TheVariants as words

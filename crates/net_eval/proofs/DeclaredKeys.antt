@@ -1,6 +1,6 @@
 -- The keys of braces that are one or two declared sets.
-use Rattle.std.specs.Prelude.{◌≡◌, ◌<◌, ◌≤◌, ◌+◌, ◌||◌, ℕ, get_or, slice_get, take, Bool, true, false, List, [], ◌∷◌, ◌++◌, length, map, nat_eq, nat_le, nat_lt, Option, None, Some, Ok}
-use Rattle.std.specs.List.{AllByRecursion, IsDistinct}
+use Rattle.std.specs.Prelude.{◌≡◌, ◌<◌, ◌≤◌, ◌+◌, ◌||◌, ℕ, get_or, slice_get, take, Bool, true, false, List, [], ◌∷◌, ◌++◌, length, map, max, nat_eq, nat_le, nat_lt, Option, None, Some, Ok}
+use Rattle.std.specs.List.{AllByRecursion, IsDistinct, fold}
 use Rattle.std.specs.Option.{IfSome}
 use Rattle.std.proofs.Common.{refl, ap, sym, subst, ◌∙◌, arith, append_assoc, append-nil}
 use Rattle.std.proofs.lemmas.Bool.Decides.{nat_tests}
@@ -9,7 +9,7 @@ use Rattle.net_base.specs.declared.diagnostic.Span.{Span}
 use Rattle.net_base.specs.Outcomes.{Outcome, and_then, each}
 use Rattle.net_lex.specs.declared.token.Token.{Token}
 use Rattle.net_sets.specs.Limits.{arity_limit, tuples_limit}
-use Rattle.net_sets.specs.Operations.{joined_to, product, union}
+use Rattle.net_sets.specs.Operations.{joined_to, product, union, widest}
 use Rattle.net_sets.specs.Sets.{Tuple, same_tuple}
 use Rattle.net_tree.specs.declared.operator.Words.{Words as Operator}
 use Rattle.net_sets.proofs.Sames.{tuple_decides}
@@ -250,13 +250,11 @@ one_item [] x more less is = absurd (omega (arith, more))
 one_item (y ∷ []) x more less is = ap (λ z. z ∷ []) (sym is)
 one_item (y ∷ z ∷ xs) x more less is = absurd (omega (arith, less))
 
--- ---- equal lists
+-- ---- the width of a set
 
-pub one_same : (xs ys : List Tuple) (i : ℕ) (x y : Tuple) → length xs ≡ length ys → i < length xs → x ≡ get_or xs i x → y ≡ get_or ys i y → same_tuple x y ≡ true → take i xs ≡ take i ys → take (i + 1) xs ≡ take (i + 1) ys
-one_same xs ys i x y even here at_x at_y same before =
-    let first : get_or xs i [] ≡ x = get_or_default xs i [] x here ∙ sym at_x in
-    let second : get_or ys i [] ≡ y = get_or_default ys i [] y (omega arith) ∙ sym at_y in
-    take_more_same xs ys i [] here (omega arith) before (first ∙ ((tuple_decides x y).0 same ∙ sym second))
+widest_from : (n most : ℕ) (ts : List Tuple) → AllByRecursion (λ t. length t ≡ n) ts → fold (λ m t. max m (length t)) most ts ≤ max most n
+widest_from n most [] h = omega arith
+widest_from n most (t ∷ ts) h = let rest = widest_from n (max most (length t)) ts h.1 in let one = h.0 in omega arith
 
-pub all_same : (xs ys : List Tuple) (i : ℕ) → length xs ≡ length ys → length xs ≤ i → take i xs ≡ take i ys → xs ≡ ys
-all_same xs ys i even end same = sym (take_all i xs end) ∙ (same ∙ take_all i ys (omega arith))
+pub no_wider : (n : ℕ) (ts : List Tuple) → AreWide n ts → widest ts ≤ n
+no_wider n ts wide = let most = widest_from n 0 ts wide.all in omega arith

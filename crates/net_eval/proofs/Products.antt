@@ -10,10 +10,11 @@ use Rattle.std.proofs.lemmas.Slice.Eq.{bytes_eq-Decides}
 use Rattle.std.proofs.Math.Bool.{and_assoc, or_assoc, or-true, or-false, and-false, and-or_distrib_left, and-or_distrib_right}
 use Rattle.net_base.specs.declared.diagnostic.Span.{Span}
 use Rattle.net_sets.specs.Limits.{arity_limit, tuples_limit}
-use Rattle.net_sets.specs.Operations.{union, joined_to, product, widest, narrowest}
+use Rattle.net_sets.specs.Operations.{AreLong, union, joined_to, product, widest, narrowest}
 use Rattle.net_sets.specs.Sets.{Tuple, same_member, same_tuple, has, added}
 use Rattle.net_sets.proofs.Crossing.{least, length_product}
 use Rattle.net_sets.proofs.Distinct.{put_last, stays}
+use Rattle.net_sets.proofs.Parts.{same_parts}
 use Rattle.net_sets.proofs.Sames.{tuple_decides}
 use Rattle.net_tree.specs.declared.expr.Link.{Link, out-Link}
 use Rattle.net_tree.specs.declared.operator.Words.{Words as Operator}
@@ -31,7 +32,6 @@ use Rattle.net_expr.specs.Sets.{counted, cross}
 use Rattle.net_expr.specs.Values.{value}
 use Rattle.net_expr.specs.Worlds.{World}
 use Rattle.net_eval.specs.Factors.{is_cross, after_cross, factors, can_part}
-use Rattle.net_eval.specs.Supersets.{AreLong}
 
 -- ---- which tuples a product has
 
@@ -49,12 +49,6 @@ has_added ts x t = step (has ts x) refl
 pub has_union : (xs ys : List Tuple) (t : Tuple) → has (union xs ys) t ≡ (has xs t || has ys t)
 has_union xs [] t = sym (or-false (has xs t))
 has_union xs (y ∷ ys) t = has_union (added xs y) ys t ∙ ap (λ b. b || has ys t) (has_added xs y t) ∙ or_assoc (has xs t) (same_tuple t y) (has ys t)
-
--- a tuple is two joined_to each other where each is the same as its part
-same_parts : (x y t : Tuple) → same_tuple t (x ++ y) ≡ (same_tuple (take (length x) t) x && same_tuple (drop (length x) t) y)
-same_parts [] y t = refl
-same_parts (m ∷ x) y [] = refl
-same_parts (m ∷ x) y (k ∷ t) = ap (λ b. same_member k m && b) (same_parts x y t) ∙ sym (and_assoc (same_member k m) (same_tuple (take (length x) t) x) (same_tuple (drop (length x) t) y))
 
 has_after : (x : Tuple) (ys : List Tuple) (t : Tuple) → has (joined_to x ys) t ≡ (same_tuple (take (length x) t) x && has ys (drop (length x) t))
 has_after x [] t = sym (and-false (same_tuple (take (length x) t) x))

@@ -11,7 +11,8 @@ use Rattle.net_sets.specs.Limits.{arity_limit, tuples_limit}
 use Rattle.net_sets.specs.Sets.{Tuple, same_tuple, has, added}
 use Rattle.net_base.specs.declared.diagnostic.Detail.TheVariants.{Reported}
 use Rattle.net_base.specs.declared.error_code.ErrorCode.TheVariants.{Arity, TooMany, DoubleValue}
-use Rattle.net_expr.proofs.Alike.{AreLong, all_added}
+use Rattle.net_sets.specs.Operations.{AreLong}
+use Rattle.net_expr.proofs.Alike.{all_added}
 use Rattle.net_expr.proofs.KeysOnce.{union_distinct}
 use Rattle.net_expr.proofs.Walked.{none_there}
 use Rattle.net_eval.specs.declared.given.Given.{Given}

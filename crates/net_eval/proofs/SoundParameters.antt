@@ -10,7 +10,7 @@ use Rattle.net_data.specs.declared.statement.Statement.{Statement}
 use Rattle.net_data.specs.Rows.{Row as DataRow}
 use Rattle.net_sets.specs.declared.member.Member.{Member}
 use Rattle.net_sets.specs.Limits.{tuples_limit}
-use Rattle.net_sets.specs.Operations.{union}
+use Rattle.net_sets.specs.Operations.{AreLong, union}
 use Rattle.net_sets.specs.Sets.{Tuple, same_tuple, has, at_key}
 use Rattle.net_sets.proofs.Sames.{tuple_decides}
 use Rattle.net_tree.specs.Erasure.{indexing, phrase}
@@ -25,7 +25,7 @@ use Rattle.net_expr.specs.Sets.{counted}
 use Rattle.net_expr.specs.SetValues.{HasSets}
 use Rattle.net_expr.specs.Values.{index}
 use Rattle.net_expr.specs.Worlds.{Name, World, key_count}
-use Rattle.net_expr.proofs.Alike.{AreLong, AreKeys, keys_long}
+use Rattle.net_expr.proofs.Alike.{AreKeys, keys_long}
 use Rattle.net_expr.proofs.Walked.{all_as}
 use Rattle.net_meaning.proofs.Erased.{phrase_none}
 use Rattle.net_eval.specs.declared.given.NamedData.{NamedData}

@@ -1,14 +1,9 @@
 -- The supersets of a declared set: a set, or the product of two sets.
-use Rattle.std.specs.Prelude.{◌≡◌, ℕ, List, [], length}
-use Rattle.std.specs.List.{AllByRecursion}
-use Rattle.net_sets.specs.Operations.{union, product}
+use Rattle.std.specs.Prelude.{List, []}
+use Rattle.net_sets.specs.Operations.{AreLong, union, product}
 use Rattle.net_sets.specs.Sets.{Tuple}
 use Rattle.net_eval.specs.declared.superset.Extent.{Extent}
 use Rattle.net_eval.specs.declared.superset.Extent.TheVariants.{Whole, Crossed}
-
--- each tuple has n members
-abbrev pub AreLong : ℕ → List Tuple → Type 0
-AreLong n ts = AllByRecursion (λ t. length t ≡ n) ts
 
 abbrev pub tuples_within : Extent → List Tuple
 tuples_within (Whole ts) = ts

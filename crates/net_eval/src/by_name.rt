@@ -38,7 +38,7 @@ fn add<'m, 't, 's>(
     Ok(())
 }
 
-/// `set S := a b;`
+/// Adds the members of a set, as in `set S := a b;`.
 fn in_set<'t, 's>(
     names: &Names<'s>,
     set: &SetStatement<'t, 's>,
@@ -59,7 +59,7 @@ fn default_word<'t, 's>(default: &Option<DefaultValue<'t, 's>>) -> Option<Word<'
     }
 }
 
-/// `param p default 0 := a 1;`
+/// Adds the values of a parameter, as in `param p default 0 := a 1;`.
 fn in_list<'m, 't, 's>(
     names: &Names<'s>,
     list: &ListStatement<'t, 's>,
@@ -86,7 +86,7 @@ fn in_list<'m, 't, 's>(
     )
 }
 
-/// `param p : a b := c 1 2;`
+/// Adds a table of a parameter, as in `param p : a b := c 1 2;`.
 fn in_table<'m, 't, 's>(
     names: &Names<'s>,
     table: &'m TableStatement<'t, 's>,
@@ -192,7 +192,7 @@ fn set_headed<'m, 't, 's>(
     }
 }
 
-/// `param : S : p q := a 1 2;`
+/// Adds the columns of several parameters, as in `param : S : p q := a 1 2;`.
 fn in_columns<'m, 't, 's>(
     names: &Names<'s>,
     columns: &'m ColumnsStatement<'t, 's>,

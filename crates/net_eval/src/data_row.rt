@@ -17,7 +17,7 @@ use crate::given::Line;
 use net_base::{Detail, ErrorCode, Fault, Items, Language, Span};
 use net_data::Word;
 use net_expr::reported_reference;
-use net_sets::{Member, SetFault, SharedSet, Table, Tuple, TupleSet};
+use net_sets::{KeyList, Member, SetFault, Table, Tuple};
 use std::alloc::{AllocError, Global};
 use std::marker::Model;
 
@@ -39,7 +39,7 @@ impl<'s> Model for Values<'s> {
 
 impl<'s> Values<'s> {
     /// Creates an empty table over an index set. Fails only if memory runs out.
-    pub(crate) fn over(alloc: Global, index: SharedSet<'s>) -> Result<Values<'s>, AllocError>
+    pub(crate) fn over(alloc: Global, index: KeyList<'s>) -> Result<Values<'s>, AllocError>
         ensures { IfOk result (λ v. v ≡ ([], [])) }
     {
         Ok(Values {
@@ -66,7 +66,7 @@ pub(crate) struct NamedParameter<'a, 't, 's> {
     /// The number of members of a key, or `None` without indexing.
     pub(crate) keys: Option<u8>,
     /// The index set.
-    pub(crate) index: &'a TupleSet<'s>,
+    pub(crate) index: &'a KeyList<'s>,
 }
 
 /// Builds an error at a row; the parameter with the key is its detail. Fails only if memory runs

@@ -1,18 +1,18 @@
 //! The keys of braces that are one or two declared sets, as `{LINKS}` and `{CITIES, PRODUCTS}`,
 //! without a row for each key.
 
-ghost use Rattle.std.specs.Prelude.{◌≡◌, IsTrue, length, IfOk};
+ghost use Rattle.std.specs.Prelude.{◌≡◌, ◌≤◌, IsTrue, length, IfOk};
 ghost use Rattle.std.specs.List.{AllByRecursion};
 ghost use Rattle.std.specs.Option.{IfSome};
 ghost use Rattle.net_lex.specs.declared.token.Token.{Token};
 ghost use Rattle.net_tree.specs.declared.operator.Words.{Words};
 ghost use Rattle.net_tree.specs.Tree.{filled, link, none, absent};
 ghost use Rattle.net_tree.specs.View.{braces_of, tree};
-ghost use Rattle.net_sets.specs.Sets.{same_tuple};
-ghost use Rattle.net_eval.specs.DeclaredKeys.{HasKeys, IsProduct, NamesSet};
+ghost use Rattle.net_sets.specs.Limits.{arity_limit};
+ghost use Rattle.net_eval.specs.DeclaredKeys.{AreWide, HasKeys, IsProduct, NamesSet};
 
-use net_expr::{Env, Scope, evaluate, set_of_braces};
-use net_sets::{ARITY_LIMIT, Cow, SharedSet, Tuple, TupleSet, cross, widest};
+use net_expr::{Env, Scope, evaluate};
+use net_sets::{ARITY_LIMIT, Cow, KeyList, TUPLES_LIMIT, TupleSet};
 use net_tree::{Braces, Expr};
 use std::alloc::{AllocError, Global};
 
@@ -20,7 +20,7 @@ use std::alloc::{AllocError, Global};
 #[derive(Drop)]
 pub(crate) struct KeySet<'s> {
     pub(crate) count: u8,
-    pub(crate) index: SharedSet<'s>,
+    pub(crate) index: KeyList<'s>,
 }
 
 /// Returns the set that an expression names, if it is no more than a name.
@@ -52,32 +52,10 @@ fn are_wide(set: &TupleSet<'_>, count: usize) -> bool
     true
 }
 
-fn is_same<'s>(tuple: &Tuple<'s>, other: &Tuple<'s>) -> bool
-    ensures { result ≡ same_tuple tuple.now other.now }
-{
-    *tuple == *other
-}
-
-/// Returns whether two lists of tuples are equal.
-fn are_same<'s>(tuples: &[Tuple<'s>], others: &[Tuple<'s>]) -> bool
-    ensures { IsTrue result → tuples.now ≡ others.now }
-{
-    if tuples.len() != others.len() {
-        return false;
-    }
-    for place in 0..tuples.len() {
-        if !is_same(&tuples[place], &others[place]) {
-            return false;
-        }
-    }
-    true
-}
-
-/// Returns the keys of `{LINKS}`. `braces` gives a hint for the set.
+/// Returns the keys of `{LINKS}`.
 fn one_set<'s>(
     alloc: Global,
     env: &Env<'_, 's>,
-    braces: &Braces<'s>,
     item: &Expr<'s>,
 ) -> Result<Option<KeySet<'s>>, AllocError>
     ensures { (o c : Token) → IfOk result (λ found. IfSome found (λ k. HasKeys env.now (filled o (tree item.now) none absent c) k.count k.index)) }
@@ -85,20 +63,14 @@ fn one_set<'s>(
     let Some(named) = set_named(alloc, env, item) else {
         return Ok(None);
     };
-    let Some(declared) = set_of_braces(env, braces) else {
+    let Some(width) = width_of(named.get()) else {
         return Ok(None);
     };
-    let set = named.get();
-    let Some(first) = set.get(0) else {
-        return Ok(None);
-    };
-    let count = first.len();
-    if !are_wide(set, count) || !are_same(set.as_slice(), declared.set().as_slice()) {
-        return Ok(None);
-    }
+    let index = KeyList::of_set(named.into_shared(alloc)?);
+    let _few = index.len();
     Ok(Some(KeySet {
-        count: count as u8,
-        index: declared.shared()?,
+        count: width as u8,
+        index,
     }))
 }
 
@@ -118,40 +90,51 @@ fn two_sets<'s>(
     let Some(second) = set_named(alloc, env, second) else {
         return Ok(None);
     };
-    product_of(alloc, first.get(), second.get())
+    product_of(alloc, first, second)
+}
+
+/// Returns the number of members of each tuple of a set; `None` if it is not the same for all.
+fn width_of(set: &TupleSet<'_>) -> Option<usize>
+    ensures value { IfSome result (λ width. AreWide width set.now) }
+    ensures fits { IfSome result (λ width. width ≤ arity_limit) }
+{
+    match set.get(0) {
+        None => None,
+        Some(first) => {
+            let width = first.len();
+            if are_wide(set, width) {
+                Some(width)
+            } else {
+                None
+            }
+        }
+    }
 }
 
 /// Returns the keys that consist of a tuple of each set.
 fn product_of<'s>(
     alloc: Global,
-    first: &TupleSet<'s>,
-    second: &TupleSet<'s>,
+    first: Cow<'_, 's>,
+    second: Cow<'_, 's>,
 ) -> Result<Option<KeySet<'s>>, AllocError>
-    ensures { IfOk result (λ found. IfSome found (λ k. IsProduct first.now second.now k.count k.index)) }
+    ensures { IfOk result (λ found. IfSome found (λ k. IsProduct first.entry second.entry k.count k.index)) }
 {
-    let Some(one) = first.get(0) else {
+    let Some(width) = width_of(first.get()) else {
         return Ok(None);
     };
-    let Some(other) = second.get(0) else {
+    let Some(more) = width_of(second.get()) else {
         return Ok(None);
     };
-    let (width, more) = (one.len(), other.len());
-    if !are_wide(first, width) || !are_wide(second, more) || ARITY_LIMIT < width + more {
+    if ARITY_LIMIT < width + more || TUPLES_LIMIT < first.get().len() * second.get().len() {
         return Ok(None);
     }
-    if ARITY_LIMIT < widest(first) + widest(second) {
-        return Ok(None);
-    }
-    match cross(alloc, first, second) {
-        Ok(set) => {
-            let _few = set.len();
-            Ok(Some(KeySet {
-                count: (width + more) as u8,
-                index: SharedSet::new(alloc, set)?,
-            }))
-        }
-        Err(_) => Ok(None),
-    }
+    let (first, second) = (first.into_shared(alloc)?, second.into_shared(alloc)?);
+    let index = KeyList::of_product(width, first, second);
+    let _few = index.len();
+    Ok(Some(KeySet {
+        count: (width + more) as u8,
+        index,
+    }))
 }
 
 /// Returns the keys of braces that are one or two declared sets, which are not empty, without
@@ -169,7 +152,7 @@ pub(crate) fn keys_of_sets<'s>(
         Braces::Filled(_, series, condition, _) => match condition {
             Some(_) => Ok(None),
             None => match series.more.as_slice() {
-                [] => one_set(alloc, env, braces, &series.first),
+                [] => one_set(alloc, env, &series.first),
                 [link] => two_sets(alloc, env, &series.first, &link.operand),
                 _ => Ok(None),
             },

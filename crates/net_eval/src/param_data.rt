@@ -164,7 +164,7 @@ pub(crate) fn data_of<'t, 's>(
         let here = NamedParameter {
             word: &named.word,
             keys: parameter.keys,
-            index: parameter.index.get(),
+            index: parameter.index,
         };
         taken(alloc, widths, &here, &named.given, is_doubled, values)?;
         default = either(default, &named.default);

@@ -25,7 +25,7 @@ use net_base::{Boxed, Detail, ErrorCode, Fault, Language, Span};
 use net_data::Word;
 use net_expr::{Entry, Env, Row, indexing_of};
 use net_lex::Token;
-use net_sets::{KeyValues, Member, SharedSet, Table};
+use net_sets::{KeyList, KeyValues, Member, Table};
 use net_tree::{Begins, Braces, Expr, Phrase, PhraseWord, Role, phrase_value};
 use std::alloc::{AllocError, Global};
 
@@ -96,7 +96,7 @@ pub(crate) struct Parameter<'a, 's> {
     /// The number of members of a key, or `None` without indexing.
     pub(crate) keys: Option<u8>,
     /// The index set.
-    pub(crate) index: &'a SharedSet<'s>,
+    pub(crate) index: &'a KeyList<'s>,
     pub(crate) phrases: &'a [Phrase<'s>],
 }
 

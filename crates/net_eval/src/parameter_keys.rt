@@ -9,7 +9,7 @@ ghost use Rattle.net_base.specs.Outcomes.{Refines};
 
 use net_base::{ErrorCode, Fault, Span};
 use net_expr::{Env, Row, key_set, set_of_braces};
-use net_sets::{HashKey, IndexedSet, SetFault, SharedSet, Tuple};
+use net_sets::{HashKey, IndexedSet, KeyList, SetFault, SharedSet, Tuple};
 use net_tree::{Braces, braces_span};
 use std::alloc::Global;
 
@@ -44,16 +44,11 @@ fn are_tuples<'s>(rows: &[Row<'s>], tuples: &[Tuple<'s>]) -> bool
 }
 
 /// Returns the index set as a new set.
-fn listed<'s>(
-    alloc: Global,
-    key: HashKey,
-    at: Span,
-    rows: &[Row<'s>],
-) -> Result<SharedSet<'s>, Fault>
+fn listed<'s>(alloc: Global, key: HashKey, at: Span, rows: &[Row<'s>]) -> Result<KeyList<'s>, Fault>
     ensures { Refines (bound.index_list at rows.now) result }
 {
     match key_set(alloc, key, rows) {
-        Ok(all) => Ok(SharedSet::new(alloc, all)?),
+        Ok(all) => Ok(KeyList::of_set(SharedSet::new(alloc, all)?)),
         Err(SetFault::OutOfMemory) => Err(Fault::OutOfMemory),
         Err(SetFault::TooMany) => Err(Fault::of_model(ErrorCode::TooMany, at)),
     }
@@ -74,14 +69,14 @@ pub(crate) fn index_list<'s>(
     at: Span,
     braces: &Option<Braces<'s>>,
     rows: &[Row<'s>],
-) -> Result<SharedSet<'s>, Fault>
+) -> Result<KeyList<'s>, Fault>
     ensures { Refines (bound.index_list at rows.now) result }
 {
     match source_of(env, braces) {
         None => listed(alloc, env.key(), at, rows),
         Some(set) => {
             if are_tuples(rows, set.set().as_slice()) {
-                Ok(set.shared()?)
+                Ok(KeyList::of_set(set.shared()?))
             } else {
                 listed(alloc, env.key(), at, rows)
             }

@@ -1,13 +1,11 @@
 //! The supersets of a declared set.
 
-ghost use Rattle.std.specs.Prelude.{◌≡◌, ◌≤◌, [], length};
-ghost use Rattle.net_sets.specs.Limits.{arity_limit};
-ghost use Rattle.net_sets.specs.Operations.{union, product, is_within};
+ghost use Rattle.std.specs.Prelude.{◌≡◌, []};
+ghost use Rattle.net_sets.specs.Operations.{AreLong, union, product, is_within};
 ghost use Rattle.net_sets.specs.Sets.{has};
-ghost use Rattle.net_eval.specs.Supersets.{AreLong};
 
 use crate::boxed_values::StoredSet;
-use net_sets::{Member, Tuple, TupleSet};
+use net_sets::{Tuple, TupleSet};
 use std::marker::Model;
 
 /// The representation of the tuples of a superset.
@@ -37,18 +35,6 @@ impl<'w, 's> Model for Superset<'w, 's> {
     ghost invariant = { λ f. IsParted f.extent };
 }
 
-/// Returns the tuple of these members.
-fn tuple_of<'s>(members: &[Member<'s>]) -> Tuple<'s>
-    requires { length members.now ≤ arity_limit }
-    ensures { result ≡ members.now }
-{
-    let mut tuple = Tuple::new();
-    for member in members {
-        tuple.add(member.copied());
-    }
-    tuple
-}
-
 /// Returns whether the product of two sets contains a tuple: the first set its beginning, the
 /// second the rest.
 fn is_crossed<'s>(
@@ -62,7 +48,7 @@ fn is_crossed<'s>(
 {
     let members = tuple.as_slice();
     let (front, back) = members.split_at(width.min(members.len()));
-    first.contains(&tuple_of(front)) && second.contains(&tuple_of(back))
+    first.contains(&Tuple::of_members(front)) && second.contains(&Tuple::of_members(back))
 }
 
 impl<'w, 's> Superset<'w, 's> {

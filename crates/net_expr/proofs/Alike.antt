@@ -5,7 +5,7 @@ use Rattle.std.proofs.Common.{refl, ap, sym, ◌∙◌, subst}
 use Rattle.std.proofs.lemmas.Bool.{eqb-true}
 use Rattle.net_base.specs.declared.diagnostic.Span.{Span}
 use Rattle.net_sets.specs.Limits.{tuples_limit}
-use Rattle.net_sets.specs.Operations.{union}
+use Rattle.net_sets.specs.Operations.{AreLong, union}
 use Rattle.net_sets.specs.Sets.{Tuple, has, added}
 use Rattle.net_tree.specs.Spans.{span_between}
 use Rattle.net_tree.specs.Tree.{Links, Braces, empty, filled, none, link}
@@ -22,9 +22,6 @@ use Rattle.net_expr.specs.Widths.{width_by_form}
 use Rattle.net_expr.specs.Worlds.{World, Scope}
 use Rattle.net_expr.proofs.Parting.{then_ok, is_ok}
 use Rattle.net_expr.proofs.Walked.{all_join}
-
-abbrev pub AreLong : ℕ → List Tuple → Type 0
-AreLong n ts = AllByRecursion (λ t. length t ≡ n) ts
 
 -- the keys have the width that is said; `{}` has none
 abbrev pub AreKeys : Option ℕ → List Row → Type 0

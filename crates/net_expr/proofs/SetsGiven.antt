@@ -13,7 +13,7 @@ use Rattle.net_lex.specs.declared.token.Token.{Token}
 use Rattle.net_sets.specs.declared.member.Member.{Member}
 use Rattle.net_sets.specs.declared.member.Member.TheVariants as member
 use Rattle.net_sets.specs.Limits.{arity_limit, tuples_limit}
-use Rattle.net_sets.specs.Operations.{union, widest, joined_to, product, difference, intersection, symmetric_difference}
+use Rattle.net_sets.specs.Operations.{AreLong, difference, intersection, joined_to, product, symmetric_difference, union, widest}
 use Rattle.net_sets.specs.Ranges.{range_size, singles, numbers_by}
 use Rattle.net_sets.specs.Sets.{Tuple, same_tuple, has}
 use Rattle.net_tree.specs.declared.role.Role.{Role}
@@ -44,7 +44,7 @@ use Rattle.net_expr.specs.Sets.{counted, shared, set_of}
 use Rattle.net_expr.specs.SetValues.{IsSetOf, HasSets, KeepsSets}
 use Rattle.net_expr.specs.Values.{number_value, token_value, subscripted, tupled, with_sign, either, value, otherwise, values, chained, index}
 use Rattle.net_expr.specs.Worlds.{Name, World, Scope, key_count, bound, entry_of, value_at, entry_at, name_at}
-use Rattle.net_expr.proofs.Alike.{AreLong, AreKeys, all_union, keys_long}
+use Rattle.net_expr.proofs.Alike.{AreKeys, all_union, keys_long}
 use Rattle.net_expr.proofs.KeysOnce.{union_distinct}
 use Rattle.net_expr.proofs.Walked.{none_there, all_join, all_as}
 

@@ -15,7 +15,7 @@ use crate::value::Value;
 use crate::world::{Entry, Env};
 use net_base::{Detail, ErrorCode, Excerpt, Fault, Language, Span};
 use net_lex::Token;
-use net_sets::{Cow, KeyValues, Member, Text, Tuple, TupleSet};
+use net_sets::{Cow, KeyList, Member, Text, Tuple};
 use net_tree::{Leaf, Role, role_of};
 use std::alloc::Global;
 
@@ -36,7 +36,7 @@ fn no_value<'w, 's>(
     at: Span,
     name: &Excerpt<'s>,
     keys: Option<u8>,
-    index: &TupleSet<'s>,
+    index: &KeyList<'s>,
     key: &Tuple<'s>,
 ) -> Result<Value<'w, 's>, Fault>
     ensures { Refines (worlds.missing at (worlds.reference name.now keys key.now) (has index.now key.now)) result }
@@ -78,7 +78,7 @@ fn entry_at<'w, 's>(
             if key.len() == key_count(*keys) {
                 match values.get(&key) {
                     Some(member) => Ok(Value::One(member.copied())),
-                    None => no_value(alloc, at, name, *keys, index.get(), &key),
+                    None => no_value(alloc, at, name, *keys, index, &key),
                 }
             } else {
                 Err(Fault::of_model(ErrorCode::Arity, at))

@@ -268,7 +268,7 @@ fn matches_tuple_value<'s>(
     }
 }
 
-/// Returns the same for an expression that is not a tuple by its form.
+/// Returns where a tuple matches the value of an expression that is not a tuple by its form.
 pub(crate) fn matches_as_tuple<'s>(
     alloc: Global,
     whole: &Expr<'_>,

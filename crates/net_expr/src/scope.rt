@@ -91,6 +91,8 @@ impl<'s> Scope<'s> {
     {
         let Scope { bindings } = self;
         let mut bindings = bindings.into_vec();
+        // Keys are many, and each has few dummies: no room is kept for more.
+        bindings.reserve_exact(1)?;
         bindings.push(Binding { name, member })?;
         Ok(Scope {
             bindings: Items::new(bindings),

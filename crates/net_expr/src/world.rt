@@ -5,7 +5,7 @@ ghost use Rattle.std.specs.Option.{option_copied};
 ghost use Rattle.net_expr.specs.Worlds.{entry_of};
 
 use net_base::Excerpt;
-use net_sets::{HashKey, IndexedSet, KeyValues, NameMap, SharedSet};
+use net_sets::{HashKey, IndexedSet, KeyList, KeyValues, NameMap};
 use net_tree::{Braces, Expr, sides_of};
 use std::alloc::{AllocError, Global};
 use std::marker::Model;
@@ -17,7 +17,7 @@ pub enum Entry<'s> {
     Set(u8, IndexedSet<'s>),
     /// A parameter: the number of its subscripts (`None` if it is not indexed), its index set, and
     /// its values.
-    Parameter(Option<u8>, SharedSet<'s>, KeyValues<'s>),
+    Parameter(Option<u8>, KeyList<'s>, KeyValues<'s>),
 }
 
 /// The declared sets and parameters, in order.

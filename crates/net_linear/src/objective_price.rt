@@ -52,7 +52,7 @@ fn priced(
 }
 
 /// Adds a cost coefficient of an arc, as an `obj` phrase gives one; several coefficients of an arc
-/// are added. Returns `TooLarge` at the phrase's expression if the absolute value of the arc's
+/// are added. Returns `ValueTooLarge` at the phrase's expression if the absolute value of the arc's
 /// coefficient exceeds 1,000,000,000,000.
 pub fn with_price(
     alloc: Global,

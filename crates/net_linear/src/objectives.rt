@@ -309,7 +309,7 @@ fn form_of<'s>(
 /// replaced by its value.
 ///
 /// Errors: `NotLinear` at a part with an arc in a position that does not allow one, before its
-/// operands are evaluated; `TooLarge` at the first result of arithmetic with a constant or
+/// operands are evaluated; `ValueTooLarge` at the first result of arithmetic with a constant or
 /// coefficient of absolute value above 1,000,000,000,000 (a `sum` is checked as a total);
 /// `OutsideSet` at a reference to an arc with a key that does not exist; `KindMismatch` at the
 /// expression if it is not numeric.

@@ -8,8 +8,10 @@ pub mod Hashes
 pub mod EqualHashes
 pub mod TupleSets
 pub mod Cow
+pub mod Positions
 pub mod Tables
 pub mod Operations
+pub mod KeyLists
 pub mod Components
 pub mod Filters
 pub mod Made

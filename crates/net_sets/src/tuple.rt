@@ -2,6 +2,7 @@
 
 ghost use Rattle.std.specs.Prelude.{◌≡◌, ◌<◌, ◌+◌, ◌≤◌, ◌↔◌, IsTrue, [], ◌∷◌, ◌++◌, length};
 ghost use Rattle.net_sets.specs.Limits.{arity_limit};
+ghost use Rattle.net_sets.specs.Sets.{same_tuple};
 
 use crate::member::Member;
 use arrayvec::ArrayVec;
@@ -10,6 +11,21 @@ use std::marker::Model;
 
 /// The maximum number of members of a tuple.
 pub const ARITY_LIMIT: usize = 4;
+
+/// Returns whether two lists of members are equal.
+fn are_same<'s>(members: &[Member<'s>], others: &[Member<'s>]) -> bool
+    ensures { result ≡ same_tuple members.now others.now }
+{
+    if members.len() != others.len() {
+        return false;
+    }
+    for place in 0..members.len() {
+        if members[place] != others[place] {
+            return false;
+        }
+    }
+    true
+}
 
 /// Up to four members, which contracts see as a list.
 #[derive(PartialEq, Eq, Drop)]
@@ -47,6 +63,18 @@ impl<'s> Tuple<'s> {
         tuple
     }
 
+    /// Creates the tuple of these members.
+    pub fn of_members(members: &[Member<'s>]) -> Tuple<'s>
+        requires { length members.now ≤ arity_limit }
+        ensures { result ≡ members.now }
+    {
+        let mut tuple = Tuple::new();
+        for member in members {
+            tuple.add(member.copied());
+        }
+        tuple
+    }
+
     /// Returns the number of members, from 0 to 4.
     pub fn len(&self) -> usize
         ensures value { result ≡ length self.now }
@@ -78,6 +106,13 @@ impl<'s> Tuple<'s> {
         self.members.as_slice()
     }
 
+    /// Returns whether the tuple has these members.
+    pub(crate) fn consists_of(&self, members: &[Member<'s>]) -> bool
+        ensures { result ≡ same_tuple members.now self.now }
+    {
+        are_same(members, self.as_slice())
+    }
+
     /// Returns the members of this tuple followed by those of another.
     pub fn beside(&self, other: &Tuple<'s>) -> Tuple<'s>
         requires { length self.now + length other.now ≤ arity_limit }
@@ -94,12 +129,7 @@ impl<'s> Tuple<'s> {
     pub fn copied(&self) -> Tuple<'s>
         ensures { result ≡ self.now }
     {
-        let mut copy = Tuple::new();
-        let members = self.as_slice();
-        for member in members {
-            copy.add(member.copied());
-        }
-        copy
+        Tuple::of_members(self.as_slice())
     }
 }
 

@@ -4,12 +4,13 @@ ghost use Rattle.std.specs.Prelude.{◌≡◌, ◌<◌, ◌≤◌, ◌++◌, ◌
 ghost use Rattle.std.specs.Option.{option_copied};
 ghost use Rattle.std.specs.List.{IsDistinct, items_where_true};
 ghost use Rattle.net_sets.specs.TupleSets.{is_at};
-ghost use Rattle.net_sets.specs.Limits.{tuples_limit};
+ghost use Rattle.net_sets.specs.Limits.{arity_limit, tuples_limit};
 ghost use Rattle.net_sets.specs.Made.{IsMade, with_set};
 ghost use Rattle.net_sets.specs.Operations.{union};
 ghost use Rattle.net_sets.specs.Sets.{has, added, place_of, same_tuple};
 
 use crate::key::HashKey;
+use crate::member::Member;
 use crate::tuple::Tuple;
 use indexmap::IndexSet;
 use std::alloc::{AllocError, AllocFailed, Global};
@@ -36,13 +37,13 @@ impl<'s> Model for TupleSet<'s> {
     ghost invariant = { λ s. IsTupleSet s.tuples.keys };
 }
 
-/// Returns whether `tuple` is at `position`.
-fn is_at<'s>(tuples: &[Tuple<'s>], position: usize, tuple: &Tuple<'s>) -> bool
-    ensures { result ≡ is_at tuples.now position tuple.now }
+/// Returns whether the tuple of these members is at `position`.
+fn is_at<'s>(tuples: &[Tuple<'s>], position: usize, members: &[Member<'s>]) -> bool
+    ensures { result ≡ is_at tuples.now position members.now }
 {
     match tuples.get(position) {
         None => false,
-        Some(found) => *tuple == *found,
+        Some(found) => found.consists_of(members),
     }
 }
 
@@ -103,10 +104,22 @@ impl<'s> TupleSet<'s> {
     pub fn position_with_hint(&self, near: usize, tuple: &Tuple<'s>) -> Option<usize>
         ensures { result ≡ place_of self.now tuple.now }
     {
-        if is_at(self.tuples.as_slice(), near, tuple) {
+        if is_at(self.tuples.as_slice(), near, tuple.as_slice()) {
             Some(near)
         } else {
             self.position(tuple)
+        }
+    }
+
+    /// Returns the position of the tuple of these members, which is probably `near`.
+    pub(crate) fn position_of(&self, near: usize, members: &[Member<'s>]) -> Option<usize>
+        requires { length members.now ≤ arity_limit }
+        ensures { result ≡ place_of self.now members.now }
+    {
+        if is_at(self.tuples.as_slice(), near, members) {
+            Some(near)
+        } else {
+            self.position(&Tuple::of_members(members))
         }
     }
 

@@ -1,7 +1,7 @@
 use Rattle.std.proofs.Common.{refl, ap, sym, ◌∙◌, subst, arith}
 use Rattle.std.proofs.lemmas.Grind.{common_steps}
 use Rattle.net_sets.specs.Operations.{widest}
-use Rattle.net_eval.specs.Supersets.{AreLong}
+use Rattle.net_sets.specs.Operations.{AreLong}
 use Rattle.net_eval.proofs.Products.{tested, are_long, crossed_by}
 use Rattle.net_eval.proofs.crossing.product.Goals as goal
 
