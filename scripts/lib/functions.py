@@ -31,7 +31,8 @@ class Function:
     def __init__(self, file, text, header):
         self.file, self.name, self.margin = file, header[3], header[1]
         above = max(text.rfind("\n\n", 0, header.start()) + 2, text.rfind("{\n", 0, header.start()) + 2)
-        end = re.compile(rf"\n{self.margin}(?:\{{\}}|\}})\n").search(text, header.start())
+        # The body ends at a lone brace, or is `{}` at the end of the signature's line.
+        end = re.compile(r".*\{\}\n").match(text, header.start()) or re.compile(rf"\n{self.margin}(?:\{{\}}|\}})\n").search(text, header.start())
         self.start, self.end = above, end.end() if end else above
         self.text = text[self.start:self.end]
         self.impl = list(IMPL.finditer(text, 0, header.start()))[-1] if self.margin and IMPL.search(text, 0, header.start()) else None
