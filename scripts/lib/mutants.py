@@ -158,18 +158,49 @@ def unread(output, files):
     return next((line for line in output.split("\n") if COMPILER.match(line) or RT.unread(line, files)), None)
 
 
+def applied(crate, mutants, copy):
+    """Applies the mutants that fit together to this copy of the crate; returns each of them with the functions that it changes."""
+    prover.copy_of(crate.folder, copy)
+    fitting, taken = {}, set()
+    for mutant in mutants:
+        functions = mutant.apply(copy, taken)
+        if functions:
+            fitting[mutant] = functions
+            taken |= functions
+            leave_out(copy, functions, mutant.lost)
+    return fitting
+
+
+def misread(crate, mutants):
+    """Returns the first error of the compiler or prover about files that it cannot read with these mutants, or None. Nothing is proved."""
+    with tempfile.TemporaryDirectory(prefix="mutants-") as copy:
+        fitting = applied(crate, mutants, copy)
+        _, _, output = prover.check(crate, copy, "--only", "")
+        return unread(output, {file for mutant in fitting for file, _, _ in mutant.changes})
+
+
+def spoiled(fitting, output):
+    """Returns whether a check of these mutants says nothing, because one of them cannot be read."""
+    return unread(output, {file for mutant in fitting for file, _, _ in mutant.changes}) is not None and "\nfn " not in output
+
+
+def misread_alone(crate, mutants):
+    """Returns the mutants that cannot be read, each with a complaint: by halves, until each is found alone."""
+    said = misread(crate, mutants)
+    if said is None:
+        return {}
+    if len(mutants) == 1:
+        return {mutants[0]: f"the prover cannot read the changed text: {said[:200]}"}
+    half = len(mutants) // 2
+    return misread_alone(crate, mutants[:half]) | misread_alone(crate, mutants[half:])
+
+
 def tried(crate, mutants, stubs):
     """Applies the mutants that fit together to one copy and checks the functions that they change, over stubs for what these call or
     over all of it. Returns each fitting mutant with its functions, the output of the check, and its processor seconds."""
     with tempfile.TemporaryDirectory(prefix="mutants-") as copy:
-        prover.copy_of(crate.folder, copy)
-        fitting, taken = {}, set()
-        for mutant in mutants:
-            functions = mutant.apply(copy, taken)
-            if functions:
-                fitting[mutant] = functions
-                taken |= functions
-                leave_out(copy, functions, mutant.lost)
+        fitting = applied(crate, mutants, copy)
+        taken = set().union(*fitting.values())
         if stubs:
             stub_all_but(copy, taken, crate.name)
             without_main(copy, taken)
@@ -227,7 +258,8 @@ def has_lost(mutant, functions, output):
 def try_crate(crate, mutants):
     """Tries the mutants of a crate; returns a complaint for each (or None), the number of checks, and processor seconds. Mutants that
     do not fit together, or that remove goals with answers, are tried in further checks; those that are neither rejected nor proved
-    over stubs are tried again over everything they call, then without the rejected ones, and finally alone."""
+    over stubs are tried again over everything they call, then without the rejected ones, and finally alone. One that cannot be read,
+    so that the check of all says nothing, is left out."""
     verdicts, checks, total = {}, 0, 0
     for mutant in filter(Mutant.is_of_definitions, mutants):
         verdicts[mutant], seconds = try_definitions(crate, mutant)
@@ -237,6 +269,13 @@ def try_crate(crate, mutants):
     while waiting:
         together, stubs = waiting.pop()
         fitting, output, seconds = tried(crate, together, stubs)
+        spoilers = misread_alone(crate, together) if stubs and len(together) > 1 and spoiled(fitting, output) else {}
+        if spoilers:
+            verdicts.update(spoilers)
+            checks, total = checks + 1, total + seconds
+            together = [mutant for mutant in together if mutant not in spoilers]
+            waiting += [(together, True)] if together else []
+            continue
         verdicts.update({mutant: judge(mutant, fitting[mutant], output) if mutant in fitting else "again" for mutant in together})
         left = [mutant for mutant in together if verdicts[mutant] not in (None, STILL_PROVED)]
         checks, total = checks + 1, total + seconds
