@@ -25,7 +25,6 @@ use Rattle.net_expr.specs.Values.{value, token_value}
 use Rattle.net_expr.specs.Worlds.{World, Scope, reference}
 use Rattle.net_eval.specs.declared.given.NamedData.{NamedData}
 use Rattle.net_eval.specs.BoundParameters.{PlacedValues, Source, source, source_in, with_key, fit_kind, is_number, takes_texts, cell_of, keys_with, fit_value, fit_row, fit_values, data_of, placed, valued_by, values, with_data, bound_parameter}
-use Rattle.net_eval.specs.DeclaredKeys.{HasKeys}
 use Rattle.net_eval.specs.FromData.{is_numeral, compares, are_constant, Fits, Answers}
 use Rattle.net_eval.specs.Restrictions.{relation, related, holding, restricted, restricted_by, restricted_in}
 use Rattle.net_eval.specs.Rows.{KeyedParameter, Table, Taken}
@@ -151,20 +150,6 @@ from_data w ws p ms rows taken c becomes default said fits =
     ∙ ap (λ x. and_then (values w p x rows taken) finish) (ap (λ a. source a None (phrase_value is_default p.phrases)) becomes ∙ ap (λ b. source None None b) default)
     ∙ ap (λ o. and_then (and_then o (valued_by w p (None, None) rows taken)) finish) (no_source w p.name.span rows taken.0)
     ∙ ap (λ o. and_then (and_then o (λ u. Ok taken.0)) finish) (rows_fit w p (placed p (None, None) taken taken.0) rows c fits)
-
--- ---- over the keys of declared sets
-
-abbrev at_keys : Token → List Phrase → ℕ → List Tuple → KeyedParameter
-at_keys name ps count index = record { name = name; keys = Some count; index = index; phrases = ps }
-
-pub bound_over : (w : World) (ws : List ℕ) (name : Token) (b : Braces) (ps : List Phrase) (ms : List NamedData) (count : ℕ) (index : List Tuple) (h : HasKeys w b count index)
-    → bound_parameter w ws name (Some b) ps ms ≡ with_data w ws (at_keys name ps count index) ms h.indexing.rows
-bound_over w ws name b ps ms count index h =
-    rw (h.indexed, h.listed (braces_span b))
-    (ap (λ k. with_data w ws (record { name = name; keys = k; index = index; phrases = ps }) ms h.indexing.rows) h.counted)
-
-pub answers_moved : (wanted other : Outcome Entry) (r : Result (Option Entry) Fault) → wanted ≡ other → Answers other r → Answers wanted r
-answers_moved wanted other r e h = subst (λ o. Answers o r) (sym e) h
 
 -- ---- row by row
 

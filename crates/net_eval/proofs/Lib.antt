@@ -1,7 +1,6 @@
 pub mod Cells
 pub mod Items
 pub mod Lists
-pub mod Listed
 pub mod Fresh
 pub mod Turns
 mod Examples
@@ -32,6 +31,5 @@ mod SetItems
 mod SoundSets
 mod SoundGivenSets
 pub mod SoundWorlds
-pub mod DeclaredKeys
 pub mod FromData
 pub mod SameEverywhere

@@ -100,14 +100,14 @@ given_by w (Some x) b m h = record { expr = x; is = refl; numeral = h }
 given_by w None (Some x) m h = record { expr = x; is = refl; numeral = h }
 given_by w None None m h = absurd h
 
-pub given_everywhere : (w : World) (ws : List ℕ) (p : KeyedParameter) (rows : List Row) (m : Member) → are_constant p.phrases ≡ true → IsSame w p.phrases m → Fits w p m → ((at : Span) → index_list at rows ≡ Ok p.index)
+pub given_everywhere : (w : World) (ws : List ℕ) (p : KeyedParameter) (rows : List Row) (m : Member) → are_constant p.phrases ≡ true → IsSame w p.phrases m → Fits w p m → (at : Span) → index_list at rows ≡ Ok p.index
     → with_data w ws p [] rows ≡ Ok (Parameter p.keys p.index (same_for m p.index))
-given_everywhere w ws p rows m c h fits listed =
+given_everywhere w ws p rows m c h fits at listed =
     let none : Taken = ([], []) in
     let keys : List Tuple = union [] (keys_of rows) in
     let finish : Table → Outcome Entry = λ t. Ok (Parameter p.keys p.index t) in
     let from = given_by w (phrase_value is_becomes p.phrases) (phrase_value is_default p.phrases) m h in
-    let index = listed_as p.name.span rows p.index (listed p.name.span) in
+    let index = listed_as at rows p.index listed in
     ap (λ s. and_then (values w p s rows none) finish) from.is
     ∙ ap (λ o. and_then (and_then o (valued_by w p (by from.expr) rows none)) finish) (keys_given w p.name.span from.expr m from.numeral rows [] index.few)
     ∙ ap (λ o. and_then (and_then o (λ u. Ok (same_for m keys))) finish) (rows_fit w p (placed p (by from.expr) none (same_for m keys)) rows c (all_same (Fits w p) m fits keys))

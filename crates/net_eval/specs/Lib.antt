@@ -17,4 +17,3 @@ pub mod DataFor
 pub mod DataValues
 pub mod Soundness
 pub mod FromData
-pub mod DeclaredKeys

@@ -6,7 +6,7 @@ ghost use Rattle.net_eval.specs.Binding as binding;
 ghost use Rattle.net_base.specs.Outcomes.{Refines, each};
 
 use net_base::{Detail, ErrorCode, Fault, Language};
-use net_expr::{Env, Row, World, holds, indexing_of};
+use net_expr::{Env, RowList, World, holds, indexing_of};
 use net_tree::{Braces, Decl, Expr, span_of};
 use std::alloc::Global;
 
@@ -15,12 +15,13 @@ fn hold<'s>(
     alloc: Global,
     env: &Env<'_, 's>,
     condition: &Expr<'s>,
-    rows: &[Row<'s>],
+    rows: &RowList<'s>,
 ) -> Result<(), Fault>
     ensures { Refines (binding.hold env.now (tree condition.now) rows.now) result }
 {
-    for row in rows {
-        if !holds(alloc, env, &row.scope, condition)? {
+    for place in 0..rows.len() {
+        let row = rows.row(alloc, place)?;
+        if !holds(alloc, env, &row.get().scope, condition)? {
             return Err(Fault::of_text(
                 Language::Model,
                 ErrorCode::CheckFailed,
@@ -41,7 +42,7 @@ fn checked<'s>(
     ensures { Refines (binding.checked env.now (indexing_of braces.now) (tree condition.now)) result }
 {
     let indexing = indexing_of(alloc, env, braces)?;
-    hold(alloc, env, condition, indexing.rows.as_slice())
+    hold(alloc, env, condition, &indexing.rows)
 }
 
 fn check_one<'s>(

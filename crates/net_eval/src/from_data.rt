@@ -215,7 +215,7 @@ pub(crate) fn same_everywhere<'s>(
     earlier: &BindingEnv<'_, 's>,
     parameter: &Parameter<'_, 's>,
 ) -> Result<Option<Boxed<Entry<'s>>>, Fault>
-    ensures { (rows : List Place) → ((at : Position) → bound.index_list at rows ≡ Ok parameter.now.index.now) → from_data.Answers (bound.with_data
+    ensures { (rows : List Place) (at : Position) → bound.index_list at rows ≡ Ok parameter.now.index.now → from_data.Answers (bound.with_data
         earlier.now.env earlier.now.widths.now (parameter_of parameter.now) [] rows) result }
 {
     let env = &earlier.env;

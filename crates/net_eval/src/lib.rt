@@ -11,7 +11,6 @@ mod check;
 mod crossing;
 mod data_item;
 mod data_row;
-mod declared_keys;
 mod declared_names;
 mod eval_laws;
 mod from_data;

@@ -14,8 +14,7 @@ ghost use Rattle.net_base.specs.Outcomes.{Refines, Updates};
 use crate::bind_world::BindingEnv;
 use crate::boxed_values::boxed;
 use crate::data_row::Values;
-use crate::declared_keys::keys_of_sets;
-use crate::from_data::{are_constant, from_data_alone, has_source, same_everywhere};
+use crate::from_data::{from_data_alone, has_source, same_everywhere};
 use crate::given::NamedData;
 use crate::param_data::data_of;
 use crate::parameter_keys::{index_list, span_or};
@@ -23,7 +22,7 @@ use crate::restriction::{KeyedValue, restricted};
 use crate::value_source::{source_at, source_of, source_text, with_keys};
 use net_base::{Boxed, Detail, ErrorCode, Fault, Language, Span};
 use net_data::Word;
-use net_expr::{Entry, Env, Row, indexing_of};
+use net_expr::{Entry, Env, Row, RowList, indexing_of};
 use net_lex::Token;
 use net_sets::{KeyList, KeyValues, Member, Table};
 use net_tree::{Begins, Braces, Expr, Phrase, PhraseWord, Role, phrase_value};
@@ -149,15 +148,14 @@ fn fit_values<'s>(
     env: &Env<'_, 's>,
     parameter: &Parameter<'_, 's>,
     values: &PlacedValues<'_, 's>,
-    rows: &[Row<'s>],
+    rows: &RowList<'s>,
 ) -> Result<(), Fault>
     requires { values.now.takes_texts ≡ bound.takes_texts (map phrase_of parameter.now.phrases.now) }
     ensures { Refines (bound.fit_values env.now (parameter_of parameter.now) (values_of values.now) rows.now) result }
 {
-    let mut near: usize = 0;
-    for row in rows {
-        fit_value(alloc, env, parameter, values, near, row)?;
-        near = near.wrapping_add(1);
+    for place in 0..rows.len() {
+        let row = rows.row(alloc, place)?;
+        fit_value(alloc, env, parameter, values, place, row.get())?;
     }
     Ok(())
 }
@@ -169,7 +167,7 @@ fn with_values<'s>(
     env: &Env<'_, 's>,
     parameter: &Parameter<'_, 's>,
     default: Option<&Word<'_, 's>>,
-    rows: &[Row<'s>],
+    rows: &RowList<'s>,
     values: &mut Values<'s>,
 ) -> Result<(), Fault>
     ensures { Updates (bound.values env.now (parameter_of parameter.now) (bound.source_in (parameter_of parameter.now) (option_copied default.entry))
@@ -207,7 +205,7 @@ fn filled<'s>(
     earlier: &BindingEnv<'_, 's>,
     parameter: &Parameter<'_, 's>,
     named_data: &[NamedData<'_, '_, 's>],
-    rows: &[Row<'s>],
+    rows: &RowList<'s>,
     values: &mut Values<'s>,
 ) -> Result<(), Fault>
     requires { values.old ≡ ([], []) }
@@ -232,7 +230,7 @@ fn with_data<'s>(
     earlier: &BindingEnv<'_, 's>,
     parameter: &Parameter<'_, 's>,
     named_data: &[NamedData<'_, '_, 's>],
-    rows: &[Row<'s>],
+    rows: &RowList<'s>,
 ) -> Result<Boxed<Entry<'s>>, Fault>
     ensures { Refines (bound.with_data earlier.now.env earlier.now.widths.now (parameter_of parameter.now) named_data.now rows.now) result }
 {
@@ -242,15 +240,15 @@ fn with_data<'s>(
     Ok(parameter_entry(alloc, parameter, values)?)
 }
 
-/// Evaluates a parameter over these keys without a row for each of them, if its values all come from
-/// the data or one numeral gives them all. Returns `None` if it is another parameter.
+/// Evaluates a parameter without a look at each key, if its values all come from the data or one
+/// numeral gives them all. Returns `None` if it is another parameter.
 fn bound_over_keys<'s>(
     alloc: Global,
     earlier: &BindingEnv<'_, 's>,
     parameter: &Parameter<'_, 's>,
     named_data: &[NamedData<'_, '_, 's>],
 ) -> Result<Option<Boxed<Entry<'s>>>, Fault>
-    ensures { (rows : List Place) → ((at : Position) → bound.index_list at rows ≡ Ok parameter.now.index.now) → Answers (bound.with_data
+    ensures { (rows : List Place) (at : Position) → bound.index_list at rows ≡ Ok parameter.now.index.now → Answers (bound.with_data
         earlier.now.env earlier.now.widths.now (parameter_of parameter.now) named_data.now rows) result }
 {
     if !has_source(parameter.phrases, named_data) {
@@ -260,37 +258,6 @@ fn bound_over_keys<'s>(
         [] => same_everywhere(alloc, earlier, parameter),
         _ => Ok(None),
     }
-}
-
-/// Evaluates a parameter over declared sets without a row for each key, if that is possible. Returns
-/// `None` if it is another parameter.
-fn bound_from_data<'s>(
-    alloc: Global,
-    earlier: &BindingEnv<'_, 's>,
-    name: &Token<'s>,
-    braces: &Option<Braces<'s>>,
-    phrases: &[Phrase<'s>],
-    named_data: &[NamedData<'_, '_, 's>],
-) -> Result<Option<Boxed<Entry<'s>>>, Fault>
-    ensures { Answers (bound.bound_parameter earlier.now.env earlier.now.widths.now name.now (indexing_of braces.now) (map phrase_of phrases.now)
-        named_data.now) result }
-{
-    let Some(braces) = braces else {
-        return Ok(None);
-    };
-    if !are_constant(phrases) {
-        return Ok(None);
-    }
-    let Some(keys) = keys_of_sets(alloc, &earlier.env, braces)? else {
-        return Ok(None);
-    };
-    let parameter = Parameter {
-        name,
-        keys: Some(keys.count),
-        index: &keys.index,
-        phrases,
-    };
-    bound_over_keys(alloc, earlier, &parameter, named_data)
 }
 
 /// Evaluates a declared parameter: its index set, then its data, then the missing values, then the
@@ -306,18 +273,17 @@ pub(crate) fn bound_parameter<'s>(
     ensures { Refines (bound.bound_parameter earlier.now.env earlier.now.widths.now name.now (indexing_of braces.now) (map phrase_of phrases.now)
         named_data.now) result }
 {
-    if let Some(entry) = bound_from_data(alloc, earlier, name, braces, phrases, named_data)? {
-        return Ok(entry);
-    }
-    let env = &earlier.env;
-    let indexing = indexing_of(alloc, env, braces)?;
-    let rows = indexing.rows.as_slice();
-    let index = index_list(alloc, env, span_or(name.span, braces), braces, rows)?;
+    let indexing = indexing_of(alloc, &earlier.env, braces)?;
+    let rows = &indexing.rows;
+    let index = index_list(alloc, earlier.env.key(), span_or(name.span, braces), rows)?;
     let parameter = Parameter {
         name,
         keys: indexing.count,
         index: &index,
         phrases,
     };
-    with_data(alloc, earlier, &parameter, named_data, rows)
+    match bound_over_keys(alloc, earlier, &parameter, named_data)? {
+        Some(entry) => Ok(entry),
+        None => with_data(alloc, earlier, &parameter, named_data, rows),
+    }
 }

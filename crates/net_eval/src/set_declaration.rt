@@ -25,7 +25,7 @@ use net_base::{Boxed, ErrorCode, Fault, Items, Language};
 use net_data::{Members, Word};
 use net_expr::Entry;
 use net_lex::Token;
-use net_sets::{HashKey, IndexedSet, SetFault, TupleSet};
+use net_sets::{HashKey, IndexedSet, SetFault, TUPLES_LIMIT, TupleSet};
 use net_tree::Phrase;
 use std::alloc::{AllocError, Global};
 
@@ -150,7 +150,7 @@ fn members_of<'s>(
 ) -> Result<Boxed<TupleSet<'s>>, Fault>
     ensures { Refines (each (set_data.with_member word.now) rows.now []) result }
 {
-    let mut set = TupleSet::new(alloc, key);
+    let mut set = TupleSet::with_room(alloc, key, rows.len().min(TUPLES_LIMIT))?;
     for row in rows {
         with_member(alloc, word, row.cells(), &mut set)?;
     }

@@ -10,7 +10,7 @@ use crate::cell::member_in;
 use crate::data_row::with_value;
 use net_base::{Fault, Language, Span};
 use net_data::Word;
-use net_expr::{Env, Row, Scope, member};
+use net_expr::{Env, Row, RowList, Scope, member};
 use net_sets::{Member, Table};
 use net_tree::{Expr, span_of};
 use std::alloc::Global;
@@ -121,7 +121,7 @@ pub(crate) fn with_keys<'s>(
     alloc: Global,
     env: &Env<'_, 's>,
     source: &Source<'_, '_, 's>,
-    rows: &[Row<'s>],
+    rows: &RowList<'s>,
     table: &mut Table<'s>,
 ) -> Result<(), Fault>
     ensures { Updates (each (bound.with_key env.now source.now.declared_at (
@@ -130,10 +130,9 @@ pub(crate) fn with_keys<'s>(
           source.now.word,
     )) rows.now table.old) result table.new }
 {
-    let mut near: usize = 0;
-    for row in rows {
-        with_key(alloc, env, source, near, row, table)?;
-        near = near.wrapping_add(1);
+    for place in 0..rows.len() {
+        let row = rows.row(alloc, place)?;
+        with_key(alloc, env, source, place, row.get(), table)?;
     }
     Ok(())
 }

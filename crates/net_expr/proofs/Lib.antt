@@ -6,6 +6,8 @@ pub mod Passing
 pub mod Subscripting
 pub mod Framing
 pub mod Scoping
+pub mod RowLists
+pub mod DeclaredRows
 pub mod Parting
 pub mod Distinct
 pub mod Walked

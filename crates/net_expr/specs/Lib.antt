@@ -9,8 +9,10 @@ pub mod Selecting
 pub mod Subscripts
 pub mod Widths
 pub mod Rows
+pub mod RowLists
 pub mod Values
 pub mod Walks
 pub mod Frames
 pub mod SetValues
 pub mod Indexings
+pub mod DeclaredRows

@@ -105,7 +105,7 @@ pub(crate) fn links_len(links: &[Link<'_>]) -> usize
 /// Returns whether a set of this dimension matches the left side of an item, by its form.
 /// Dimensions above four are equivalent.
 #[tactic(auto, using(net_tree::proofs::Views::views))]
-fn fits_needed(dimension: Option<u8>, left: &Expr<'_>) -> bool
+pub(crate) fn fits_needed(dimension: Option<u8>, left: &Expr<'_>) -> bool
     ensures { result ≡ items.fits_needed dimension (items.needed (tree left.now)) }
 {
     match left {

@@ -6,12 +6,14 @@ ghost use Rattle.net_expr.specs.Indexings as indexings;
 ghost use Rattle.net_expr.specs.Sets.{counted};
 ghost use Rattle.net_base.specs.Outcomes.{Refines};
 
+use crate::declared_rows::declared_rows;
 use crate::expression_calls::index_of;
 use crate::row::{Keys, Row};
+use crate::row_list::RowList;
 use crate::scope::Scope;
 use crate::world::Env;
 use net_base::{Fault, Items};
-use net_sets::Tuple;
+use net_sets::{HashKey, Tuple};
 use net_tree::Braces;
 use std::alloc::{AllocError, Global};
 
@@ -20,7 +22,7 @@ use std::alloc::{AllocError, Global};
 #[derive(Drop)]
 pub struct Indexing<'s> {
     pub count: Option<u8>,
-    pub rows: Items<Row<'s>>,
+    pub rows: RowList<'s>,
 }
 
 /// Returns the single empty key of a declaration without indexing. Fails only if memory runs out.
@@ -34,7 +36,7 @@ fn alone<'s>(alloc: Global) -> Result<Indexing<'s>, AllocError>
     })?;
     Ok(Indexing {
         count: None,
-        rows: Items::new(rows),
+        rows: RowList::of_rows(Items::new(rows)),
     })
 }
 
@@ -48,14 +50,14 @@ fn counted(width: Option<u8>) -> u8
     }
 }
 
-fn by_keys(keys: Keys<'_>) -> Indexing<'_>
-    ensures { result ≡ indexings.by_keys keys.entry }
+fn by_keys<'s>(alloc: Global, key: HashKey, keys: Keys<'s>) -> Result<Indexing<'s>, AllocError>
+    ensures { IfOk result (λ i. i ≡ indexings.by_keys keys.entry) }
 {
     let Keys { width, rows } = keys;
-    Indexing {
+    Ok(Indexing {
         count: Some(counted(width)),
-        rows,
-    }
+        rows: RowList::compact(alloc, key, rows)?,
+    })
 }
 
 /// Returns the keys of a declaration with this indexing.
@@ -72,9 +74,12 @@ pub fn indexing_of<'s>(
             Ok(indexing)
         }
         Some(braces) => {
+            if let Some(indexing) = declared_rows(alloc, env, braces)? {
+                return Ok(indexing);
+            }
             let scope = Scope::new(alloc);
             let keys = index_of(alloc, env, &scope, braces)?;
-            Ok(by_keys(keys))
+            Ok(by_keys(alloc, env.key(), keys)?)
         }
     }
 }

@@ -3,6 +3,7 @@
 #![tactic(auto)]
 
 mod arithmetic;
+mod declared_rows;
 mod eval;
 mod expression_calls;
 mod fitting;
@@ -15,6 +16,7 @@ mod operators;
 mod range_operator;
 mod reference;
 mod row;
+mod row_list;
 mod scope;
 mod selecting;
 mod set_operator;
@@ -35,7 +37,8 @@ pub use net_sets::{Member, Text, Tuple};
 pub use operators::truth;
 pub use reference::{push_member, push_reference, reported_reference};
 pub use row::{Keys, Row, key_set};
+pub use row_list::{RowList, RowRef};
 pub use scope::{Binding, Scope};
 pub use subscripts::key_of;
 pub use value::{Value, reject_tree};
-pub use world::{Entry, Env, World, set_of_braces};
+pub use world::{Entry, Env, World};

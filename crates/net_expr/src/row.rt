@@ -54,7 +54,7 @@ pub struct Keys<'s> {
 pub fn key_set<'s>(alloc: Global, key: HashKey, rows: &[Row<'s>]) -> Result<TupleSet<'s>, SetFault>
     ensures { IsMade (union [] (keys_of rows.now)) result }
 {
-    let mut keys = TupleSet::new(alloc, key);
+    let mut keys = TupleSet::with_room(alloc, key, rows.len().min(TUPLES_LIMIT))?;
     for row in rows {
         keys.add(row.key.copied())?;
     }

@@ -1,8 +1,9 @@
 //! The dummies in scope and their members.
 
-ghost use Rattle.std.specs.Prelude.{◌≡◌, ◌∷◌, ◌++◌, [], IfOk};
+ghost use Rattle.std.specs.Prelude.{◌≡◌, ◌∷◌, ◌++◌, [], IfOk, IsTrue};
 ghost use Rattle.std.specs.Option.{option_copied};
 ghost use Rattle.std.specs.Str.{bytes_eq};
+ghost use Rattle.net_expr.specs.RowLists.{bound_to};
 ghost use Rattle.net_expr.specs.Worlds.{bound, with_dummy};
 
 use net_base::{Excerpt, Items};
@@ -41,6 +42,54 @@ impl<'s> Scope<'s> {
         Scope {
             bindings: Items::new(Vec::new(alloc)),
         }
+    }
+
+    /// Creates a scope of these dummies, bound to members in turn; the last is the innermost. Fails only if memory runs out.
+    pub(crate) fn of_dummies(
+        alloc: Global,
+        names: &[Excerpt<'s>],
+        members: &[Member<'s>],
+    ) -> Result<Scope<'s>, AllocError>
+        ensures { IfOk result (λ s. s ≡ bound_to names.now members.now []) }
+    {
+        let count = names.len().min(members.len());
+        let mut bindings = Vec::new(alloc);
+        bindings.reserve_exact(count)?;
+        for place in 0..count {
+            bindings.push(Binding {
+                name: names[place].copied(),
+                member: members[place].copied(),
+            })?;
+        }
+        Ok(Scope {
+            bindings: Items::new(bindings),
+        })
+    }
+
+    /// Returns the names of the dummies, the innermost last. Fails only if memory runs out.
+    pub(crate) fn names(&self, alloc: Global) -> Result<Vec<Excerpt<'s>>, AllocError> {
+        let mut names = Vec::new(alloc);
+        for binding in self.bindings.as_slice() {
+            names.push(binding.name.copied())?;
+        }
+        Ok(names)
+    }
+
+    /// Returns whether dummies with these names are bound to these members in turn, and no others.
+    pub(crate) fn binds(&self, names: &[Excerpt<'s>], members: &[Member<'s>]) -> bool
+        ensures { IsTrue result → self.now ≡ bound_to names.now members.now [] }
+    {
+        let bindings = self.bindings.as_slice();
+        if bindings.len() != names.len().min(members.len()) {
+            return false;
+        }
+        for place in 0..bindings.len() {
+            let binding = &bindings[place];
+            if !is_same_name(&binding.name, &names[place]) || binding.member != members[place] {
+                return false;
+            }
+        }
+        true
     }
 
     /// Returns the member of the innermost dummy with this name.

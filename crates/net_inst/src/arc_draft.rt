@@ -17,7 +17,7 @@ use crate::network_names::{NameList, reject_name};
 use crate::node_name::Group;
 use crate::price::add_phrases;
 use net_base::{ErrorCode, Fault};
-use net_expr::{Env, Indexing, Row, Scope, indexing_of};
+use net_expr::{Env, Indexing, Row, RowList, Scope, indexing_of};
 use net_lex::Token;
 use net_linear::{Affine, NumberedNames, objective};
 use net_normal::{ARC_LIMIT, InstArc};
@@ -96,13 +96,14 @@ impl<'s> ArcDraft<'s> {
         visible: &ArcEnv<'_, 's>,
         text: &ArcText<'_, 's>,
         count: &Option<u8>,
-        rows: &[Row<'s>],
+        rows: &RowList<'s>,
     ) -> Result<(), Fault>
         ensures value { Updates (found.arcs_at (arc_env_of visible.now) (arc_text_of text.now) count.now rows.now self.old) result self.new }
         ensures few { OnOk result (length rows.now ≤ length self.new.arcs) }
     {
-        for row in rows {
-            self.add_arc(alloc, visible, text, count, row)?;
+        for place in 0..rows.len() {
+            let row = rows.row(alloc, place)?;
+            self.add_arc(alloc, visible, text, count, row.get())?;
         }
         Ok(())
     }
@@ -132,8 +133,7 @@ impl<'s> ArcDraft<'s> {
         ensures { Updates (found.arcs_by (arc_env_of visible.now) (arc_text_of text.now) self.old indexing.now) result self.new }
     {
         let first = self.len() as u32;
-        let rows = indexing.rows.as_slice();
-        self.add_rows(alloc, visible, text, &indexing.count, rows)?;
+        self.add_rows(alloc, visible, text, &indexing.count, &indexing.rows)?;
         self.declare_name(alloc, text.name, first, indexing)?;
         Ok(())
     }

@@ -9,7 +9,7 @@ ghost use Rattle.net_base.specs.declared.diagnostic.Fault.TheVariants.{At};
 ghost use Rattle.net_base.specs.declared.diagnostic.Language.TheVariants.{Model as InModel};
 
 use net_base::{Detail, ErrorCode, Excerpt, Fault, Language, Span};
-use net_expr::Row;
+use net_expr::RowList;
 use net_lex::Token;
 use net_sets::Tuple;
 use std::alloc::{AllocError, Global};
@@ -80,26 +80,12 @@ impl<'s> NameList<'s> {
     }
 
     /// Adds a declaration: its name, the number of its subscripts (`None` without indexing), and
-    /// its keys. Fails only if memory runs out.
-    pub fn with(
-        self,
-        name: &Excerpt<'s>,
-        count: Option<u8>,
-        rows: &[Row<'s>],
-    ) -> Result<NameList<'s>, AllocError>
-        ensures { IfOk result (λ l. l ≡ lists.listed_with self.entry name.now count rows.now) }
-    {
-        let mut list = self;
-        list.declare(name, count, rows)?;
-        Ok(list)
-    }
-
-    /// Adds a declaration. Fails only if memory runs out.
+    /// its rows. Fails only if memory runs out.
     pub(crate) fn declare(
         &mut self,
         name: &Excerpt<'s>,
         count: Option<u8>,
-        rows: &[Row<'s>],
+        rows: &RowList<'s>,
     ) -> Result<(), AllocError>
         ensures { OnOk result (self.new ≡ lists.listed_with self.old name.now count rows.now) }
     {
@@ -115,14 +101,14 @@ impl<'s> NameList<'s> {
 fn push_keys<'s>(
     keys: &mut Vec<Key<'s>>,
     declaration: usize,
-    rows: &[Row<'s>],
+    rows: &RowList<'s>,
 ) -> Result<(), AllocError>
     ensures { OnOk result (keys.new.items ≡ keys.old.items ++ map (lists.keyed declaration) rows.now) }
 {
-    for row in rows {
+    for place in 0..rows.len() {
         keys.push(Key {
             declaration,
-            tuple: row.key.copied(),
+            tuple: rows.key(place),
         })?;
     }
     Ok(())

@@ -12,7 +12,7 @@ ghost use Rattle.net_base.specs.Outcomes.{RefinesAs, Updates};
 use crate::network_names::{NameList, reject, reject_name};
 use crate::node_name::Group;
 use net_base::{ErrorCode, Excerpt, Fault};
-use net_expr::{Env, Indexing, Row, indexing_of, reported_reference};
+use net_expr::{Env, Indexing, Row, RowList, indexing_of, reported_reference};
 use net_lex::Token;
 use net_linear::{KeyNumbers, node_range};
 use net_normal::{NODE_LIMIT, NodeRange};
@@ -99,7 +99,7 @@ fn push_ranges<'s>(
     env: &Env<'_, 's>,
     text: &NodeText<'_, 's>,
     count: &Option<u8>,
-    rows: &[Row<'s>],
+    rows: &RowList<'s>,
     ranges: &mut Vec<NodeRange>,
 ) -> Result<(), Fault>
     requires { length ranges.now.items ≤ node_limit }
@@ -108,8 +108,9 @@ fn push_ranges<'s>(
     ensures count { OnOk result (length rows.now ≤ node_limit) }
     ensures few { length ranges.new.items ≤ node_limit }
 {
-    for row in rows {
-        push_range(alloc, env, text, count, row, ranges)?;
+    for place in 0..rows.len() {
+        let row = rows.row(alloc, place)?;
+        push_range(alloc, env, text, count, row.get(), ranges)?;
     }
     Ok(())
 }
@@ -158,7 +159,7 @@ impl<'s> NodeDraft<'s> {
         ensures { Updates (nodes.nodes_by env.now text.now.name.now (condition_of text.now.condition.now) self.old indexing.now) result self.new }
     {
         let first = self.next_number();
-        let rows = indexing.rows.as_slice();
+        let rows = &indexing.rows;
         push_ranges(alloc, env, text, &indexing.count, rows, &mut self.ranges)?;
         self.group.declare(alloc, &text.name.text, first, indexing)?;
         Ok(())

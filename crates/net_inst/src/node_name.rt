@@ -21,10 +21,10 @@ ghost use Rattle.net_expr.specs.Rows.{keys_of};
 use crate::network_names::{NameList, reject};
 use crate::node::NodeDraft;
 use net_base::{Detail, ErrorCode, Excerpt, Fault, Span};
-use net_expr::{Env, Indexing, Row, Scope, key_count, key_set, reject_tree, reported_reference};
+use net_expr::{Env, Indexing, RowList, Scope, key_count, reject_tree, reported_reference};
 use net_lex::Token;
 use net_linear::{KeyNumbers, NumberedNames, key_of};
-use net_sets::{HashKey, SetFault, Tuple, TupleSet};
+use net_sets::{HashKey, KeyList, SetFault, Tuple};
 use net_tree::{Expr, Link, span_of};
 use std::alloc::{AllocError, Global};
 
@@ -180,12 +180,12 @@ pub(crate) struct Group<'s> {
     pub(crate) numbers: NumberedNames<'s>,
 }
 
-/// Returns the set of the keys of rows. Fails only if memory runs out.
-fn keys_in<'s>(alloc: Global, key: HashKey, rows: &[Row<'s>]) -> Result<TupleSet<'s>, AllocError>
+/// Returns the distinct keys of rows. Fails only if memory runs out.
+fn keys_in<'s>(alloc: Global, key: HashKey, rows: &RowList<'s>) -> Result<KeyList<'s>, AllocError>
     requires { length rows.now ≤ tuples_limit }
     ensures { IfOk result (λ keys. keys ≡ union [] (keys_of rows.now)) }
 {
-    match key_set(alloc, key, rows) {
+    match rows.keys(alloc, key) {
         Ok(keys) => Ok(keys),
         Err(SetFault::OutOfMemory) => Err(AllocError),
         Err(SetFault::TooMany) => unreachable!(),
@@ -209,7 +209,7 @@ fn declare_number<'s>(
     let keys = KeyNumbers {
         keys: indexing.count,
         first,
-        index: keys_in(alloc, numbers.key(), indexing.rows.as_slice())?,
+        index: keys_in(alloc, numbers.key(), &indexing.rows)?,
     };
     numbers.add(name, keys)
 }
@@ -236,8 +236,7 @@ impl<'s> Group<'s> {
         requires { length indexing.now.rows ≤ tuples_limit }
         ensures { OnOk result (self.new ≡ groups.group_with self.old name.now first indexing.now) }
     {
-        self.list
-            .declare(name, indexing.count, indexing.rows.as_slice())?;
+        self.list.declare(name, indexing.count, &indexing.rows)?;
         declare_number(alloc, name, first, indexing, &mut self.numbers)
     }
 }

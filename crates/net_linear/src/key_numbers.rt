@@ -9,7 +9,7 @@ ghost use Rattle.net_base.specs.Outcomes.{Refines};
 
 use net_base::{ErrorCode, Excerpt, Fault, Language, Span};
 use net_expr::{key_count, reported_reference};
-use net_sets::{HashKey, NameMap, Tuple, TupleSet};
+use net_sets::{HashKey, KeyList, NameMap, Tuple};
 use std::alloc::{AllocError, Global};
 use std::marker::Model;
 
@@ -21,7 +21,7 @@ pub struct KeyNumbers<'s> {
     /// The number of the first one; the others follow it in key order.
     pub first: u32,
     /// The keys; a declaration without indexing has one empty key.
-    pub index: TupleSet<'s>,
+    pub index: KeyList<'s>,
 }
 
 /// Declarations of arcs, or nodes, in order, each with its name.

@@ -125,6 +125,8 @@ fn push_name_in_line(
     ensures ok { OnOk result (string_bytes text.new ≡ string_bytes text.old ++ lines.in_line (name_in list.now.declarations key.now)) }
 {
     let mut name = String::new(alloc);
+    // Most names are shorter. A string that grows would be copied for each name.
+    name.reserve(64)?;
     push_name(alloc, &mut name, list, key)?;
     push_in_line(text, name.as_str())
 }

@@ -1,9 +1,9 @@
-//! The distinct keys of a parameter.
+//! The distinct keys of a declaration.
 
 ghost use Rattle.std.specs.Prelude.{◌≡◌, ◌≤◌, ◌+◌, ◌*◌, [], get_or, length, slice_get, IfOk};
 ghost use Rattle.std.specs.List.{IsDistinct};
 ghost use Rattle.net_sets.specs.Limits.{arity_limit, tuples_limit};
-ghost use Rattle.net_sets.specs.Operations.{AreLong, product, union, widest};
+ghost use Rattle.net_sets.specs.Operations.{AreLong, product, widest};
 ghost use Rattle.net_sets.specs.Sets.{has, place_of, same_tuple};
 
 use crate::indexed_set::SharedSet;
@@ -105,7 +105,7 @@ impl<'s> KeyList<'s> {
         requires long { AreLong width first }
         requires short { widest first + widest second ≤ arity_limit }
         requires few { length first * length second ≤ tuples_limit }
-        ensures { result ≡ union [] (product first.entry second.entry) }
+        ensures { result ≡ product first.entry second.entry }
     {
         let _distinct = first.get().as_slice();
         let _second_distinct = second.get().as_slice();
@@ -146,11 +146,18 @@ impl<'s> KeyList<'s> {
         }
     }
 
+    /// Returns the position of a tuple, counted from 0.
+    pub fn position(&self, tuple: &Tuple<'s>) -> Option<usize>
+        ensures { result ≡ place_of self.now tuple.now }
+    {
+        self.position_with_hint(self.len(), tuple)
+    }
+
     /// Returns whether a tuple is among them.
     pub fn contains(&self, tuple: &Tuple<'s>) -> bool
         ensures { result ≡ has self.now tuple.now }
     {
-        self.position_with_hint(self.len(), tuple).is_some()
+        self.position(tuple).is_some()
     }
 
     /// Returns the tuple at a position, counted from 0; the empty tuple if there is none.
@@ -164,7 +171,7 @@ impl<'s> KeyList<'s> {
     }
 
     /// Returns the tuple at a position, counted from 0.
-    fn get(&self, position: usize) -> Option<Tuple<'s>>
+    pub fn get(&self, position: usize) -> Option<Tuple<'s>>
         ensures { result ≡ slice_get self.now position }
     {
         match &self.store {

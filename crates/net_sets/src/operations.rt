@@ -186,7 +186,7 @@ pub fn cross<'s>(
     if first.len() * second.len() > TUPLES_LIMIT {
         return Err(SetFault::TooMany);
     }
-    let mut all = TupleSet::new(alloc, first.key());
+    let mut all = TupleSet::with_room(alloc, first.key(), first.len() * second.len())?;
     for tuple in first.as_slice() {
         add_beside(&mut all, tuple, second)?;
     }

@@ -77,7 +77,7 @@ impl Range {
         if size > TUPLES_LIMIT as u64 {
             return Err(SetFault::TooMany);
         }
-        let mut all = TupleSet::new(alloc, key);
+        let mut all = TupleSet::with_room(alloc, key, size as usize)?;
         for place in 0..size {
             all.push(Tuple::single(Member::Number(self.at(place))))?;
         }

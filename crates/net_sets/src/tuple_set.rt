@@ -58,6 +58,16 @@ impl<'s> TupleSet<'s> {
         }
     }
 
+    /// Creates an empty set with memory for `count` tuples; a set that grows is copied again and again. The key has to be that of
+    /// the run.
+    pub fn with_room(alloc: Global, key: HashKey, count: usize) -> Result<TupleSet<'s>, AllocError>
+        ensures { IfOk result (λ set. set ≡ []) }
+    {
+        let mut tuples = IndexSet::with_hasher(alloc, key);
+        tuples.reserve_exact(count)?;
+        Ok(TupleSet { tuples })
+    }
+
     /// Creates the set of `tuples`, each at its first position. Returns `TooMany` if the set would exceed its limit.
     pub fn from_tuples(
         alloc: Global,
@@ -214,7 +224,7 @@ impl<'s> TupleSet<'s> {
     pub fn copied(&self, alloc: Global) -> Result<TupleSet<'s>, AllocError>
         ensures { IfOk result (λ copy. copy ≡ self.now) }
     {
-        let mut copy = TupleSet::new(alloc, self.key());
+        let mut copy = TupleSet::with_room(alloc, self.key(), self.len())?;
         for tuple in self.as_slice() {
             copy.push(tuple.copied())?;
         }

@@ -3,5 +3,5 @@ use Rattle.net_tree.specs.View.{tree}
 use Rattle.net_eval.specs.Binding.{hold}
 use Rattle.net_eval.proofs.check.hold.Given as goal
 
-abbrev pub invariant-loop-row : goal.invariant-loop-row
-invariant-loop-row l = hold l.fn.env (tree l.fn.condition) (drop l.row-index l.fn.rows) ≡ hold l.fn.env (tree l.fn.condition) l.fn.rows
+abbrev pub invariant-loop-place : goal.invariant-loop-place
+invariant-loop-place l = hold l.fn.env (tree l.fn.condition) (drop l.place l.fn.rows) ≡ hold l.fn.env (tree l.fn.condition) l.fn.rows

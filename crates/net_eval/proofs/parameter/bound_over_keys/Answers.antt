@@ -6,9 +6,9 @@ use Rattle.net_eval.proofs.SameEverywhere.{nothing}
 use Rattle.net_eval.proofs.parameter.bound_over_keys.Goals as goal
 
 pub returns-in-empty : goal.returns-in-empty
-returns-in-empty c = λ rows listed.
+returns-in-empty c = λ rows at listed.
     subst (λ ms. Answers (with_data c.args.earlier.now.env c.args.earlier.now.widths.now (parameter_of c.args.parameter.now) ms rows) c.same_everywhere.result)
-    (sym (nothing c.args.named_data.now c.in-empty.len_below)) (c.same_everywhere.ensures rows listed)
+    (sym (nothing c.args.named_data.now c.in-empty.len_below)) (c.same_everywhere.ensures rows at listed)
 
 pub returns-then-not-has_source : goal.returns-then-not-has_source
-returns-then-not-has_source c = λ rows listed. c.from_data_alone.ensures rows
+returns-then-not-has_source c = λ rows at listed. c.from_data_alone.ensures rows

@@ -2,11 +2,8 @@ use Rattle.std.proofs.Common.{arith}
 use Rattle.std.proofs.lemmas.Grind.{common_steps}
 use Rattle.net_eval.proofs.parameter.fit_values.Goals as goal
 
-pub loop-row-preserved : goal.loop-row-preserved
-loop-row-preserved c = grind (arith, common_steps)
-
-pub offset_bounds-rows-row-index : goal.offset_bounds-rows-row-index
-offset_bounds-rows-row-index c = grind (arith, common_steps)
+pub loop-place-preserved : goal.loop-place-preserved
+loop-place-preserved c = grind (arith, common_steps)
 
 pub returns-in_err-fit_value : goal.returns-in_err-fit_value
 returns-in_err-fit_value c = grind (arith, common_steps)

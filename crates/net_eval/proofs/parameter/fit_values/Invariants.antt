@@ -3,5 +3,5 @@ use Rattle.net_eval.specs.BoundParameters.{fit_values}
 use Rattle.net_eval.specs.ParameterViews.{parameter_of, values_of}
 use Rattle.net_eval.proofs.parameter.fit_values.Given as goal
 
-abbrev pub invariant-loop-row : goal.invariant-loop-row
-invariant-loop-row l = fit_values l.fn.env (parameter_of l.fn.parameter) (values_of l.fn.values) (drop l.row-index l.fn.rows) ≡ fit_values l.fn.env (parameter_of l.fn.parameter) (values_of l.fn.values) l.fn.rows
+abbrev pub invariant-loop-place : goal.invariant-loop-place
+invariant-loop-place l = fit_values l.fn.env (parameter_of l.fn.parameter) (values_of l.fn.values) (drop l.place l.fn.rows) ≡ fit_values l.fn.env (parameter_of l.fn.parameter) (values_of l.fn.values) l.fn.rows

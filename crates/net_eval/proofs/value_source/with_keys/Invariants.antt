@@ -5,5 +5,5 @@ use Rattle.net_base.specs.Outcomes.{each}
 use Rattle.net_eval.specs.BoundParameters.{with_key}
 use Rattle.net_eval.proofs.value_source.with_keys.Given as goal
 
-abbrev pub invariant-loop-row : goal.invariant-loop-row
-invariant-loop-row l = each (with_key l.fn.env l.fn.source.declared_at (option_map tree (option_copied l.fn.source.expr), option_copied l.fn.source.word)) (drop l.row-index l.fn.rows) l.table ≡ each (with_key l.fn.env l.fn.source.declared_at (option_map tree (option_copied l.fn.source.expr), option_copied l.fn.source.word)) l.fn.rows l.fn.table
+abbrev pub invariant-loop-place : goal.invariant-loop-place
+invariant-loop-place l = each (with_key l.fn.env l.fn.source.declared_at (option_map tree (option_copied l.fn.source.expr), option_copied l.fn.source.word)) (drop l.place l.fn.rows) l.table ≡ each (with_key l.fn.env l.fn.source.declared_at (option_map tree (option_copied l.fn.source.expr), option_copied l.fn.source.word)) l.fn.rows l.fn.table

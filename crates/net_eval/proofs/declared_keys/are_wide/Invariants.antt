@@ -1,7 +1,0 @@
-use Rattle.std.specs.Prelude.{◌≡◌, length, drop}
-use Rattle.std.specs.List.{AllByRecursion}
-use Rattle.net_eval.proofs.declared_keys.are_wide.Given as goal
-
-abbrev pub invariant-loop-tuple : goal.invariant-loop-tuple
-invariant-loop-tuple l =
-    AllByRecursion (λ tuple. length tuple ≡ l.fn.count) (drop l.tuple-index l.tuple-items) → AllByRecursion (λ tuple. length tuple ≡ l.fn.count) l.fn.set
