@@ -18,8 +18,8 @@ use Rattle.net_expr.specs.Worlds.{Name, World, entry_of}
 abbrev pub IsOther : List Name → Name → Type 0
 IsOther names name = AllByRecursion (λ n. bytes_eq n name ≡ false) names
 
--- a component is a name that is neither declared nor one of the dummies before it; with it, they
--- are as told
+-- a component is a name that is neither declared nor one of the dummies before it; `then` holds of
+-- these dummies and the new one
 abbrev pub IsNewDummy : World → List Name → Option Name → (List Name → Type 0) → Type 0
 IsNewDummy w before None then = ⊥
 IsNewDummy w before (Some name) then = (entry_of w name ≡ None) × IsOther before name × then (before ++ name ∷ [])
