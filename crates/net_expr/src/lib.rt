@@ -36,7 +36,7 @@ pub use name::key_count;
 pub use net_sets::{Member, Text, Tuple};
 pub use operators::truth;
 pub use reference::{push_member, push_reference, reported_reference};
-pub use row::{Keys, Row, key_set};
+pub use row::{Keys, Row};
 pub use row_list::{RowList, RowRef};
 pub use scope::{Binding, Scope};
 pub use subscripts::key_of;

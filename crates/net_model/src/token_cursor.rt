@@ -17,8 +17,8 @@ use net_tree::{Operator, Role, role_of};
 use std::alloc::Global;
 use std::marker::Model;
 
-/// The tokens that are not yet consumed, with the role of the next one. The role is found once, as
-/// the cursor reaches the token.
+/// The tokens that are not yet consumed, with the role of the next one. The role is found when the
+/// cursor reaches the token.
 #[derive(Drop)]
 pub(crate) struct Cursor<'t, 's> {
     tokens: &'t [Token<'s>],

@@ -1,4 +1,4 @@
-//! Operators, signs and reductions. The parser decodes their tokens once.
+//! Operators, signs and reductions. The parser makes them from their tokens.
 
 ghost use Rattle.std.specs.Prelude.{◌≡◌, map};
 ghost use Rattle.net_tree.specs.declared.operator.Words.TheVariants as words;
