@@ -51,7 +51,11 @@ pub struct Keys<'s> {
 }
 
 /// Returns the set of the keys of rows, under the key of the run. Returns `TooMany` if there are more than a set can have.
-pub(crate) fn key_set<'s>(alloc: Global, key: HashKey, rows: &[Row<'s>]) -> Result<TupleSet<'s>, SetFault>
+pub(crate) fn key_set<'s>(
+    alloc: Global,
+    key: HashKey,
+    rows: &[Row<'s>],
+) -> Result<TupleSet<'s>, SetFault>
     ensures { IsMade (union [] (keys_of rows.now)) result }
 {
     let mut keys = TupleSet::with_room(alloc, key, rows.len().min(TUPLES_LIMIT))?;
