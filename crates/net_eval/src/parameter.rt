@@ -22,7 +22,7 @@ use crate::restriction::{KeyedValue, restricted};
 use crate::value_source::{source_at, source_of, source_text, with_keys};
 use net_base::{Boxed, Detail, ErrorCode, Fault, Language, Span};
 use net_data::Word;
-use net_expr::{Entry, Env, Row, RowList, indexing_of};
+use net_expr::{Entry, Env, Row, RowList, kept_indexing_of};
 use net_lex::Token;
 use net_sets::{KeyList, KeyValues, Member, Table};
 use net_tree::{Begins, Braces, Expr, Phrase, PhraseWord, Role, phrase_value};
@@ -273,7 +273,7 @@ pub(crate) fn bound_parameter<'s>(
     ensures { Refines (bound.bound_parameter earlier.now.env earlier.now.widths.now name.now (indexing_of braces.now) (map phrase_of phrases.now)
         named_data.now) result }
 {
-    let indexing = indexing_of(alloc, &earlier.env, braces)?;
+    let indexing = kept_indexing_of(alloc, &earlier.env, braces)?;
     let rows = &indexing.rows;
     let index = index_list(alloc, earlier.env.key(), span_or(name.span, braces), rows)?;
     let parameter = Parameter {

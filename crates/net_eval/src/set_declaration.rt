@@ -150,7 +150,7 @@ fn members_of<'s>(
 ) -> Result<Boxed<TupleSet<'s>>, Fault>
     ensures { Refines (each (set_data.with_member word.now) rows.now []) result }
 {
-    let mut set = TupleSet::with_room(alloc, key, rows.len().min(TUPLES_LIMIT))?;
+    let mut set = TupleSet::with_room(alloc, key, rows.len().min(TUPLES_LIMIT));
     for row in rows {
         with_member(alloc, word, row.cells(), &mut set)?;
     }

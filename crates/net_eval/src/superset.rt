@@ -89,8 +89,8 @@ impl<'w, 's> Superset<'w, 's> {
     pub(crate) fn contains_all(&self, set: &TupleSet<'s>) -> bool
         ensures { result ≡ is_within set.now self.now }
     {
-        for tuple in set.as_slice() {
-            if !self.contains(tuple) {
+        for place in 0..set.len() {
+            if !self.contains(&set.tuple_at(place)) {
                 return false;
             }
         }

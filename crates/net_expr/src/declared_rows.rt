@@ -170,8 +170,8 @@ fn set_of_item<'w, 's>(
 fn are_wide(set: &TupleSet<'_>, count: usize) -> bool
     ensures { IsTrue result → AllByRecursion (λ tuple. length tuple ≡ count) set.now }
 {
-    for tuple in set.as_slice() {
-        if tuple.len() != count {
+    for place in 0..set.len() {
+        if set.tuple_at(place).len() != count {
             return false;
         }
     }

@@ -1,6 +1,6 @@
 //! The keys of declarations.
 
-ghost use Rattle.std.specs.Prelude.{◌≡◌, OnOk, IfOk};
+ghost use Rattle.std.specs.Prelude.{◌≡◌, IfOk};
 ghost use Rattle.net_tree.specs.View.{indexing_of};
 ghost use Rattle.net_expr.specs.Indexings as indexings;
 ghost use Rattle.net_expr.specs.Sets.{counted};
@@ -13,7 +13,7 @@ use crate::row_list::RowList;
 use crate::scope::Scope;
 use crate::world::Env;
 use net_base::{Fault, Items};
-use net_sets::{HashKey, Tuple};
+use net_sets::Tuple;
 use net_tree::Braces;
 use std::alloc::{AllocError, Global};
 
@@ -50,14 +50,14 @@ fn counted(width: Option<u8>) -> u8
     }
 }
 
-fn by_keys<'s>(alloc: Global, key: HashKey, keys: Keys<'s>) -> Result<Indexing<'s>, AllocError>
-    ensures { IfOk result (λ i. i ≡ indexings.by_keys keys.entry) }
+fn by_keys(keys: Keys<'_>) -> Indexing<'_>
+    ensures { result ≡ indexings.by_keys keys.entry }
 {
     let Keys { width, rows } = keys;
-    Ok(Indexing {
+    Indexing {
         count: Some(counted(width)),
-        rows: RowList::compact(alloc, key, rows)?,
-    })
+        rows: RowList::of_rows(rows),
+    }
 }
 
 /// Returns the keys of a declaration with this indexing.
@@ -79,7 +79,21 @@ pub fn indexing_of<'s>(
             }
             let scope = Scope::new(alloc);
             let keys = index_of(alloc, env, &scope, braces)?;
-            Ok(by_keys(alloc, env.key(), keys)?)
+            Ok(by_keys(keys))
         }
     }
+}
+
+/// Returns the keys of a declaration with this indexing, for a declaration that keeps them. Where each row is that of its key,
+/// only the keys are kept.
+pub fn kept_indexing_of<'s>(
+    alloc: Global,
+    env: &Env<'_, 's>,
+    braces: &Option<Braces<'s>>,
+) -> Result<Indexing<'s>, Fault>
+    ensures { Refines (indexings.indexing_in env.now (indexing_of braces.now)) result }
+{
+    let Indexing { count, rows } = indexing_of(alloc, env, braces)?;
+    let rows = rows.compact(alloc, env.key())?;
+    Ok(Indexing { count, rows })
 }

@@ -171,7 +171,7 @@ fn walk<'a, 'w, 's>(
                 Some(frame) => top = frame,
             },
             Some(tuple) => {
-                let next = place_at(alloc, env, top.item, tuple, &top.place)?;
+                let next = place_at(alloc, env, top.item, &tuple, &top.place)?;
                 top.left.pass();
                 match onward(alloc, env, at, top.more, next, found)? {
                     None => {}

@@ -31,7 +31,7 @@ pub use expression_calls::{
     errors_are_in_expressions, holds, index_of, keys_are_distinct, member, members,
     values_keep_sets,
 };
-pub use indexing::{Indexing, indexing_of};
+pub use indexing::{Indexing, indexing_of, kept_indexing_of};
 pub use name::key_count;
 pub use net_sets::{Member, Text, Tuple};
 pub use operators::truth;

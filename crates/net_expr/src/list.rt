@@ -56,14 +56,14 @@ fn all_of(size: usize, tuples: &[Tuple<'_>]) -> bool
 fn rows_of<'s>(
     alloc: Global,
     scope: &Scope<'s>,
-    tuples: &[Tuple<'s>],
+    set: &TupleSet<'s>,
 ) -> Result<Items<Row<'s>>, AllocError>
-    ensures { IfOk result (λ all. all ≡ rows.rows_of scope.now tuples.now) }
+    ensures { IfOk result (λ all. all ≡ rows.rows_of scope.now set.now) }
 {
     let mut all = Vec::new(alloc);
-    for tuple in tuples {
+    for place in 0..set.len() {
         let scope = scope.copied(alloc)?;
-        let key = tuple.copied();
+        let key = set.tuple_at(place);
         all.push(Row { key, scope })?;
     }
     Ok(Items::new(all))
@@ -103,7 +103,7 @@ fn rows_once<'s>(
     match TupleSet::from_tuples(alloc, key, tuples) {
         Ok(set) => Ok(Keys {
             width: Some(first.len() as u8),
-            rows: rows_of(alloc, scope, set.as_slice())?,
+            rows: rows_of(alloc, scope, &set)?,
         }),
         Err(SetFault::TooMany) => Err(Fault::of_model(ErrorCode::TooMany, at)),
         Err(SetFault::OutOfMemory) => Err(Fault::OutOfMemory),

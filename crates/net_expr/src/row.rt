@@ -58,7 +58,7 @@ pub(crate) fn key_set<'s>(
 ) -> Result<TupleSet<'s>, SetFault>
     ensures { IsMade (union [] (keys_of rows.now)) result }
 {
-    let mut keys = TupleSet::with_room(alloc, key, rows.len().min(TUPLES_LIMIT))?;
+    let mut keys = TupleSet::with_room(alloc, key, rows.len().min(TUPLES_LIMIT));
     for row in rows {
         keys.add(row.key.copied())?;
     }

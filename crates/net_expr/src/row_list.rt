@@ -126,7 +126,7 @@ fn of_made<'s>(
         return Ok(None);
     };
     let dummies = first.scope.names(alloc)?;
-    let mut keys = TupleSet::with_room(alloc, key, rows.len())?;
+    let mut keys = TupleSet::with_room(alloc, key, rows.len());
     for row in rows {
         if !add_key(dummies.as_slice(), row, &mut keys)? {
             return Ok(None);
@@ -137,17 +137,17 @@ fn of_made<'s>(
 }
 
 impl<'s> RowList<'s> {
-    /// These rows; if each is that of its key, only the keys are kept. The key of the hashes has to be that of the run.
-    pub(crate) fn compact(
-        alloc: Global,
-        key: HashKey,
-        rows: Items<Row<'s>>,
-    ) -> Result<RowList<'s>, AllocError>
-        ensures { IfOk result (λ list. list ≡ rows.entry) }
+    /// The same rows; if each is that of its key, only the keys are kept. The key of the hashes has to be that of the run.
+    pub(crate) fn compact(self, alloc: Global, key: HashKey) -> Result<RowList<'s>, AllocError>
+        ensures { IfOk result (λ list. list ≡ self.entry) }
     {
-        match of_made(alloc, key, rows.as_slice())? {
-            Some(list) => Ok(list),
-            None => Ok(RowList::of_rows(rows)),
+        let RowList { store } = self;
+        match store {
+            RowStore::Kept(rows) => match of_made(alloc, key, rows.as_slice())? {
+                Some(list) => Ok(list),
+                None => Ok(RowList::of_rows(rows)),
+            },
+            RowStore::Made(keys, dummies) => Ok(RowList::of_keys(keys, dummies)),
         }
     }
 

@@ -17,7 +17,7 @@ use crate::network_names::{NameList, reject_name};
 use crate::node_name::Group;
 use crate::price::add_phrases;
 use net_base::{ErrorCode, Fault};
-use net_expr::{Env, Indexing, Row, RowList, Scope, indexing_of};
+use net_expr::{Env, Indexing, Row, RowList, Scope, kept_indexing_of};
 use net_lex::Token;
 use net_linear::{Affine, NumberedNames, objective};
 use net_normal::{ARC_LIMIT, InstArc};
@@ -149,7 +149,7 @@ impl<'s> ArcDraft<'s> {
         ensures { Updates (and_then (indexing_in visible.now.env.now (indexing_of braces.now)) (found.arcs_by (arc_env_of visible.now)
             (arc_text_of text.now) self.old)) result self.new }
     {
-        let indexing = indexing_of(alloc, visible.env, braces)?;
+        let indexing = kept_indexing_of(alloc, visible.env, braces)?;
         self.declare_at(alloc, visible, text, &indexing)
     }
 

@@ -12,7 +12,7 @@ ghost use Rattle.net_base.specs.Outcomes.{RefinesAs, Updates};
 use crate::network_names::{NameList, reject, reject_name};
 use crate::node_name::Group;
 use net_base::{ErrorCode, Excerpt, Fault};
-use net_expr::{Env, Indexing, Row, RowList, indexing_of, reported_reference};
+use net_expr::{Env, Indexing, Row, RowList, kept_indexing_of, reported_reference};
 use net_lex::Token;
 use net_linear::{KeyNumbers, node_range};
 use net_normal::{NODE_LIMIT, NodeRange};
@@ -176,7 +176,7 @@ impl<'s> NodeDraft<'s> {
     ) -> Result<(), Fault>
         ensures { Updates (nodes.with_nodes env.now name.now (indexing_of braces.now) (condition_of condition.now) self.old) result self.new }
     {
-        let indexing = indexing_of(alloc, env, braces)?;
+        let indexing = kept_indexing_of(alloc, env, braces)?;
         let text = NodeText { name, condition };
         self.declare_at(alloc, env, &text, &indexing)
     }

@@ -6,7 +6,9 @@ pub mod Names
 pub mod KeyedHash
 pub mod Hashes
 pub mod EqualHashes
+pub mod EqualTuples
 pub mod TupleSets
+pub mod TupleStores
 pub mod Cow
 pub mod Positions
 pub mod Tables

@@ -7,7 +7,7 @@ ghost use Rattle.net_sets.specs.Sets.{same_member};
 
 use crate::key::HashKey;
 use crate::member::Member;
-use crate::tuple::Tuple;
+use crate::tuple_set::TupleSet;
 use indexmap::IndexMap;
 use std::alloc::{AllocError, Global};
 
@@ -45,14 +45,14 @@ fn insert<'s>(
 fn take_in<'s>(
     chains: &mut Chains<'s>,
     component: usize,
-    tuples: &[Tuple<'s>],
+    tuples: &TupleSet<'s>,
     place: usize,
 ) -> Result<(), AllocError>
     requires there { place < length tuples.now }
     requires behind { IsIndexFrom component tuples.now (place + 1) chains.old }
     ensures { OnOk result (IsIndexFrom component tuples.now place chains.new) }
 {
-    match tuples[place].as_slice().get(component) {
+    match tuples.member_at(place, component) {
         None => {}
         Some(member) => {
             let later = insert(&mut chains.first, member.copied(), place)?;
@@ -66,7 +66,7 @@ pub(crate) fn chains_of<'s>(
     alloc: Global,
     key: HashKey,
     component: usize,
-    tuples: &[Tuple<'s>],
+    tuples: &TupleSet<'s>,
 ) -> Result<Chains<'s>, AllocError>
     ensures { IfOk result (IsIndexFrom component tuples.now 0) }
 {

@@ -2,13 +2,13 @@
 //!
 //! A hash table is slow if many of its keys have the same hash, so the author of an input must not be able to choose such
 //! keys. The hashes of a run depend on a key of 128 bits. A random key is not available, as the same input has to take the
-//! same steps in each run. So the key comes from SHA-256 over the model and the data: changing a name or a number to make two
+//! same steps in each run. So the key comes from SHA-512 over the model and the data: changing a name or a number to make two
 //! of them collide changes the key too.
 
 ghost use Rattle.std.specs.Prelude.{◌≡◌};
 ghost use Rattle.net_sets.specs.KeyedHash.{folded, word_of, written};
 
-use sha2::{Digest, Sha256};
+use sha2::{Digest, Sha512};
 use std::hash::{BuildHasher, Hasher};
 
 /// A hash in progress. Each word is added by one multiplication with the secret factor. That is less than a cryptographic
@@ -65,7 +65,7 @@ pub struct HashKey {
 impl HashKey {
     /// Derives the key of a run from the texts of its model and its data: the first 16 bytes of the digest.
     pub fn of_texts(model: &[u8], data: &[u8]) -> HashKey {
-        let mut digest = Sha256::new();
+        let mut digest = Sha512::new();
         digest.update(&(model.len() as u64).to_le_bytes());
         digest.update(model);
         digest.update(data);

@@ -13,10 +13,12 @@ mod name_map;
 mod operations;
 mod range;
 mod rows;
+mod short_tuple;
 mod table;
 mod text;
 mod tuple;
 mod tuple_set;
+mod tuple_store;
 
 pub use cow::Cow;
 pub use cursor::Cursor;

@@ -16,7 +16,7 @@ pub fn union<'s>(first: TupleSet<'s>, second: &TupleSet<'s>) -> Result<TupleSet<
     ensures { IsMade (union first.entry second.now) result }
 {
     let mut all = first;
-    all.add_all(second.as_slice())?;
+    all.add_set(second)?;
     Ok(all)
 }
 
@@ -41,8 +41,8 @@ fn answers<'s>(
     ensures { IfOk result (λ found. found.items ≡ map (is_chosen shared second.now) first.now) }
 {
     let mut found = Vec::new(alloc);
-    for tuple in first.as_slice() {
-        found.push(is_chosen(shared, second, tuple))?;
+    for place in 0..first.len() {
+        found.push(is_chosen(shared, second, &first.tuple_at(place)))?;
     }
     Ok(found)
 }
@@ -96,9 +96,10 @@ fn unshared<'s>(
     ensures { IfOk result (λ found. found.items ≡ difference set.now other.now) }
 {
     let mut found = Vec::new(alloc);
-    for tuple in set.as_slice() {
-        if !other.contains(tuple) {
-            found.push(tuple.copied())?;
+    for place in 0..set.len() {
+        let tuple = set.tuple_at(place);
+        if !other.contains(&tuple) {
+            found.push(tuple)?;
         }
     }
     Ok(found)
@@ -113,7 +114,7 @@ pub fn symmetric_difference<'s>(
 ) -> Result<TupleSet<'s>, SetFault>
     ensures { IsMade (symmetric_difference first.entry second.now) result }
 {
-    let _distinct = second.as_slice();
+    let _distinct = second.len();
     let more = unshared(alloc, second, &first)?;
     let mut all = difference(alloc, first, second)?;
     all.add_all(more.as_slice())?;
@@ -124,8 +125,8 @@ pub fn symmetric_difference<'s>(
 pub fn is_within<'s>(first: &TupleSet<'s>, second: &TupleSet<'s>) -> bool
     ensures { result ≡ is_within first.now second.now }
 {
-    for tuple in first.as_slice() {
-        if !second.contains(tuple) {
+    for place in 0..first.len() {
+        if !second.contains(&first.tuple_at(place)) {
             return false;
         }
     }
@@ -138,8 +139,8 @@ pub fn widest<'s>(set: &TupleSet<'s>) -> usize
     ensures fits { result ≤ arity_limit }
 {
     let mut width = 0;
-    for tuple in set.as_slice() {
-        width = width.max(tuple.len());
+    for place in 0..set.len() {
+        width = width.max(set.tuple_at(place).len());
     }
     width
 }
@@ -149,8 +150,8 @@ pub fn narrowest(set: &TupleSet<'_>) -> usize
     ensures { result ≡ narrowest set.now }
 {
     let mut width = ARITY_LIMIT;
-    for tuple in set.as_slice() {
-        width = width.min(tuple.len());
+    for place in 0..set.len() {
+        width = width.min(set.tuple_at(place).len());
     }
     width
 }
@@ -165,8 +166,8 @@ fn add_beside<'s>(
     ensures { IsMade (union all.old (joined_to front.now second.now)) (with_set result all.new) }
 {
     let _few = all.len();
-    for tuple in second.as_slice() {
-        all.add(front.beside(tuple))?;
+    for place in 0..second.len() {
+        all.add(front.beside(&second.tuple_at(place)))?;
     }
     Ok(())
 }
@@ -186,9 +187,9 @@ pub fn cross<'s>(
     if first.len() * second.len() > TUPLES_LIMIT {
         return Err(SetFault::TooMany);
     }
-    let mut all = TupleSet::with_room(alloc, first.key(), first.len() * second.len())?;
-    for tuple in first.as_slice() {
-        add_beside(&mut all, tuple, second)?;
+    let mut all = TupleSet::with_room(alloc, first.key(), first.len() * second.len());
+    for place in 0..first.len() {
+        add_beside(&mut all, &first.tuple_at(place), second)?;
     }
     Ok(all)
 }

@@ -1,9 +1,8 @@
 //! Sets of tuples in the order of their first appearance.
 
-ghost use Rattle.std.specs.Prelude.{◌≡◌, ◌<◌, ◌≤◌, ◌++◌, ◌∷◌, [], false, length, slice_get, not, IfOk, OnOk, OnErr, IsErrOf};
+ghost use Rattle.std.specs.Prelude.{◌≡◌, ◌<◌, ◌≤◌, ◌++◌, ◌∷◌, [], false, get_or, length, slice_get, not, IfOk, OnOk, OnErr, IsErrOf};
 ghost use Rattle.std.specs.Option.{option_copied};
 ghost use Rattle.std.specs.List.{IsDistinct, items_where_true};
-ghost use Rattle.net_sets.specs.TupleSets.{is_at};
 ghost use Rattle.net_sets.specs.Limits.{arity_limit, tuples_limit};
 ghost use Rattle.net_sets.specs.Made.{IsMade, with_set};
 ghost use Rattle.net_sets.specs.Operations.{union};
@@ -12,7 +11,7 @@ ghost use Rattle.net_sets.specs.Sets.{has, added, place_of, same_tuple};
 use crate::key::HashKey;
 use crate::member::Member;
 use crate::tuple::Tuple;
-use indexmap::IndexSet;
+use crate::tuple_store::TupleStore;
 use std::alloc::{AllocError, AllocFailed, Global};
 use std::marker::Model;
 
@@ -22,7 +21,7 @@ pub const TUPLES_LIMIT: usize = 1_000_000;
 /// Distinct tuples in the order of their first appearance. Contracts see the list of the tuples.
 #[derive(Drop)]
 pub struct TupleSet<'s> {
-    tuples: IndexSet<Tuple<'s>, HashKey>,
+    tuples: TupleStore<'s>,
 }
 
 impl<'s> Model for TupleSet<'s> {
@@ -32,19 +31,9 @@ impl<'s> Model for TupleSet<'s> {
 
     ghost Value = { List (List Member) };
 
-    ghost view = { λ s. s.tuples.keys };
+    ghost view = { λ s. s.tuples };
 
-    ghost invariant = { λ s. IsTupleSet s.tuples.keys };
-}
-
-/// Returns whether the tuple of these members is at `position`.
-fn is_at<'s>(tuples: &[Tuple<'s>], position: usize, members: &[Member<'s>]) -> bool
-    ensures { result ≡ is_at tuples.now position members.now }
-{
-    match tuples.get(position) {
-        None => false,
-        Some(found) => found.consists_of(members),
-    }
+    ghost invariant = { λ s. IsTupleSet s.tuples };
 }
 
 impl<'s> TupleSet<'s> {
@@ -54,18 +43,18 @@ impl<'s> TupleSet<'s> {
         ensures { result ≡ [] }
     {
         TupleSet {
-            tuples: IndexSet::with_hasher(alloc, key),
+            tuples: TupleStore::new(alloc, key, 0),
         }
     }
 
-    /// Creates an empty set with memory for `count` tuples; a set that grows is copied again and again. The key has to be that of
-    /// the run.
-    pub fn with_room(alloc: Global, key: HashKey, count: usize) -> Result<TupleSet<'s>, AllocError>
-        ensures { IfOk result (λ set. set ≡ []) }
+    /// Creates an empty set that reserves memory for `count` tuples with its first one; a set that grows is copied again and
+    /// again. The key has to be that of the run.
+    pub fn with_room(alloc: Global, key: HashKey, count: usize) -> TupleSet<'s>
+        ensures { result ≡ [] }
     {
-        let mut tuples = IndexSet::with_hasher(alloc, key);
-        tuples.reserve_exact(count)?;
-        Ok(TupleSet { tuples })
+        TupleSet {
+            tuples: TupleStore::new(alloc, key, count),
+        }
     }
 
     /// Creates the set of `tuples`, each at its first position. Returns `TooMany` if the set would exceed its limit.
@@ -83,38 +72,51 @@ impl<'s> TupleSet<'s> {
 
     /// Returns the key of the hashes.
     pub(crate) fn key(&self) -> HashKey {
-        *self.tuples.hasher()
+        self.tuples.key()
     }
 
     /// Returns the number of tuples.
     pub fn len(&self) -> usize
         ensures value { result ≡ length self.now }
         ensures few { result ≤ tuples_limit }
+        ensures distinct { IsDistinct same_tuple self.now }
     {
         self.tuples.len()
     }
 
-    /// Returns the tuples in the order of their first appearance.
-    pub fn as_slice(&self) -> &[Tuple<'s>]
-        ensures value { result.now ≡ self.now }
-        ensures distinct { IsDistinct same_tuple result.now }
-        ensures few { length result.now ≤ tuples_limit }
+    /// Returns the tuple at a position, counted from 0.
+    pub fn get(&self, position: usize) -> Option<Tuple<'s>>
+        ensures { result ≡ slice_get self.now position }
     {
-        self.tuples.as_slice()
+        self.tuples.get(position)
+    }
+
+    /// Returns the tuple at a position, counted from 0; the empty tuple if there is none.
+    pub fn tuple_at(&self, position: usize) -> Tuple<'s>
+        ensures { result ≡ get_or self.now position [] }
+    {
+        self.tuples.tuple_at(position)
+    }
+
+    /// Returns the member at a component of the tuple at a position, both counted from 0.
+    pub(crate) fn member_at(&self, position: usize, component: usize) -> Option<&Member<'s>>
+        ensures { option_copied result ≡ slice_get (get_or self.now position []) component }
+    {
+        self.tuples.member_at(position, component)
     }
 
     /// Returns the position of a tuple, counted from 0.
     pub fn position(&self, tuple: &Tuple<'s>) -> Option<usize>
         ensures { result ≡ place_of self.now tuple.now }
     {
-        self.tuples.get_index_of(tuple)
+        self.tuples.position(tuple)
     }
 
     /// Returns the position of a tuple that is probably at `near`. The set is searched only if it is not.
     pub fn position_with_hint(&self, near: usize, tuple: &Tuple<'s>) -> Option<usize>
         ensures { result ≡ place_of self.now tuple.now }
     {
-        if is_at(self.tuples.as_slice(), near, tuple.as_slice()) {
+        if self.tuples.is_at(near, tuple.as_slice()) {
             Some(near)
         } else {
             self.position(tuple)
@@ -126,7 +128,7 @@ impl<'s> TupleSet<'s> {
         requires { length members.now ≤ arity_limit }
         ensures { result ≡ place_of self.now members.now }
     {
-        if is_at(self.tuples.as_slice(), near, members) {
+        if self.tuples.is_at(near, members) {
             Some(near)
         } else {
             self.position(&Tuple::of_members(members))
@@ -137,14 +139,7 @@ impl<'s> TupleSet<'s> {
     pub fn contains(&self, tuple: &Tuple<'s>) -> bool
         ensures { result ≡ has self.now tuple.now }
     {
-        self.tuples.contains(tuple)
-    }
-
-    /// Returns the tuple at a position, counted from 0.
-    pub fn get(&self, position: usize) -> Option<&Tuple<'s>>
-        ensures { option_copied result ≡ slice_get self.now position }
-    {
-        self.tuples.get_index(position)
+        self.position(tuple).is_some()
     }
 
     /// Appends a tuple that the set does not have.
@@ -201,16 +196,23 @@ impl<'s> TupleSet<'s> {
         Ok(())
     }
 
+    /// Appends each tuple of another set that the set does not have. Returns `TooMany` if the set would exceed its limit.
+    pub(crate) fn add_set(&mut self, other: &TupleSet<'s>) -> Result<(), SetFault>
+        ensures { IsMade (union self.old other.now) (with_set result self.new) }
+    {
+        let _few = self.len();
+        for place in 0..other.len() {
+            self.add(other.tuple_at(place))?;
+        }
+        Ok(())
+    }
+
     /// Keeps the tuples at the positions where `answers` is true, in their order.
     pub(crate) fn retain_at(&mut self, answers: &[bool])
         requires { length answers.now ≡ length self.old }
         ensures { self.new ≡ items_where_true answers.now self.old }
     {
-        let mut rest = answers.iter();
-        self.tuples.retain(move |_| match rest.next() {
-            None => false,
-            Some(answer) => *answer,
-        });
+        self.tuples.retain_at(answers);
     }
 
     /// Frees the memory that is reserved for more tuples.
@@ -224,9 +226,9 @@ impl<'s> TupleSet<'s> {
     pub fn copied(&self, alloc: Global) -> Result<TupleSet<'s>, AllocError>
         ensures { IfOk result (λ copy. copy ≡ self.now) }
     {
-        let mut copy = TupleSet::with_room(alloc, self.key(), self.len())?;
-        for tuple in self.as_slice() {
-            copy.push(tuple.copied())?;
+        let mut copy = TupleSet::with_room(alloc, self.key(), self.len());
+        for place in 0..self.len() {
+            copy.push(self.tuple_at(place))?;
         }
         Ok(copy)
     }

@@ -26,15 +26,6 @@ pub fn tuple_shown(alloc: Global, tuple: &Tuple<'_>) -> Result<String, AllocErro
     Ok(out)
 }
 
-fn tuples_shown(alloc: Global, tuples: &[Tuple<'_>]) -> Result<String, AllocError> {
-    let mut out = String::new(alloc);
-    for tuple in tuples {
-        out.push_str(tuple_shown(alloc, tuple)?.as_str())?;
-        out.push_str(";")?;
-    }
-    Ok(out)
-}
-
 /// A dummy with its member, if it is in scope.
 fn dummy_shown<'s>(alloc: Global, scope: &Scope<'s>, name: &'s str) -> Result<String, AllocError> {
     match scope.get(&Excerpt::new(name)) {
@@ -84,7 +75,15 @@ pub fn members_shown<'s>(
     expr: &Expr<'s>,
 ) -> Result<String, AllocError> {
     match members(alloc, world, scope, expr) {
-        Ok(set) => tuples_shown(alloc, set.get().as_slice()),
+        Ok(set) => {
+            let mut out = String::new(alloc);
+            for place in 0..set.get().len() {
+                let tuple = set.get().tuple_at(place);
+                out.push_str(tuple_shown(alloc, &tuple)?.as_str())?;
+                out.push_str(";")?;
+            }
+            Ok(out)
+        }
         Err(fault) => line_of(alloc, &fault),
     }
 }

@@ -1,6 +1,5 @@
 use Rattle.std.specs.Prelude.{List}
 use Rattle.net_tree.specs.declared.expr.Link.{Link}
-use Rattle.std.specs.Option.{option_copied}
 use Rattle.std.proofs.Common.{◌≡◌, ◌*◌, ◌^◌, ◌∷◌, ◌++◌, [], false, rules, refl, Ok, length, take, ◌-◌, sym, subst, ap, ◌∙◌, ◌+◌, drop, arith}
 use Rattle.std.proofs.lemmas.Grind.{common_steps}
 use Rattle.std.proofs.lemmas.Result.{err_from_is_err_and}
@@ -140,20 +139,20 @@ keys::onward-returns-in_ok-frame-in-len1-up-clause-steps t c =
 pub keys::walk-returns-in-None-pop : goal.keys::walk-returns-in-None-pop
 keys::walk-returns-in-None-pop t c =
     ended c.args.at c.args.env.now c.tuples.top c.tuples.below.items c.tuples.found.items _ c.tuples.invariant.same
-    (none_to_come c.tuples.top.left _ c.first.ensures (ap option_copied c.in-None.is))
+    (none_to_come c.tuples.top.left _ c.first.ensures c.in-None.is)
     (no_frames c.tuples.below.items (sym c.tuples.below.ok.0 ∙ c.in-None-pop.ensures.cases.0))
 
 pub keys::walk-tuples-smaller-in-Some-pop : goal.keys::walk-tuples-smaller-in-Some-pop
 keys::walk-tuples-smaller-in-Some-pop t c =
     way_shorter c.args.at c.args.env.now c.tuples.top c.in-Some-pop.frame c.tuples.below.items c.pop.new.self.items
-    (none_to_come c.tuples.top.left _ c.first.ensures (ap option_copied c.in-None.is))
+    (none_to_come c.tuples.top.left _ c.first.ensures c.in-None.is)
     c.in-Some-pop.ensures.items
 
 pub keys::walk-tuples-preserved-in-Some-pop : goal.keys::walk-tuples-preserved-in-Some-pop
 keys::walk-tuples-preserved-in-Some-pop t c =
     let apart = light_apart (weight_of c.args.first) c.pop.new.self.items c.in-Some-pop.frame (subst (AreLight (weight_of c.args.first)) c.in-Some-pop.ensures.items c.tuples.invariant.below) in
     record {
-      same = gives_way c.args.at c.args.env.now c.tuples.top c.in-Some-pop.frame c.tuples.below.items c.pop.new.self.items c.tuples.found.items _ c.tuples.invariant.same (none_to_come c.tuples.top.left _ c.first.ensures (ap option_copied c.in-None.is)) c.in-Some-pop.ensures.items;
+      same = gives_way c.args.at c.args.env.now c.tuples.top c.in-Some-pop.frame c.tuples.below.items c.pop.new.self.items c.tuples.found.items _ c.tuples.invariant.same (none_to_come c.tuples.top.left _ c.first.ensures c.in-None.is) c.in-Some-pop.ensures.items;
       light = apart.1;
       below = apart.0;
     }
@@ -162,14 +161,14 @@ pub keys::walk-returns-in_err-next-in-Some : goal.keys::walk-returns-in_err-next
 keys::walk-returns-in_err-next-in-Some t c =
     let y = err_from_is_err_and c.from_residual.result c.from_residual.ensures.1 in
     rw y.1 (rw y.2
-    (fault_of_place c.args.at c.args.env.now c.tuples.top c.in-Some.tuple.now c.tuples.below.items c.tuples.found.items _ _ c.in_err-next-in-Some.field-0.0 c.tuples.invariant.same
-    (one_to_come c.tuples.top.left _ c.in-Some.tuple.now c.first.ensures (ap option_copied c.in-Some.is))
+    (fault_of_place c.args.at c.args.env.now c.tuples.top c.in-Some.tuple c.tuples.below.items c.tuples.found.items _ _ c.in_err-next-in-Some.field-0.0 c.tuples.invariant.same
+    (one_to_come c.tuples.top.left _ c.in-Some.tuple c.first.ensures c.in-Some.is)
     c.in_err-next-in-Some.ensures))
 
 pub keys::walk-tuples-smaller : goal.keys::walk-tuples-smaller
 keys::walk-tuples-smaller t c =
-    item_shorter c.args.at c.args.env.now c.tuples.top c.in-Some-2.deeper c.in-Some.tuple.now c.in_ok-next-in-Some.next c.in_ok-onward-in-Some.field-0 c.tuples.below.items c.push.new.self.items
-    (one_to_come c.tuples.top.left _ c.in-Some.tuple.now c.first.ensures (ap option_copied c.in-Some.is))
+    item_shorter c.args.at c.args.env.now c.tuples.top c.in-Some-2.deeper c.in-Some.tuple c.in_ok-next-in-Some.next c.in_ok-onward-in-Some.field-0 c.tuples.below.items c.push.new.self.items
+    (one_to_come c.tuples.top.left _ c.in-Some.tuple c.first.ensures c.in-Some.is)
     c.in_ok-next-in-Some.ensures c.in_ok-onward-in-Some.ensures.steps c.in-Some-2.is
     (c.in_ok-push-in-Some-2.ensures.items ∙ ap (λ left. c.tuples.below.items ++ (record c.tuples.top { left = left }) ∷ []) c.pass.ensures)
 
@@ -178,7 +177,7 @@ keys::walk-tuples-preserved t c =
     let pushed = c.in_ok-push-in-Some-2.ensures.items ∙ ap (λ left. c.tuples.below.items ++ (record c.tuples.top { left = left }) ∷ []) c.pass.ensures in
     record {
       same = to_item c.args.at c.args.env.now (after_first c.tuples.top) c.in-Some-2.deeper _ c.in_ok-onward-in-Some.field-0 c.tuples.below.items c.push.new.self.items c.onward.new.found.items _
-          (led c.args.at c.args.env.now c.tuples.top c.in-Some.tuple.now c.in_ok-next-in-Some.next c.tuples.below.items c.tuples.found.items _ c.tuples.invariant.same (one_to_come c.tuples.top.left _ c.in-Some.tuple.now c.first.ensures (ap option_copied c.in-Some.is)) c.in_ok-next-in-Some.ensures)
+          (led c.args.at c.args.env.now c.tuples.top c.in-Some.tuple c.in_ok-next-in-Some.next c.tuples.below.items c.tuples.found.items _ c.tuples.invariant.same (one_to_come c.tuples.top.left _ c.in-Some.tuple c.first.ensures c.in-Some.is) c.in_ok-next-in-Some.ensures)
           c.in_ok-onward-in-Some.ensures.leads c.in-Some-2.is pushed;
       light = lighter_still (weight_of c.args.first) c.tuples.top c.in-Some-2.deeper c.in_ok-onward-in-Some.field-0 c.tuples.invariant.light c.in_ok-onward-in-Some.ensures.lighter c.in-Some-2.is;
       below = subst (AreLight (weight_of c.args.first)) (sym pushed) (light_last (weight_of c.args.first) c.tuples.below.items (after_first c.tuples.top) c.tuples.invariant.below c.tuples.invariant.light);

@@ -26,5 +26,5 @@ returns c = grind (arith, common_steps)
 
 pub returns-in_err-add : goal.returns-in_err-add
 returns-in_err-add c =
-    let is : c.from_residual-in_err-add.result ≡ Err c.in_err-add.field-0.0 = search rules in
+    let is : c.from_residual.result ≡ Err c.in_err-add.field-0.0 = search rules in
     handed_on _ _ _ is (rejected_key _ c.loop-row.keys _ _ _ c.copied.result _ c.loop-row.invariant.goes_on c.loop-row-test.true c.row-item.is c.copied.ensures c.in_err-add.ensures.made)

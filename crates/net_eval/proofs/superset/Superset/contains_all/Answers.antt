@@ -5,8 +5,8 @@ use Rattle.net_eval.proofs.superset.Superset.contains_all.Goals as goal
 pub returns-then-not-contains : goal.returns-then-not-contains
 returns-then-not-contains c = grind (arith, common_steps)
 
-pub loop-tuple-preserved : goal.loop-tuple-preserved
-loop-tuple-preserved c = grind (arith, common_steps)
+pub loop-place-preserved : goal.loop-place-preserved
+loop-place-preserved c = grind (arith, common_steps)
 
 pub returns : goal.returns
 returns c = grind (arith, common_steps)
