@@ -84,7 +84,7 @@ pub fn indexing_of<'s>(
     }
 }
 
-/// Returns the keys of a declaration with this indexing, for a declaration that keeps them. Where each row is that of its key,
+/// Returns the keys of a declaration with this indexing, for a declaration that keeps them. If each row is that of its key,
 /// only the keys are kept.
 pub fn kept_indexing_of<'s>(
     alloc: Global,

@@ -12,7 +12,7 @@ tuples_in (Singles set) = set.keys
 tuples_in (Pairs set) = set.keys
 tuples_in (Tuples set) = set.keys
 
--- each tuple has as many members as the storage has room for
+-- each tuple has the number of members that the storage is for
 abbrev pub AreKept : Kept → Type 0
 AreKept Nothing = ⊤
 AreKept (Singles set) = AreLong 1 set.keys
