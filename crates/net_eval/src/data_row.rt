@@ -98,8 +98,8 @@ pub(crate) fn with_value<'s>(
     requires { at_key table.old key.now ≡ None }
     ensures { Updates (rows.with_value text at key.now member.entry table.old) result table.new }
 {
-    match table.insert_with_hint(near, key, member) {
-        Ok(()) => Ok(()),
+    match table.insert_new(near, key, member) {
+        Ok(_) => Ok(()),
         Err(SetFault::OutOfMemory) => Err(Fault::OutOfMemory),
         Err(SetFault::TooMany) => Err(too_many(text, at)),
     }
@@ -123,28 +123,27 @@ fn with_row<'s>(
 {
     let key = tuple_in(cells);
     let at = begins_at(value.token().span, cells);
-    let place = parameter
-        .index
-        .position_with_hint(values.table.next(), &key);
-    let near = place.unwrap_or(0);
-    if values.table.get_with_hint(near, &key).is_some() {
-        let error_code = ErrorCode::DoubleValue;
+    let next = values.table.next();
+    let Some(near) = parameter.index.position_with_hint(next, &key) else {
+        let error_code = if values.table.get(&key).is_some() {
+            ErrorCode::DoubleValue
+        } else {
+            ErrorCode::OutsideSet
+        };
         return Err(reject_row(alloc, parameter, error_code, at, &key)?);
+    };
+    match values.table.insert_new(near, &key, member_in(value)) {
+        Ok(true) => {
+            values.places.push(value.token().span)?;
+            Ok(())
+        }
+        Ok(false) => {
+            let error_code = ErrorCode::DoubleValue;
+            Err(reject_row(alloc, parameter, error_code, at, &key)?)
+        }
+        Err(SetFault::OutOfMemory) => Err(Fault::OutOfMemory),
+        Err(SetFault::TooMany) => Err(too_many(Language::Data, at)),
     }
-    if place.is_none() {
-        let error_code = ErrorCode::OutsideSet;
-        return Err(reject_row(alloc, parameter, error_code, at, &key)?);
-    }
-    with_value(
-        Language::Data,
-        at,
-        near,
-        &key,
-        member_in(value),
-        &mut values.table,
-    )?;
-    values.places.push(value.token().span)?;
-    Ok(())
 }
 
 /// Adds a cell with a value; a missing-value dot gives none.
