@@ -105,7 +105,7 @@ fn tupled<'w, 's>(
 {
     let Operands { first, more } = components;
     let tuple = key_of(alloc, env, scope, whole, first, more.as_slice())?;
-    Ok(Value::Several(tuple))
+    Ok(Value::Several(Boxed::new(Box::new(alloc, tuple)?)))
 }
 
 /// Evaluates a condition.

@@ -22,7 +22,7 @@ fn tuple_in<'s>(at: Span, value: &Value<'_, 's>) -> Result<Tuple<'s>, Fault>
 {
     match value {
         Value::One(member) => Ok(Tuple::single(member.copied())),
-        Value::Several(tuple) => Ok(tuple.copied()),
+        Value::Several(tuple) => Ok(tuple.get().copied()),
         _ => Err(Fault::of_model(ErrorCode::KindMismatch, at)),
     }
 }
@@ -161,7 +161,7 @@ pub(crate) fn as_value<'w, 's>(
     ensures { Refines (rows.as_set at keys.now) result }
 {
     match key_set(alloc, env.key(), keys.rows.as_slice()) {
-        Ok(set) => Ok(Value::Many(keys.width, Cow::owned(set))),
+        Ok(set) => Ok(Value::Many(keys.width, Cow::owned(alloc, set)?)),
         Err(SetFault::TooMany) => Err(Fault::of_model(ErrorCode::TooMany, at)),
         Err(SetFault::OutOfMemory) => Err(Fault::OutOfMemory),
     }

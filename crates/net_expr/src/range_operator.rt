@@ -36,7 +36,7 @@ fn range_within<'w, 's>(
         last: *last,
         by: *by,
     };
-    made(whole, 1, range.listed(alloc, key))
+    made(alloc, whole, 1, range.listed(alloc, key))
 }
 
 fn are_small(first: &i64, last: &i64, by: &i64) -> bool

@@ -267,7 +267,7 @@ fn matches_tuple_value<'s>(
         Value::One(found) => {
             matches_tuple(alloc, whole, tuple, place, &Tuple::single(found.copied()))
         }
-        Value::Several(found) => matches_tuple(alloc, whole, tuple, place, found),
+        Value::Several(found) => matches_tuple(alloc, whole, tuple, place, found.get()),
         _ => Err(reject_tree(ErrorCode::KindMismatch, whole)),
     }
 }

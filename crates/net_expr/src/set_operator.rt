@@ -1,6 +1,6 @@
 //! The results of operators on sets.
 
-ghost use Rattle.std.specs.Prelude.{◌≡◌, List, Ok};
+ghost use Rattle.std.specs.Prelude.{◌≡◌, IfOk, List, Ok};
 ghost use Rattle.net_sets.specs.Limits.{tuples_limit};
 ghost use Rattle.net_sets.specs.Made.{IsMade, IsCrossed};
 ghost use Rattle.net_sets.specs.Sets.{Tuple as Members};
@@ -19,7 +19,7 @@ use net_sets::{
     symmetric_difference, union, widest,
 };
 use net_tree::{BinOp, Expr};
-use std::alloc::Global;
+use std::alloc::{AllocError, Global};
 
 /// Returns the dimension; `{}` counts as one component.
 fn counted(dimension: Option<u8>) -> usize
@@ -57,16 +57,22 @@ fn shared(first: Option<u8>, second: Option<u8>) -> Option<u8>
     }
 }
 
-/// Builds a value from a set, which is within the size limit like every set.
-fn set_value<'w, 's>(dimension: u8, set: TupleSet<'s>) -> Value<'w, 's>
-    ensures { (at : Place) → sets.within_size at dimension set.entry ≡ Ok result }
+/// Builds a value from a set, which is within the size limit like every set. Fails only if memory
+/// runs out.
+fn set_value<'w, 's>(
+    alloc: Global,
+    dimension: u8,
+    set: TupleSet<'s>,
+) -> Result<Value<'w, 's>, AllocError>
+    ensures { (at : Place) → IfOk result (λ value. sets.within_size at dimension set.entry ≡ Ok value) }
 {
     let _few = set.len();
-    Value::Many(Some(dimension), Cow::owned(set))
+    Ok(Value::Many(Some(dimension), Cow::owned(alloc, set)?))
 }
 
 /// Returns a computed set as a value, or an error if it is too large.
 pub(crate) fn made<'w, 's>(
+    alloc: Global,
     whole: &Expr<'_>,
     dimension: u8,
     set: Result<TupleSet<'s>, SetFault>,
@@ -74,7 +80,7 @@ pub(crate) fn made<'w, 's>(
     ensures { (wanted : List Members) → IsMade wanted set.entry → Refines (sets.within_size (trees.span_of (tree whole.now)) dimension wanted) result }
 {
     match set {
-        Ok(set) => Ok(set_value(dimension, set)),
+        Ok(set) => Ok(set_value(alloc, dimension, set)?),
         Err(SetFault::TooMany) => Err(reject_tree(ErrorCode::TooMany, whole)),
         Err(SetFault::OutOfMemory) => Err(Fault::OutOfMemory),
     }
@@ -121,7 +127,12 @@ fn set_of<'w, 's>(
         None => Err(reject_tree(ErrorCode::Arity, whole)),
         Some(dimension) => {
             let first = first.into_set(alloc)?;
-            made(whole, dimension, mixed(alloc, operation, first, second))
+            made(
+                alloc,
+                whole,
+                dimension,
+                mixed(alloc, operation, first, second),
+            )
         }
     }
 }
@@ -172,7 +183,7 @@ fn crossed<'w, 's>(
     let size = counted(d) + counted(e);
     if size <= ARITY_LIMIT && widest(first) + widest(second) <= ARITY_LIMIT {
         match cross(alloc, first, second) {
-            Ok(set) => Ok(Value::Many(Some(size as u8), Cow::owned(set))),
+            Ok(set) => Ok(Value::Many(Some(size as u8), Cow::owned(alloc, set)?)),
             Err(SetFault::TooMany) => Err(reject_tree(ErrorCode::TooMany, whole)),
             Err(SetFault::OutOfMemory) => Err(Fault::OutOfMemory),
         }
@@ -230,7 +241,7 @@ pub(crate) fn belongs<'s>(
             )
         }
         (Value::Several(tuple), Value::Many(dimension, set)) => {
-            among(whole, tuple, *dimension, set.get())
+            among(whole, tuple.get(), *dimension, set.get())
         }
         _ => Err(reject_tree(ErrorCode::KindMismatch, whole)),
     }

@@ -8,17 +8,18 @@ ghost use Rattle.net_base.specs.Outcomes.{bare};
 ghost use Rattle.net_base.specs.declared.diagnostic.Language.TheVariants.{Model as InModel};
 ghost use Rattle.net_base.specs.declared.diagnostic.Fault.TheVariants.{At};
 
-use net_base::{ErrorCode, Fault};
+use net_base::{Boxed, ErrorCode, Fault};
 use net_sets::{Cow, Member, Tuple};
 use net_tree::{Expr, span_of};
 
-/// The value of an expression. Its drop is one call, to keep the proofs of functions with many
-/// exits small.
+/// The value of an expression. Each value takes as much memory as the largest kind, so tuples and
+/// owned sets are in boxes. Its drop is one call, to keep the proofs of functions with many exits
+/// small.
 pub enum Value<'w, 's> {
     /// A number or a string.
     One(Member<'s>),
     /// A tuple: `(i, j)`.
-    Several(Tuple<'s>),
+    Several(Boxed<Tuple<'s>>),
     /// A set, and the number of components of its tuples; `None` for `{}`, which matches every
     /// number.
     Many(Option<u8>, Cow<'w, 's>),

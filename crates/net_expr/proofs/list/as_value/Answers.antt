@@ -4,6 +4,3 @@ use Rattle.net_expr.proofs.list.as_value.Goals as goal
 
 pub returns-in-Err-TooMany : goal.returns-in-Err-TooMany
 returns-in-Err-TooMany c = grind (arith, common_steps)
-
-pub returns-in-Ok : goal.returns-in-Ok
-returns-in-Ok c = grind (arith)

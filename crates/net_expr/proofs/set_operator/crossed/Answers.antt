@@ -19,6 +19,3 @@ overflow_cast-result c = grind (arith, common_steps)
 
 pub overflow_add-size : goal.overflow_add-size
 overflow_add-size c = grind (arith, common_steps)
-
-pub returns-in-Ok : goal.returns-in-Ok
-returns-in-Ok c = grind (arith)

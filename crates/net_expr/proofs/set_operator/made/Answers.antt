@@ -7,6 +7,3 @@ returns-in-Err-OutOfMemory c = grind (arith, common_steps)
 
 pub returns-in-Err-TooMany : goal.returns-in-Err-TooMany
 returns-in-Err-TooMany c = grind (arith, common_steps)
-
-pub returns-in-Ok : goal.returns-in-Ok
-returns-in-Ok c = grind (arith, common_steps)
