@@ -1,5 +1,5 @@
 -- Parameters whose values all come from the data.
-use Rattle.std.specs.Prelude.{◌≡◌, ◌&&◌, ◌||◌, ℕ, zero, suc, drop, option_map, slice_get, Bool, true, false, List, [], ◌∷◌, Option, None, Some, is_some, if◌then◌else◌, Result, Ok, Err}
+use Rattle.std.specs.Prelude.{◌≡◌, ◌&&◌, ◌||◌, ℕ, zero, suc, drop, option_map, slice_get, Bool, true, false, List, [], ◌∷◌, Option, None, Some, is_some, if◌then◌else◌, Result, Ok, Err, ℤ}
 use Rattle.std.specs.List.{AllByRecursion}
 use Rattle.std.proofs.Common.{refl, ap, sym, subst, ◌∙◌}
 use Rattle.net_base.specs.declared.diagnostic.Detail.{Detail}
@@ -8,6 +8,7 @@ use Rattle.net_base.specs.declared.diagnostic.Fault.{Fault}
 use Rattle.net_base.specs.Outcomes.{Outcome, and_then, each}
 use Rattle.net_lex.specs.declared.token.Token.{Token}
 use Rattle.net_sets.specs.declared.member.Member.{Member}
+use Rattle.net_sets.specs.declared.member.Member.TheVariants.{Number}
 use Rattle.net_sets.specs.Sets.{Tuple, at_key, same_tuple}
 use Rattle.net_tree.specs.declared.role.Relation.{Relation}
 use Rattle.net_tree.specs.declared.role.Role.{Role}
@@ -21,11 +22,12 @@ use Rattle.net_tree.specs.Tree.{Tree, leaf, indexed, parens, tuple, negated, bra
 use Rattle.net_expr.specs.declared.row.Row.{Row}
 use Rattle.net_expr.specs.declared.world.Entry.{Entry}
 use Rattle.net_expr.specs.declared.world.Entry.TheVariants.{Parameter}
-use Rattle.net_expr.specs.Values.{value, token_value}
+use Rattle.net_expr.specs.declared.value.Value.TheVariants.{One}
+use Rattle.net_expr.specs.Values.{value, token_value, number_value}
 use Rattle.net_expr.specs.Worlds.{World, Scope, reference}
 use Rattle.net_eval.specs.declared.given.NamedData.{NamedData}
 use Rattle.net_eval.specs.BoundParameters.{PlacedValues, Source, source, source_in, with_key, fit_kind, is_number, takes_texts, cell_of, keys_with, fit_value, fit_row, fit_values, data_of, placed, valued_by, values, with_data, bound_parameter}
-use Rattle.net_eval.specs.FromData.{is_numeral, compares, are_constant, Fits, Answers}
+use Rattle.net_eval.specs.FromData.{numeral, is_numeral, compares, are_constant, Fits, Answers}
 use Rattle.net_eval.specs.Restrictions.{relation, related, holding, restricted, restricted_by, restricted_in}
 use Rattle.net_eval.specs.Rows.{KeyedParameter, Table, Taken}
 use Rattle.net_eval.proofs.RowsTaken.{then_ok}
@@ -36,49 +38,56 @@ both_true false b h = cc
 
 -- ---- numerals have the same value everywhere
 
-same_token : (w : World) (s q : Scope) (t : Token) (r : Role) → is_some (number_as r t.text) ≡ true → token_value w s t r ≡ token_value w q t r
-same_token w s q t roles.Name h = cc
-same_token w s q t roles.Number h = refl
-same_token w s q t roles.Text h = refl
-same_token w s q t roles.Open h = refl
-same_token w s q t roles.Close h = refl
-same_token w s q t roles.OpenBrace h = refl
-same_token w s q t roles.CloseBrace h = refl
-same_token w s q t roles.OpenSquare h = refl
-same_token w s q t roles.CloseSquare h = refl
-same_token w s q t roles.Comma h = refl
-same_token w s q t roles.Colon h = refl
-same_token w s q t roles.Semicolon h = refl
-same_token w s q t roles.Becomes h = refl
-same_token w s q t roles.Sign h = refl
-same_token w s q t roles.Range h = refl
-same_token w s q t roles.By h = refl
-same_token w s q t (roles.Joining n) h = refl
-same_token w s q t (roles.Relation r) h = refl
-same_token w s q t roles.Not h = refl
-same_token w s q t roles.If h = refl
-same_token w s q t roles.Then h = refl
-same_token w s q t roles.Else h = refl
-same_token w s q t roles.Reduction h = refl
-same_token w s q t roles.Net h = refl
-same_token w s q t (roles.Declaration d) h = refl
-same_token w s q t (roles.Phrase b) h = refl
-same_token w s q t roles.LeftOut h = refl
-same_token w s q t roles.Unknown h = refl
+token_number : (w : World) (s : Scope) (t : Token) (n : ℤ) (r : Role) → number_as r t.text ≡ Some n → token_value w s t r ≡ Ok (One (Number n))
+token_number w s t n roles.Name h = cc
+token_number w s t n roles.Number h = ap (number_value t.span) h
+token_number w s t n roles.Text h = cc
+token_number w s t n roles.Open h = cc
+token_number w s t n roles.Close h = cc
+token_number w s t n roles.OpenBrace h = cc
+token_number w s t n roles.CloseBrace h = cc
+token_number w s t n roles.OpenSquare h = cc
+token_number w s t n roles.CloseSquare h = cc
+token_number w s t n roles.Comma h = cc
+token_number w s t n roles.Colon h = cc
+token_number w s t n roles.Semicolon h = cc
+token_number w s t n roles.Becomes h = cc
+token_number w s t n roles.Sign h = cc
+token_number w s t n roles.Range h = cc
+token_number w s t n roles.By h = cc
+token_number w s t n (roles.Joining k) h = cc
+token_number w s t n (roles.Relation r) h = cc
+token_number w s t n roles.Not h = cc
+token_number w s t n roles.If h = cc
+token_number w s t n roles.Then h = cc
+token_number w s t n roles.Else h = cc
+token_number w s t n roles.Reduction h = cc
+token_number w s t n roles.Net h = cc
+token_number w s t n (roles.Declaration d) h = cc
+token_number w s t n (roles.Phrase b) h = cc
+token_number w s t n roles.LeftOut h = cc
+token_number w s t n roles.Unknown h = cc
+
+pub numeral_value : (w : World) (s : Scope) (x : Tree) (n : ℤ) → numeral x ≡ Some n → value w s x ≡ Ok (One (Number n))
+unfolding number_of
+numeral_value w s (leaf t) n h = token_number w s t n (role_of t) h
+numeral_value w s (indexed k o x l c) n h = cc
+numeral_value w s (parens o x c) n h = cc
+numeral_value w s (tuple o x l c) n h = cc
+numeral_value w s (negated k o x c) n h = cc
+numeral_value w s (braced b) n h = cc
+numeral_value w s (signed t x) n h = cc
+numeral_value w s (reduced r b x) n h = cc
+numeral_value w s (chain k x l) n h = cc
+numeral_value w s (choice i x t y e) n h = cc
+numeral_value w s (net t u) n h = cc
 
 pub same_value : (w : World) (s q : Scope) (x : Tree) → is_numeral x ≡ true → value w s x ≡ value w q x
-unfolding number_of
-same_value w s q (leaf t) h = same_token w s q t (role_of t) h
-same_value w s q (indexed n o x l c) h = cc
-same_value w s q (parens o x c) h = cc
-same_value w s q (tuple o x l c) h = cc
-same_value w s q (negated n o x c) h = cc
-same_value w s q (braced b) h = cc
-same_value w s q (signed t x) h = cc
-same_value w s q (reduced r b x) h = cc
-same_value w s q (chain n x l) h = cc
-same_value w s q (choice i x t y e) h = cc
-same_value w s q (net t u) h = cc
+same_value w s q x h = go (numeral x) refl h
+  where
+    go : (o : Option ℤ) → numeral x ≡ o → is_some o ≡ true → value w s x ≡ value w q x
+    go (Some n) e h = numeral_value w s x n e ∙ sym (numeral_value w q x n e)
+    go None e h = cc
 
 -- ---- so phrases that compare with numerals allow the same values at each key
 

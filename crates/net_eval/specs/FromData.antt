@@ -1,5 +1,5 @@
 -- Parameters whose values all come from the data: nothing is evaluated at a key.
-use Rattle.std.specs.Prelude.{◌≡◌, Bool, true, false, ◌&&◌, ◌||◌, List, [], ◌∷◌, Option, None, Some, is_some, Result, Ok, Err, ⊤}
+use Rattle.std.specs.Prelude.{◌≡◌, Bool, true, false, ◌&&◌, ◌||◌, List, [], ◌∷◌, Option, None, Some, is_some, Result, Ok, Err, ℤ, ⊤}
 use Rattle.net_base.specs.declared.diagnostic.Fault.{Fault}
 use Rattle.net_base.specs.declared.diagnostic.Fault.TheVariants.{OutOfMemory, At}
 use Rattle.net_base.specs.Outcomes.{Outcome, and_then}
@@ -18,10 +18,13 @@ use Rattle.net_eval.specs.BoundParameters.{source, is_number, takes_texts}
 use Rattle.net_eval.specs.Rows.{KeyedParameter}
 use Rattle.net_eval.specs.Restrictions.{relation, restricted}
 
--- a numeral, which has the same value at each key
+-- the value of a numeral, which is the same at each key
+abbrev pub numeral : Tree → Option ℤ
+numeral (leaf t) = number_of t
+numeral _ = None
+
 abbrev pub is_numeral : Tree → Bool
-is_numeral (leaf t) = is_some (number_of t)
-is_numeral _ = false
+is_numeral x = is_some (numeral x)
 
 abbrev pub compares : Option Relation → Body → Bool
 compares (Some r) (valued x) = is_numeral x

@@ -8,6 +8,7 @@ mod by_name;
 mod cell;
 mod cell_group;
 mod check;
+mod constant_phrase;
 mod crossing;
 mod data_item;
 mod data_row;

@@ -28,5 +28,5 @@ returns c = λ rows.
     ∙ c.in_ok-default.ensures
     ∙ ap (λ d. Ok (taken, d)) nothing in
     let entry : c.in_ok-parameter_entry.field-0 ≡ Parameter p.keys p.index taken.0 = grind (arith, c.in_ok-parameter_entry.ensures, c.into_table.ensures) in
-    from_data c.args.earlier.now.env ws p ms rows taken (sym c.are_constant.ensures ∙ c.if-not-are_constant.false) becomes default said (c.values_fit.ensures c.if-not-values_fit.false)
+    from_data c.args.earlier.now.env ws p ms rows taken (sym c.are_constant.ensures ∙ c.if-not-are_constant.false) becomes default said (c.values_fit.ensures c.args.earlier.now.env c.if-not-values_fit.false)
     ∙ ap (λ (e : Entry). let o : Outcome Entry = Ok e in o) (sym entry)

@@ -18,5 +18,5 @@ returns c = λ rows at listed.
     let constant : are_constant p.phrases ≡ true = sym c.are_constant.ensures ∙ c.if-not-are_constant.false in
     let same : IsSame w p.phrases m = subst (λ o. IfSome o (IsSame w p.phrases)) c.in-Some.is c.same_value.ensures in
     let entry : c.in_ok-parameter_entry.field-0 ≡ Parameter p.keys p.index (same_for m p.index) = grind (arith, c.in_ok-parameter_entry.ensures, c.same-values.ensures, c.in_ok-copied.ensures) in
-    given_everywhere w c.args.earlier.now.widths.now p rows m constant same (c.fits.ensures c.if-not-fits.false) at listed
+    given_everywhere w c.args.earlier.now.widths.now p rows m constant same (c.fits.ensures w c.if-not-fits.false) at listed
     ∙ ap (λ (e : Entry). let o : Outcome Entry = Ok e in o) (sym entry)
