@@ -48,14 +48,15 @@ fn problem<R: AllocGlobal + CpuClock>(rt: &R, text: &[u8]) -> Option<Reported> {
     })
 }
 
-/// Splits a data file into tokens; returns their number and the capacity of the vector.
+/// Splits a data file into tokens; returns their number, twice.
 fn data<R: AllocGlobal + CpuClock>(rt: &R, text: &[u8]) -> Option<Reported> {
     let start = now(rt);
     let Ok(tokens) = lex_data(rt.alloc(), text) else {
         return None;
     };
     let lexed = now(rt);
-    let counts = (tokens.len(), 0, tokens.capacity());
+    let count = tokens.words().len();
+    let counts = (count, 0, count);
     Some(Reported {
         counts,
         times: (lexed.saturating_sub(start), 0),
@@ -69,12 +70,13 @@ fn tables<R: AllocGlobal + CpuClock>(rt: &R, text: &[u8]) -> Option<Reported> {
         return None;
     };
     let lexed = now(rt);
-    let Ok(tables) = parse_data(rt.alloc(), &tokens) else {
+    let Ok(tables) = parse_data(rt.alloc(), &tokens.words()) else {
         return None;
     };
     let parsed = now(rt);
-    let count = tables.statements.as_slice().len();
-    let counts = (tokens.len(), count, tokens.capacity());
+    let statements = tables.statements.as_slice().len();
+    let count = tokens.words().len();
+    let counts = (count, statements, count);
     Some(Reported {
         counts,
         times: (lexed.saturating_sub(start), parsed.saturating_sub(lexed)),

@@ -1,8 +1,7 @@
 -- The next token is the first behind the commas at the front.
-use Rattle.std.proofs.Common.{◌≡◌, ◌+◌, suc, Bool, true, false, cond, List, [], ◌∷◌, Option, Some, None, MatchOption, drop, refl, arith, ◌∙◌, ap, sym, length, Bor}
-use Rattle.std.specs.List.{IsFirstAndRest}
-use Rattle.std.proofs.lemmas.List.{nil_from_length}
+use Rattle.std.proofs.Common.{◌≡◌, ℕ, ◌+◌, suc, Bool, true, false, cond, List, [], ◌∷◌, Option, Some, None, MatchOption, drop, length, ◌<◌, refl, arith, ◌∙◌, ap, sym, length-drop}
 use Rattle.std.specs.List.{prefix_len}
+use Rattle.std.specs.Option.{IfSome}
 use Rattle.net_lex.specs.declared.token.Token.{Token}
 use Rattle.net_data.specs.Tests.{is_comma}
 use Rattle.net_data.specs.Reading.{front}
@@ -21,7 +20,12 @@ front_first [] = refl
 front_first (token ∷ tokens) = front_at token tokens (is_comma token) (front_first tokens)
 
 -- the same of what the split gives
-pub front_split : (tokens rest : List Token) (first : Option (Bor Token × Bor (List Token))) → rest ≡ drop (prefix_len is_comma tokens) tokens
-    → MatchOption first (length rest ≡ 0) (λ x. IsFirstAndRest rest x.0.now x.1.now) → MatchOption first (front tokens ≡ None) (λ x. front tokens ≡ Some (x.0.now, x.1.now))
-front_split tokens rest None back cases = front_first tokens ∙ ap first_of (sym back ∙ nil_from_length rest cases)
-front_split tokens rest (Some x) back cases = front_first tokens ∙ ap first_of (sym back ∙ cases.0)
+pub front_split : (tokens rest : List Token) (first : Option (Token × List Token)) → rest ≡ drop (prefix_len is_comma tokens) tokens
+    → MatchOption first (rest ≡ []) (λ x. rest ≡ x.0 ∷ x.1) → first ≡ front tokens
+front_split tokens rest None back cases = sym (front_first tokens ∙ ap first_of (sym back ∙ cases))
+front_split tokens rest (Some x) back cases = sym (front_first tokens ∙ ap first_of (sym back ∙ cases))
+
+pub front_shorter : (n : ℕ) (tokens rest : List Token) (first : Option (Token × List Token)) → rest ≡ drop n tokens
+    → MatchOption first (rest ≡ []) (λ x. rest ≡ x.0 ∷ x.1) → IfSome first (λ x. length x.1 < length tokens)
+front_shorter n tokens rest None back cases = tt
+front_shorter n tokens rest (Some x) back cases = omega (arith, ap length (sym cases ∙ back), length-drop n tokens)

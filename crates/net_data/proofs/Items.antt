@@ -1,8 +1,7 @@
 -- The members and tuples of a set, read token by token.
-use Rattle.std.proofs.Common.{◌≡◌, ℕ, suc, true, false, List, [], ◌∷◌, ◌++◌, Some, None, Ok, Err, refl, ap, sym, ◌∙◌, append_assoc, take, drop, length, ◌<◌, ◌+◌, get_or, add-one, ◌≤◌}
-use Rattle.std.proofs.Math.Seq.{drop-cons}
-use Rattle.std.proofs.lemmas.List.{append-nil, drop_all}
-use Rattle.std.proofs.Math.Seq.{take-suc}
+use Rattle.std.proofs.Common.{◌≡◌, ℕ, true, false, List, [], ◌∷◌, ◌++◌, Some, None, Ok, Err, refl, ap, sym, ◌∙◌, append_assoc, take, drop, ◌+◌}
+use Rattle.std.proofs.Math.Seq.{drop-drop, take-add}
+use Rattle.std.proofs.lemmas.List.{append-nil}
 use Rattle.net_data.specs.Commas.{in_set, bare}
 use Rattle.net_data.specs.Spots.{outside}
 use Rattle.net_lex.specs.declared.token.Token.{Token}
@@ -51,17 +50,14 @@ pub items_open : (spot : Spot) → rests spot ≡ false → items_from spot [] �
 unfolding items_from
 items_open spot k = rw k
 
-pub drop_at : (tokens : List Token) (i : ℕ) (token : Token) → i < length tokens → token ≡ get_or tokens i token → drop i tokens ≡ token ∷ drop (i + 1) tokens
-drop_at tokens i token lt is = rw (add-one, drop-cons tokens i token) (ap (λ t. t ∷ drop (suc i) tokens) (sym is))
-
-pub take_at : (tokens : List Token) (i : ℕ) (token : Token) → i < length tokens → token ≡ get_or tokens i token → take (i + 1) tokens ≡ take i tokens ++ token ∷ []
-take_at tokens i token lt is = rw (add-one, take-suc tokens i token) (ap (λ t. take i tokens ++ t ∷ []) (sym is))
-
-pub items_turn : (tokens : List Token) (i : ℕ) (all : Read (List Token)) (spot next : Spot) (token : Token) → i < length tokens → token ≡ get_or tokens i token
-    → all ≡ with_tokens (take i tokens) (items_from spot (drop i tokens)) → spot_after spot token ≡ Some next → all ≡ with_tokens (take (i + 1) tokens) (items_from next (drop (i + 1) tokens))
-items_turn tokens i all spot next token lt is reported h =
-    let here : all ≡ with_tokens (take i tokens) (items_from spot (token ∷ drop (i + 1) tokens)) = reported ∙ ap (λ r. with_tokens (take i tokens) (items_from spot r)) (drop_at tokens i token lt is) in
-    items_on (take i tokens) all spot next token (drop (i + 1) tokens) here h ∙ ap (λ x. with_tokens x (items_from next (drop (i + 1) tokens))) (sym (take_at tokens i token lt is))
+pub items_turn : (tokens : List Token) (n : ℕ) (all : Read (List Token)) (spot next : Spot) (token : Token) (left rest : List Token) → left ≡ drop n tokens → left ≡ token ∷ rest
+    → all ≡ with_tokens (take n tokens) (items_from spot left) → spot_after spot token ≡ Some next → (all ≡ with_tokens (take (n + 1) tokens) (items_from next rest)) × (rest ≡ drop (n + 1) tokens)
+items_turn tokens n all spot next token left rest here is reported h =
+    let dropped : drop n tokens ≡ token ∷ rest = sym here ∙ is in
+    let taken : take (n + 1) tokens ≡ take n tokens ++ token ∷ [] = take-add n 1 tokens ∙ ap (λ l. take n tokens ++ take 1 l) dropped in (
+      items_on (take n tokens) all spot next token rest (reported ∙ ap (λ r. with_tokens (take n tokens) (items_from spot r)) is) h ∙ ap (λ x. with_tokens x (items_from next rest)) (sym taken),
+      sym (sym (drop-drop 1 n tokens) ∙ ap (drop 1) dropped),
+    )
 
 -- how many there are is what is read
 pub items_counted : (tokens : List Token) (n : ℕ) → items_from outside tokens ≡ Ok (take n tokens, drop n tokens) → items tokens ≡ Ok (bare in_set (take n tokens), drop n tokens)
@@ -73,28 +69,24 @@ unfolding items
 items_rejected tokens e h = rw h
 
 -- no more tokens than so many are read, where the next one is none of them
-pub counted_over : (tokens : List Token) (len i : ℕ) (all : Read (List Token)) (spot : Spot) (token : Token) → i < length tokens → token ≡ get_or tokens i token → len ≡ i
-    → all ≡ with_tokens (take i tokens) (items_from spot (drop i tokens)) → spot_after spot token ≡ None → rests spot ≡ true → all ≡ Ok (take len tokens, drop len tokens)
-counted_over tokens len i all spot token lt is same reported h k =
-    let here : items_from spot (drop i tokens) ≡ Ok ([], drop i tokens) = rw (drop_at tokens i token lt is) (items_over spot token (drop (i + 1) tokens) h k) in
-    rw same (reported ∙ ap (with_tokens (take i tokens)) here ∙ ap (λ x. let r : Read (List Token) = Ok (x, drop i tokens) in r) (append-nil (take i tokens)))
+pub counted_over : (tokens : List Token) (n : ℕ) (all : Read (List Token)) (spot : Spot) (token : Token) (left rest : List Token) → left ≡ drop n tokens → left ≡ token ∷ rest
+    → all ≡ with_tokens (take n tokens) (items_from spot left) → spot_after spot token ≡ None → rests spot ≡ true → all ≡ Ok (take n tokens, drop n tokens)
+counted_over tokens n all spot token left rest here is reported h k =
+    reported ∙ ap (λ l. with_tokens (take n tokens) (items_from spot l)) is ∙ ap (with_tokens (take n tokens)) (items_over spot token rest h k)
+    ∙ ap (λ x. let r : Read (List Token) = Ok (x, token ∷ rest) in r) (append-nil (take n tokens)) ∙ ap (λ l. let r : Read (List Token) = Ok (take n tokens, l) in r) (sym is ∙ here)
 
-pub counted_stop : (tokens : List Token) (i : ℕ) (all : Read (List Token)) (spot : Spot) (token : Token) → i < length tokens → token ≡ get_or tokens i token
-    → all ≡ with_tokens (take i tokens) (items_from spot (drop i tokens)) → spot_after spot token ≡ None → rests spot ≡ false → all ≡ Err (stop DataSyntax (Some token.span))
-counted_stop tokens i all spot token lt is reported h k =
-    let here : items_from spot (drop i tokens) ≡ Err (stop DataSyntax (Some token.span)) = rw (drop_at tokens i token lt is) (items_stop spot token (drop (i + 1) tokens) h k) in
-    reported ∙ ap (with_tokens (take i tokens)) here
+pub counted_stop : (tokens : List Token) (n : ℕ) (all : Read (List Token)) (spot : Spot) (token : Token) (left rest : List Token) → left ≡ token ∷ rest
+    → all ≡ with_tokens (take n tokens) (items_from spot left) → spot_after spot token ≡ None → rests spot ≡ false → all ≡ Err (stop DataSyntax (Some token.span))
+counted_stop tokens n all spot token left rest is reported h k =
+    reported ∙ ap (λ l. with_tokens (take n tokens) (items_from spot l)) is ∙ ap (with_tokens (take n tokens)) (items_stop spot token rest h k)
 
-pub counted_end : (tokens : List Token) (len i : ℕ) (all : Read (List Token)) (spot : Spot) → length tokens ≤ i → len ≡ i
-    → all ≡ with_tokens (take i tokens) (items_from spot (drop i tokens)) → rests spot ≡ true → all ≡ Ok (take len tokens, drop len tokens)
-counted_end tokens len i all spot le same reported k =
-    let none : drop i tokens ≡ [] = drop_all i tokens le in
-    let here : items_from spot (drop i tokens) ≡ Ok ([], drop i tokens) = rw none (items_end spot k) in
-    rw same (reported ∙ ap (with_tokens (take i tokens)) here ∙ ap (λ x. let r : Read (List Token) = Ok (x, drop i tokens) in r) (append-nil (take i tokens)))
+pub counted_end : (tokens : List Token) (n : ℕ) (all : Read (List Token)) (spot : Spot) (left : List Token) → left ≡ drop n tokens → left ≡ []
+    → all ≡ with_tokens (take n tokens) (items_from spot left) → rests spot ≡ true → all ≡ Ok (take n tokens, drop n tokens)
+counted_end tokens n all spot left here is reported k =
+    reported ∙ ap (λ l. with_tokens (take n tokens) (items_from spot l)) is ∙ ap (with_tokens (take n tokens)) (items_end spot k)
+    ∙ ap (λ x. let r : Read (List Token) = Ok (x, []) in r) (append-nil (take n tokens)) ∙ ap (λ l. let r : Read (List Token) = Ok (take n tokens, l) in r) (sym is ∙ here)
 
-pub counted_open : (tokens : List Token) (i : ℕ) (all : Read (List Token)) (spot : Spot) → length tokens ≤ i
-    → all ≡ with_tokens (take i tokens) (items_from spot (drop i tokens)) → rests spot ≡ false → all ≡ Err (stop DataSyntax None)
-counted_open tokens i all spot le reported k =
-    let none : drop i tokens ≡ [] = drop_all i tokens le in
-    let here : items_from spot (drop i tokens) ≡ Err (stop DataSyntax None) = rw none (items_open spot k) in
-    reported ∙ ap (with_tokens (take i tokens)) here
+pub counted_open : (tokens : List Token) (n : ℕ) (all : Read (List Token)) (spot : Spot) (left : List Token) → left ≡ []
+    → all ≡ with_tokens (take n tokens) (items_from spot left) → rests spot ≡ false → all ≡ Err (stop DataSyntax None)
+counted_open tokens n all spot left is reported k =
+    reported ∙ ap (λ l. with_tokens (take n tokens) (items_from spot l)) is ∙ ap (with_tokens (take n tokens)) (items_open spot k)

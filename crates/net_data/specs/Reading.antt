@@ -1,7 +1,6 @@
 -- The statements that tokens are parsed as, or the first error.
 use Rattle.std.specs.Prelude.{◌≡◌, slice_get, ◌-◌, ℕ, suc, zero, ◌+◌, ◌%◌, ◌==◌, Bool, ◌||◌, List, [], ◌∷◌, length, take, drop, if◌then◌else◌, codes, Option, Some, None, Result, Ok, Err, IsOk}
 use Rattle.std.specs.List.{prefix_len}
-use Rattle.std.specs.Borrow.{Bor}
 use Rattle.std.specs.Option.{option_map}
 use Rattle.net_base.specs.declared.diagnostic.Span.{Span}
 use Rattle.net_lex.specs.declared.token.Token.{Token}
@@ -44,28 +43,19 @@ abbrev pub front : List Token → Option (Token × List Token)
 front [] = None
 front (token ∷ tokens) = if is_comma token then front tokens else Some (token, tokens)
 
--- the result of a function is the value and the remaining tokens that the definition gives, or its
--- error
-abbrev pub Reads : {A : Type 0} → Read A → Result (A × Bor (List Token)) ParseError → Type 0
-Reads read (Ok x) = read ≡ Ok (x.0, x.1.now)
-Reads read (Err e) = read ≡ Err e
-
-abbrev pub ReadsPair : {A B : Type 0} → Read (A × B) → Result (A × B × Bor (List Token)) ParseError → Type 0
-ReadsPair read (Ok x) = read ≡ Ok ((x.0, x.1), x.2.now)
+-- the result of a function is the value, in two parts, and the remaining tokens that the definition
+-- gives, or its error
+abbrev pub ReadsPair : {A B : Type 0} → Read (A × B) → Result (A × B × List Token) ParseError → Type 0
+ReadsPair read (Ok x) = read ≡ Ok ((x.0, x.1), x.2)
 ReadsPair read (Err e) = read ≡ Err e
 
-abbrev pub ReadsOption : {A : Type 0} → Result (Option (A × List Token)) ParseError → Result (Option (A × Bor (List Token))) ParseError → Type 0
-ReadsOption read (Ok None) = read ≡ Ok None
-ReadsOption read (Ok (Some x)) = read ≡ Ok (Some (x.0, x.1.now))
-ReadsOption read (Err e) = read ≡ Err e
-
--- the same, unless memory ran out
+-- the error that the definition gives, unless memory ran out
 abbrev pub Stops : {A : Type 0} → Result A ParseError → StatementStop → Type 0
 Stops read statement_stops.OutOfMemory = IsOk read
 Stops read (statement_stops.Reading e) = read ≡ Err e
 
-abbrev pub ReadsStated : {A : Type 0} → Read A → Result (A × Bor (List Token)) StatementStop → Type 0
-ReadsStated read (Ok x) = read ≡ Ok (x.0, x.1.now)
+abbrev pub ReadsStated : {A : Type 0} → Read A → Result (A × List Token) StatementStop → Type 0
+ReadsStated read (Ok x) = read ≡ Ok x
 ReadsStated read (Err e) = Stops read e
 
 abbrev pub ReadsOn : {A : Type 0} → Result (Option (A × List Token)) ParseError → List Token → Result (Option A) StatementStop → Type 0
@@ -74,8 +64,8 @@ ReadsOn read rest (Ok (Some x)) = read ≡ Ok (Some (x, rest))
 ReadsOn read rest (Err e) = Stops read e
 
 -- the value that was parsed is the result, and the tokens after it are left
-abbrev pub GoesAfter : {A : Type 0} → Result (A × Bor (List Token)) StatementStop → List Token → Result (Option A) StatementStop → Type 0
-GoesAfter (Ok x) rest result = (result ≡ Ok (Some x.0)) × (rest ≡ x.1.now)
+abbrev pub GoesAfter : {A : Type 0} → Result (A × List Token) StatementStop → List Token → Result (Option A) StatementStop → Type 0
+GoesAfter (Ok x) rest result = (result ≡ Ok (Some x.0)) × (rest ≡ x.1)
 GoesAfter (Err e) rest result = result ≡ Err e
 
 -- the position after the last token
@@ -107,18 +97,10 @@ abbrev pub Answers : ℕ → {A : Type 0} → Result A ParseError → Result A F
 Answers end read (Ok x) = read ≡ Ok x
 Answers end read (Err fault) = Fails end read fault
 
-abbrev pub AnswersRest : ℕ → {A : Type 0} → Read A → Result (A × Bor (List Token)) Fault → Type 0
-AnswersRest end read (Ok x) = read ≡ Ok (x.0, x.1.now)
-AnswersRest end read (Err fault) = Fails end read fault
-
 -- the number of tokens that are parsed
 abbrev pub CountsItems : List Token → Read (List Token) → Result ℕ ParseError → Type 0
 CountsItems tokens read (Ok n) = read ≡ Ok (take n tokens, drop n tokens)
 CountsItems tokens read (Err e) = read ≡ Err e
-
-abbrev pub Finds : Option (Token × List Token) → Option (Bor Token × Bor (List Token)) → Type 0
-Finds next None = next ≡ None
-Finds next (Some x) = next ≡ Some (x.0.now, x.1.now)
 
 -- the next token, if it satisfies a test
 abbrev pub met_by : (Token → Bool) → Option (Token × List Token) → Option (Token × List Token)

@@ -7,14 +7,14 @@ ghost use Rattle.net_data.specs.Tests.{is_of};
 
 use crate::expected_token::{Expected, is_comma, is_of};
 use net_base::{Items, Span};
-use net_lex::Token;
+use net_lex::{Word, Words};
 use std::alloc::{AllocError, Global};
 use std::marker::Model;
 
 /// Consecutive tokens with commas anywhere among them; contracts see the tokens without the commas.
 #[derive(Drop)]
 pub struct Cells<'t, 's> {
-    tokens: &'t [Token<'s>],
+    tokens: Words<'t, 's>,
 }
 
 impl<'t, 's> Model for Cells<'t, 's> {
@@ -24,12 +24,12 @@ impl<'t, 's> Model for Cells<'t, 's> {
 
     ghost Value = { List Token };
 
-    ghost view = { λ cells. uncommaed cells.tokens.now };
+    ghost view = { λ cells. uncommaed cells.tokens };
 }
 
 impl<'t, 's> Cells<'t, 's> {
-    pub(crate) fn new(tokens: &'t [Token<'s>]) -> Cells<'t, 's>
-        ensures { result ≡ uncommaed tokens.now }
+    pub(crate) fn new(tokens: Words<'t, 's>) -> Cells<'t, 's>
+        ensures { result ≡ uncommaed tokens.entry }
     {
         Cells { tokens }
     }
@@ -39,21 +39,21 @@ impl<'t, 's> Cells<'t, 's> {
         ensures value { result ≡ length self.now }
         ensures room { result + 1 < 2 ^ 64 }
     {
-        cell_count(self.tokens)
+        cell_count(&self.tokens)
     }
 
     /// Returns the span of the last cell.
     pub(crate) fn last_span(&self) -> Option<Span>
         ensures { result ≡ last_span self.now }
     {
-        last_span(self.tokens)
+        last_span(&self.tokens)
     }
 
     /// Appends the cells to a list. Fails only if memory runs out.
     pub fn push_to(&self, words: &mut Vec<Word<'t, 's>>) -> Result<(), AllocError>
         ensures { OnOk result (words.new.items ≡ words.old.items ++ self.now) }
     {
-        push_cells(self.tokens, words)
+        push_cells(&self.tokens, words)
     }
 
     /// Returns the list of the cells. Fails only if memory runs out.
@@ -67,92 +67,57 @@ impl<'t, 's> Cells<'t, 's> {
 }
 
 fn push_cells<'t, 's>(
-    tokens: &'t [Token<'s>],
+    tokens: &Words<'t, 's>,
     words: &mut Vec<Word<'t, 's>>,
 ) -> Result<(), AllocError>
-    ensures { OnOk result (words.new.items ≡ words.old.items ++ uncommaed tokens.entry.now) }
+    ensures { OnOk result (words.new.items ≡ words.old.items ++ uncommaed tokens.now) }
 {
-    'tokens: for token in tokens {
-        if !is_comma(token) {
-            words.push(Word::new(token))?;
+    'tokens: for token in tokens.copied() {
+        if !is_comma(&token) {
+            words.push(token)?;
         }
     }
     Ok(())
 }
 
-fn cell_count(tokens: &[Token<'_>]) -> usize
+fn cell_count(tokens: &Words<'_, '_>) -> usize
     ensures value { result ≡ length (uncommaed tokens.now) }
     ensures room { result + 1 < 2 ^ 64 }
 {
-    tokens.iter().filter(|token| !is_comma(token)).count()
+    tokens.copied().filter(|token| !is_comma(token)).count()
 }
 
-fn last_span(tokens: &[Token<'_>]) -> Option<Span>
+fn last_span(tokens: &Words<'_, '_>) -> Option<Span>
     ensures { result ≡ last_span (uncommaed tokens.now) }
 {
     let mut found = None;
-    'tokens: for token in tokens {
-        if !is_comma(token) {
-            found = Some(token.span);
+    'tokens: for token in tokens.copied() {
+        if !is_comma(&token) {
+            found = Some(token.span());
         }
     }
     found
 }
 
-/// A token of a data file, which contracts see as that token.
-#[derive(Drop)]
-pub struct Word<'t, 's> {
-    token: &'t Token<'s>,
-}
-
-impl<'t, 's> Model for Word<'t, 's> {
-    ghost use Rattle.net_lex.specs.declared.token.Token.{Token};
-
-    ghost Value = { Token };
-
-    ghost view = { λ word. word.token.now };
-}
-
-impl<'t, 's> Word<'t, 's> {
-    pub(crate) fn new(token: &'t Token<'s>) -> Word<'t, 's>
-        ensures { result ≡ token.now }
-    {
-        Word { token }
-    }
-
-    /// Returns the token, with its span in the text.
-    pub fn token(&self) -> &'t Token<'s>
-        ensures { result.now ≡ self.now }
-    {
-        self.token
-    }
-
-    /// Returns a copy of the reference.
-    pub fn copied(&self) -> Word<'t, 's>
-        ensures { result ≡ self.now }
-    {
-        Word { token: self.token }
-    }
-}
-
-fn run_len(sort: Expected, tokens: &[Token<'_>]) -> usize
+fn run_len(sort: Expected, tokens: &Words<'_, '_>) -> usize
     ensures value { result ≡ run_len (is_of sort) tokens.now }
     ensures within { result ≤ length tokens.now }
 {
-    tokens
-        .iter()
-        .take_while(|token| is_of(sort, token) || is_comma(token))
-        .count()
+    let mut len = 0;
+    'tokens: for token in tokens.copied() {
+        if !is_of(sort, &token) && !is_comma(&token) {
+            return len;
+        }
+        len += 1;
+    }
+    len
 }
 
 /// Splits off the leading tokens of a sort.
 #[tactic(auto, unfolding(crate::specs::Reading::run))]
-pub(crate) fn run<'t, 's>(
-    sort: Expected,
-    tokens: &'t [Token<'s>],
-) -> (Cells<'t, 's>, &'t [Token<'s>])
-    ensures value { (result.0, result.1.now) ≡ run (is_of sort) tokens.entry.now }
-    ensures within { length result.1.now ≤ length tokens.entry.now }
+pub(crate) fn run<'t, 's>(sort: Expected, tokens: &Words<'t, 's>) -> (Cells<'t, 's>, Words<'t, 's>)
+    ensures value { result ≡ run (is_of sort) tokens.now }
+    ensures within { length result.1 ≤ length tokens.now }
 {
     let (found, rest) = tokens.split_at(run_len(sort, tokens));
     (Cells::new(found), rest)

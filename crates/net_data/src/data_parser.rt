@@ -2,7 +2,7 @@
 
 ghost use Rattle.std.specs.Prelude.{◌≡◌, ◌<◌, ◌≤◌, length, suc, IfOk, IfErr, IfSome, IfNone, ℕ, List, [], ◌∷◌, Ok, take, drop};
 ghost use Rattle.net_data.specs.Reading.{statement, statements, single_by, met, finished, tables, end_of};
-ghost use Rattle.net_data.specs.Reading.{fault_of, statement_fault, Reads, GoesAfter, ReadsOn, Answers, AnswersRest};
+ghost use Rattle.net_data.specs.Reading.{fault_of, statement_fault, GoesAfter, ReadsOn, Answers};
 ghost use Rattle.net_data.specs.Tests.{is_of};
 ghost use Rattle.net_data.specs.Meaning.{Mean, all_judged, checked};
 ghost use Rattle.net_data.specs.Rejections.{IsRejection};
@@ -13,23 +13,22 @@ ghost use Rattle.net_lex.specs.declared.token.Token.{Token};
 ghost use Rattle.net_data.specs.GoingOn.{NoneGoOn, AllBegin};
 ghost use Rattle.net_data.specs.GrammarLaws.{IsComplete, IsSound, IsUnambiguous};
 
-use crate::cells::Word;
 use crate::expected_token::Expected;
-use crate::next_token::{front, met, same, wanted};
+use crate::next_token::{front, met, wanted};
 use crate::param_statement::param;
 use crate::set_statement::set;
 use crate::statement::{Single, Stated, Statement, Tables, push};
 use net_base::{Boxed, ErrorCode, Fault, Items, Span};
-use net_lex::Token;
+use net_lex::Words;
 use std::alloc::{AllocError, Global};
 
 /// Returns the position after the last token.
-fn end_of(tokens: &[Token<'_>]) -> usize
+fn end_of(tokens: &Words<'_, '_>) -> usize
     ensures { result ≡ end_of tokens.now }
 {
     match tokens.last() {
         None => 0,
-        Some(token) => token.span.end,
+        Some(token) => token.span().end,
     }
 }
 
@@ -56,7 +55,7 @@ fn statement_fault(stop: StatementStop, end: usize) -> Fault
 /// The tokens that are not yet parsed.
 #[derive(Drop)]
 struct Unread<'t, 's> {
-    tokens: &'t [Token<'s>],
+    tokens: Words<'t, 's>,
 }
 
 impl<'t, 's> Unread<'t, 's> {
@@ -65,10 +64,10 @@ impl<'t, 's> Unread<'t, 's> {
         &mut self,
         stated: Result<Stated<'t, 's>, StatementStop>,
     ) -> Result<Option<Boxed<Statement<'t, 's>>>, StatementStop>
-        ensures { GoesAfter stated.entry self.new.tokens.now result }
+        ensures { GoesAfter stated.entry self.new.tokens result }
     {
         let (found, rest) = stated?;
-        self.tokens = same(rest);
+        self.tokens = rest;
         Ok(Some(found))
     }
 
@@ -78,16 +77,16 @@ impl<'t, 's> Unread<'t, 's> {
         &mut self,
         alloc: Global,
     ) -> Result<Option<Boxed<Statement<'t, 's>>>, StatementStop>
-        ensures value { ReadsOn (statement self.old.tokens.now) self.new.tokens.now result }
-        ensures left { IfOk result (λ o. IfNone o (self.new.tokens.now ≡ self.old.tokens.now)) }
-        ensures shorter { IfOk result (λ o. IfSome o (λ x. length self.new.tokens.now < length self.old.tokens.now)) }
+        ensures value { ReadsOn (statement self.old.tokens) self.new.tokens result }
+        ensures left { IfOk result (λ o. IfNone o (self.new.tokens ≡ self.old.tokens)) }
+        ensures shorter { IfOk result (λ o. IfSome o (λ x. length self.new.tokens < length self.old.tokens)) }
     {
-        if let Some((keyword, rest)) = met(Expected::Set, self.tokens) {
-            return self.behind(set(alloc, Word::new(keyword), rest));
+        if let Some((keyword, rest)) = met(Expected::Set, &self.tokens) {
+            return self.behind(set(alloc, keyword, &rest));
         }
-        match met(Expected::Param, self.tokens) {
+        match met(Expected::Param, &self.tokens) {
             None => Ok(None),
-            Some((keyword, rest)) => self.behind(param(alloc, Word::new(keyword), rest)),
+            Some((keyword, rest)) => self.behind(param(alloc, keyword, &rest)),
         }
     }
 }
@@ -96,12 +95,14 @@ impl<'t, 's> Unread<'t, 's> {
 fn statements<'t, 's>(
     alloc: Global,
     end: usize,
-    tokens: &'t [Token<'s>],
-) -> Result<(Items<Statement<'t, 's>>, &'t [Token<'s>]), Fault>
-    ensures { AnswersRest end (statements (suc (length tokens.entry.now)) tokens.entry.now) result }
+    tokens: &Words<'t, 's>,
+) -> Result<(Items<Statement<'t, 's>>, Words<'t, 's>), Fault>
+    ensures { Answers end (statements (suc (length tokens.now)) tokens.now) result }
 {
     let mut statements = Vec::new(alloc);
-    let mut unread = Unread { tokens };
+    let mut unread = Unread {
+        tokens: tokens.copied(),
+    };
     'statements: loop {
         match unread.statement(alloc) {
             Err(stop) => return Err(statement_fault(stop, end)),
@@ -114,15 +115,14 @@ fn statements<'t, 's>(
 /// Parses a keyword with its semicolon, if it comes next; also returns the remaining tokens.
 fn single<'t, 's>(
     sort: Expected,
-    tokens: &'t [Token<'s>],
-) -> Result<(Option<Single<'t, 's>>, &'t [Token<'s>]), ParseError>
-    ensures { Reads (single_by tokens.entry.now (met (is_of sort) tokens.entry.now)) result }
+    tokens: &Words<'t, 's>,
+) -> Result<(Option<Single<'t, 's>>, Words<'t, 's>), ParseError>
+    ensures { result ≡ single_by tokens.now (met (is_of sort) tokens.now) }
 {
     match met(sort, tokens) {
-        None => Ok((None, tokens)),
+        None => Ok((None, tokens.copied())),
         Some((word, rest)) => {
-            let (end, rest) = wanted(Expected::Semicolon, rest)?;
-            let word = Word::new(word);
+            let (end, rest) = wanted(Expected::Semicolon, &rest)?;
             Ok((Some(Single { word, end }), rest))
         }
     }
@@ -130,14 +130,14 @@ fn single<'t, 's>(
 
 /// Returns an error unless nothing but commas follows.
 #[tactic(auto, unfolding(crate::specs::Reading::finished))]
-fn finished(tokens: &[Token<'_>]) -> Result<(), ParseError>
+fn finished(tokens: &Words<'_, '_>) -> Result<(), ParseError>
     ensures { result ≡ finished tokens.now }
 {
     match front(tokens) {
         None => Ok(()),
         Some((token, _)) => Err(ParseError {
             error_code: ErrorCode::DataSyntax,
-            at: Some(token.span),
+            at: Some(token.span()),
         }),
     }
 }
@@ -147,20 +147,20 @@ fn finished(tokens: &[Token<'_>]) -> Result<(), ParseError>
 fn tables<'t, 's>(
     alloc: Global,
     end: usize,
-    tokens: &'t [Token<'s>],
+    tokens: &Words<'t, 's>,
 ) -> Result<Tables<'t, 's>, Fault>
-    ensures { Answers end (tables tokens.entry.now) result }
+    ensures { Answers end (tables tokens.now) result }
 {
     let (opening, rest) = match single(Expected::Data, tokens) {
         Ok(found) => found,
         Err(stop) => return Err(fault_of(stop, end)),
     };
-    let (statements, rest) = statements(alloc, end, rest)?;
-    let (ending, rest) = match single(Expected::End, rest) {
+    let (statements, rest) = statements(alloc, end, &rest)?;
+    let (ending, rest) = match single(Expected::End, &rest) {
         Ok(found) => found,
         Err(stop) => return Err(fault_of(stop, end)),
     };
-    match finished(rest) {
+    match finished(&rest) {
         Err(stop) => Err(fault_of(stop, end)),
         Ok(()) => Ok(Tables {
             opening,
@@ -174,17 +174,17 @@ fn tables<'t, 's>(
 /// The first error is `DataSyntax` at the first token that is not allowed, or at the end of the last
 /// one; `TableWidth` at the `:=` of a heading without a column or a name; or `RowWidth` at the last
 /// cell of a table that does not fill complete rows.
-pub fn parse_data<'t, 's>(alloc: Global, tokens: &'t [Token<'s>]) -> Result<Tables<'t, 's>, Fault>
-    ensures ok { IfOk result (λ x. Mean tokens.entry.now x) }
+pub fn parse_data<'t, 's>(alloc: Global, tokens: &Words<'t, 's>) -> Result<Tables<'t, 's>, Fault>
+    ensures ok { IfOk result (λ x. Mean tokens.now x) }
     // The tables of a successful result have no error.
     ensures full { IfOk result (λ x. all_judged x.statements ≡ Ok tt) }
-    ensures rejected { IfErr result (IsRejection tokens.entry.now) }
+    ensures rejected { IfErr result (IsRejection tokens.now) }
     // If the tokens are statements, the result is these statements, or the first error in their
     // tables.
-    ensures complete { (x : Tables) → Mean tokens.entry.now x
-        → Answers (end_of tokens.entry.now) (checked x) result }
+    ensures complete { (x : Tables) → Mean tokens.now x
+        → Answers (end_of tokens.now) (checked x) result }
     // Which error is the first, and its span.
-    ensures place { Answers (end_of tokens.entry.now) (tables tokens.entry.now) result }
+    ensures place { Answers (end_of tokens.now) (tables tokens.now) result }
 {
     tables(alloc, end_of(tokens), tokens)
 }

@@ -3,7 +3,7 @@
 ghost use Rattle.std.specs.Prelude.{◌≡◌};
 ghost use Rattle.net_data.specs.Tests.{is_name, is_member, is_cell, is_word, is_mark, is_comma, is_of};
 
-use net_lex::{Kind, Token};
+use net_lex::{Kind, Word};
 
 /// The sort of a token.
 #[derive(Clone, Copy)]
@@ -38,37 +38,37 @@ pub enum Expected {
     Transposed,
 }
 
-fn is_name(token: &Token<'_>) -> bool
+fn is_name(token: &Word<'_, '_>) -> bool
     ensures { result ≡ is_name token.now }
 {
-    match token.kind {
+    match token.kind() {
         Kind::Name => true,
         Kind::Key | Kind::Num | Kind::Str | Kind::Mark | Kind::Dot => false,
     }
 }
 
 /// Returns whether a token is a name, a number or a string.
-pub(crate) fn is_member(token: &Token<'_>) -> bool
+pub(crate) fn is_member(token: &Word<'_, '_>) -> bool
     ensures { result ≡ is_member token.now }
 {
-    match token.kind {
+    match token.kind() {
         Kind::Name | Kind::Num | Kind::Str => true,
         Kind::Key | Kind::Mark | Kind::Dot => false,
     }
 }
 
 /// Returns whether a token is a member or the missing-value dot.
-fn is_cell(token: &Token<'_>) -> bool
+fn is_cell(token: &Word<'_, '_>) -> bool
     ensures { result ≡ is_cell token.now }
 {
-    match token.kind {
+    match token.kind() {
         Kind::Name | Kind::Num | Kind::Str | Kind::Dot => true,
         Kind::Key | Kind::Mark => false,
     }
 }
 
 /// Returns whether a token is of this sort.
-pub(crate) fn is_of(sort: Expected, token: &Token<'_>) -> bool
+pub(crate) fn is_of(sort: Expected, token: &Word<'_, '_>) -> bool
     ensures { result ≡ is_of sort token.now }
 {
     match sort {
@@ -90,26 +90,26 @@ pub(crate) fn is_of(sort: Expected, token: &Token<'_>) -> bool
 }
 
 /// Returns whether a token is this name.
-pub(crate) fn is_word(text: &[u8], token: &Token<'_>) -> bool
+pub(crate) fn is_word(text: &[u8], token: &Word<'_, '_>) -> bool
     ensures { result ≡ is_word text.now token.now }
 {
-    match token.kind {
-        Kind::Name => text == token.text.as_str().as_bytes(),
+    match token.kind() {
+        Kind::Name => text == token.text().as_str().as_bytes(),
         Kind::Key | Kind::Num | Kind::Str | Kind::Mark | Kind::Dot => false,
     }
 }
 
 /// Returns whether a token is this punctuation.
-pub(crate) fn is_mark(text: &[u8], token: &Token<'_>) -> bool
+pub(crate) fn is_mark(text: &[u8], token: &Word<'_, '_>) -> bool
     ensures { result ≡ is_mark text.now token.now }
 {
-    match token.kind {
-        Kind::Mark => text == token.text.as_str().as_bytes(),
+    match token.kind() {
+        Kind::Mark => text == token.text().as_str().as_bytes(),
         Kind::Key | Kind::Name | Kind::Num | Kind::Str | Kind::Dot => false,
     }
 }
 
-pub(crate) fn is_comma(token: &Token<'_>) -> bool
+pub(crate) fn is_comma(token: &Word<'_, '_>) -> bool
     ensures { result ≡ is_comma token.now }
 {
     is_mark(b",", token)

@@ -1,31 +1,31 @@
 //! The heading and the cells of a table.
 ghost use Rattle.std.specs.Prelude.{◌≡◌, ◌<◌, ◌≤◌, ◌+◌, ◌^◌, length, IfOk, Result, Ok, Err};
 ghost use Rattle.net_data.specs.Tests.{is_of};
-ghost use Rattle.net_data.specs.Reading.{cells, heading, headed, check_rows, Reads, ReadsPair};
+ghost use Rattle.net_data.specs.Reading.{cells, heading, headed, check_rows, ReadsPair};
 
-use crate::cells::{Cells, Word, run};
+use crate::cells::{Cells, run};
 use crate::data_parser::ParseError;
 use crate::expected_token::Expected;
 use crate::next_token::wanted;
 use net_base::ErrorCode;
-use net_lex::Token;
+use net_lex::{Word, Words};
 
 /// Cells, the punctuation after them, and the remaining tokens.
-pub(crate) type Row<'t, 's> = (Cells<'t, 's>, Word<'t, 's>, &'t [Token<'s>]);
+pub(crate) type Row<'t, 's> = (Cells<'t, 's>, Word<'t, 's>, Words<'t, 's>);
 
 /// Returns a heading up to its `:=`, or an error if it has no column.
 fn headed<'t, 's>(
     columns: Cells<'t, 's>,
     assign: Word<'t, 's>,
-    tokens: &'t [Token<'s>],
+    tokens: Words<'t, 's>,
 ) -> Result<Row<'t, 's>, ParseError>
-    ensures value { ReadsPair (headed columns.entry assign.entry tokens.entry.now) result }
-    ensures same { IfOk result (λ x. x.2.now ≡ tokens.entry.now) }
+    ensures value { ReadsPair (headed columns.entry assign.entry tokens.entry) result }
+    ensures same { IfOk result (λ x. x.2 ≡ tokens.entry) }
 {
     if columns.len() == 0 {
         return Err(ParseError {
             error_code: ErrorCode::TableWidth,
-            at: Some(assign.token().span),
+            at: Some(assign.span()),
         });
     }
     Ok((columns, assign, tokens))
@@ -35,24 +35,24 @@ fn headed<'t, 's>(
 #[tactic(auto, unfolding(crate::specs::Reading::heading))]
 pub(crate) fn heading<'t, 's>(
     sort: Expected,
-    tokens: &'t [Token<'s>],
+    tokens: &Words<'t, 's>,
 ) -> Result<Row<'t, 's>, ParseError>
-    ensures value { ReadsPair (heading (is_of sort) tokens.entry.now) result }
-    ensures shorter { IfOk result (λ x. length x.2.now < length tokens.entry.now) }
+    ensures value { ReadsPair (heading (is_of sort) tokens.now) result }
+    ensures shorter { IfOk result (λ x. length x.2 < length tokens.now) }
 {
     let (columns, rest) = run(sort, tokens);
-    let (assign, rest) = wanted(Expected::Assign, rest)?;
+    let (assign, rest) = wanted(Expected::Assign, &rest)?;
     headed(columns, assign, rest)
 }
 
 /// Parses cells up to the semicolon.
 #[tactic(auto, unfolding(crate::specs::Reading::cells))]
-pub(crate) fn cells<'t, 's>(tokens: &'t [Token<'s>]) -> Result<Row<'t, 's>, ParseError>
-    ensures value { ReadsPair (cells tokens.entry.now) result }
-    ensures shorter { IfOk result (λ x. length x.2.now < length tokens.entry.now) }
+pub(crate) fn cells<'t, 's>(tokens: &Words<'t, 's>) -> Result<Row<'t, 's>, ParseError>
+    ensures value { ReadsPair (cells tokens.now) result }
+    ensures shorter { IfOk result (λ x. length x.2 < length tokens.now) }
 {
     let (cells, rest) = run(Expected::Cell, tokens);
-    let (end, rest) = wanted(Expected::Semicolon, rest)?;
+    let (end, rest) = wanted(Expected::Semicolon, &rest)?;
     Ok((cells, end, rest))
 }
 

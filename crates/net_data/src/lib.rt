@@ -11,7 +11,7 @@ mod param_statement;
 mod set_statement;
 mod statement;
 
-pub use cells::{Cells, Word};
+pub use cells::Cells;
 pub use data_parser::{
     grammar_is_complete, grammar_is_sound, grammar_is_unambiguous, group_by_group,
     no_statements_go_on, one_meaning, parse_data, set_row_by_row,

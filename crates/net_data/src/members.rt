@@ -8,14 +8,14 @@ ghost use Rattle.net_data.specs.Spots.{spot_after, rests};
 
 use crate::cells::Cells;
 use crate::expected_token::{is_comma, is_mark, is_member};
-use crate::next_token::front;
-use net_lex::Token;
+use crate::next_token::{behind_commas, front};
+use net_lex::{Word, Words};
 use std::marker::Model;
 
 /// The members and tuples of a set; contracts see their tokens, without the commas outside tuples.
 #[derive(Drop)]
 pub struct Members<'t, 's> {
-    tokens: &'t [Token<'s>],
+    tokens: Words<'t, 's>,
 }
 
 impl<'t, 's> Model for Members<'t, 's> {
@@ -25,12 +25,12 @@ impl<'t, 's> Model for Members<'t, 's> {
 
     ghost Value = { List Token };
 
-    ghost view = { λ members. bare in_set members.tokens.now };
+    ghost view = { λ members. bare in_set members.tokens };
 }
 
 impl<'t, 's> Members<'t, 's> {
-    pub(crate) fn new(tokens: &'t [Token<'s>]) -> Members<'t, 's>
-        ensures { result ≡ bare in_set tokens.now }
+    pub(crate) fn new(tokens: Words<'t, 's>) -> Members<'t, 's>
+        ensures { result ≡ bare in_set tokens.entry }
     {
         Members { tokens }
     }
@@ -41,8 +41,9 @@ impl<'t, 's> Members<'t, 's> {
     pub fn copied(&self) -> Members<'t, 's>
         ensures { result ≡ self.now }
     {
+        let tokens = &self.tokens;
         Members {
-            tokens: self.tokens,
+            tokens: tokens.copied(),
         }
     }
 
@@ -50,14 +51,14 @@ impl<'t, 's> Members<'t, 's> {
     pub fn first(&self) -> Option<Cells<'t, 's>>
         ensures { result ≡ first_item self.now }
     {
-        first_item(self.tokens)
+        first_item(&self.tokens)
     }
 
     /// Returns whether the first item is a tuple.
     pub fn begins_tuple(&self) -> bool
         ensures { result ≡ begins_tuple self.now }
     {
-        begins_tuple(self.tokens)
+        begins_tuple(&self.tokens)
     }
 
     /// Returns the items after the first one.
@@ -65,56 +66,62 @@ impl<'t, 's> Members<'t, 's> {
         ensures value { result ≡ more_items self.now }
         ensures items { AreItems self.now → AreItems result }
     {
-        more_items(self.tokens)
+        more_items(&self.tokens)
     }
 }
 
-fn begins_tuple(tokens: &[Token<'_>]) -> bool
+fn begins_tuple(tokens: &Words<'_, '_>) -> bool
     ensures { result ≡ begins_tuple (bare in_set tokens.now) }
 {
     match front(tokens) {
         None => false,
-        Some((token, _)) => is_mark(b"(", token),
+        Some((token, _)) => is_mark(b"(", &token),
     }
 }
 
 /// Returns the number of tokens of a tuple before its `)`.
-fn inside_len(tokens: &[Token<'_>]) -> usize
+fn inside_len(tokens: &Words<'_, '_>) -> usize
     ensures value { result ≡ inside_len tokens.now }
     ensures within { result ≤ length tokens.now }
 {
-    tokens
-        .iter()
-        .take_while(|token| !is_mark(b")", token))
-        .count()
+    let mut len = 0;
+    'tokens: for token in tokens.copied() {
+        if is_mark(b")", &token) {
+            return len;
+        }
+        len += 1;
+    }
+    len
 }
 
-fn first_item<'t, 's>(tokens: &'t [Token<'s>]) -> Option<Cells<'t, 's>>
-    ensures { result ≡ first_item (bare in_set tokens.entry.now) }
+fn first_item<'t, 's>(tokens: &Words<'t, 's>) -> Option<Cells<'t, 's>>
+    ensures { result ≡ first_item (bare in_set tokens.now) }
 {
-    match front(tokens) {
+    let items = behind_commas(tokens);
+    match items.split_first() {
         None => None,
         Some((token, rest)) => {
-            if is_mark(b"(", token) {
-                let (inside, _) = rest.split_at(inside_len(rest));
+            if is_mark(b"(", &token) {
+                let (inside, _) = rest.split_at(inside_len(&rest));
                 return Some(Cells::new(inside));
             }
-            Some(Cells::new(std::slice::from_ref(token)))
+            let (alone, _) = items.split_at(1);
+            Some(Cells::new(alone))
         }
     }
 }
 
-fn more_items<'t, 's>(tokens: &'t [Token<'s>]) -> Members<'t, 's>
-    ensures { result ≡ more_items (bare in_set tokens.entry.now) }
+fn more_items<'t, 's>(tokens: &Words<'t, 's>) -> Members<'t, 's>
+    ensures { result ≡ more_items (bare in_set tokens.now) }
 {
     match front(tokens) {
-        None => Members::new(tokens),
+        None => Members::new(tokens.copied()),
         Some((token, rest)) => {
-            if is_mark(b"(", token) {
-                let (_, closed) = rest.split_at(inside_len(rest));
-                return Members::new(after_first(closed));
+            if is_mark(b"(", &token) {
+                let (_, closed) = rest.split_at(inside_len(&rest));
+                return Members::new(after_first(&closed));
             }
-            if is_mark(b";", token) {
+            if is_mark(b";", &token) {
                 let (_, none) = rest.split_at(rest.len());
                 return Members::new(none);
             }
@@ -123,10 +130,13 @@ fn more_items<'t, 's>(tokens: &'t [Token<'s>]) -> Members<'t, 's>
     }
 }
 
-fn after_first<'t, 's>(tokens: &'t [Token<'s>]) -> &'t [Token<'s>]
-    ensures { result.now ≡ drop 1 tokens.entry.now }
+fn after_first<'t, 's>(tokens: &Words<'t, 's>) -> Words<'t, 's>
+    ensures { result ≡ drop 1 tokens.now }
 {
-    tokens.get(1..).unwrap_or(tokens)
+    match tokens.split_first() {
+        None => tokens.copied(),
+        Some((_, rest)) => rest,
+    }
 }
 
 /// The position of a token in the items of a set, as far as it determines which tokens can follow.
@@ -146,12 +156,12 @@ pub enum Spot {
 
 impl Spot {
     /// Returns the position after a token, or `None` if the token is not allowed here.
-    pub fn after(self, token: &Token<'_>) -> Option<Spot>
+    pub fn after(self, token: &Word<'_, '_>) -> Option<Spot>
         ensures { result ≡ spot_after self token.now }
     {
         match self {
             Spot::Outside if is_member(token) || is_comma(token) => Some(Spot::Outside),
-            Spot::Outside if is_mark(b"(", token) => Some(Spot::Opened),
+            Spot::Outside if is_mark(b"(", &token) => Some(Spot::Opened),
             Spot::Outside => None,
             Spot::Opened if is_member(token) => Some(Spot::First),
             Spot::Opened => None,

@@ -1,8 +1,7 @@
 //! `param` statements: lists, tables and columns.
 ghost use Rattle.std.specs.Prelude.{◌≡◌, ◌<◌, ◌≤◌, length, IfOk, IfSome};
-ghost use Rattle.net_data.specs.Reading.{table, turned, listed, list, body, default, named, named_set, columns, param, Reads, ReadsStated};
+ghost use Rattle.net_data.specs.Reading.{table, turned, listed, list, body, default, named, named_set, columns, param, ReadsStated};
 
-use crate::cells::Word;
 use crate::data_parser::{ParseError, StatementStop};
 use crate::expected_token::Expected;
 use crate::heading::{cells, check_rows, heading};
@@ -11,7 +10,7 @@ use crate::statement::{
     ColumnsStatement, DefaultValue, Given, ListStatement, NamedSet, Stated, Statement,
     TableStatement, Transposed, stated,
 };
-use net_lex::Token;
+use net_lex::{Word, Words};
 use std::alloc::Global;
 
 /// The part of a parameter's statement before its cells.
@@ -29,14 +28,14 @@ fn table<'t, 's>(
     parameter: Parameter<'t, 's>,
     transposed: Option<Transposed<'t, 's>>,
     colon: Word<'t, 's>,
-    tokens: &'t [Token<'s>],
+    tokens: &Words<'t, 's>,
 ) -> Result<Stated<'t, 's>, StatementStop>
-    ensures value { ReadsStated (table parameter.entry.keyword parameter.entry.name parameter.entry.default transposed.entry colon.entry tokens.entry.now)
+    ensures value { ReadsStated (table parameter.entry.keyword parameter.entry.name parameter.entry.default transposed.entry colon.entry tokens.now)
         result }
-    ensures shorter { IfOk result (λ x. length x.1.now < length tokens.entry.now) }
+    ensures shorter { IfOk result (λ x. length x.1 < length tokens.now) }
 {
     let (columns, assign, rest) = heading(Expected::Member, tokens)?;
-    let (cells, end, rest) = cells(rest)?;
+    let (cells, end, rest) = cells(&rest)?;
     check_rows(&columns, &cells)?;
     let columns = columns.words(alloc)?;
     let cells = cells.words(alloc)?;
@@ -65,20 +64,20 @@ fn turned<'t, 's>(
     alloc: Global,
     parameter: Parameter<'t, 's>,
     opening: Word<'t, 's>,
-    tokens: &'t [Token<'s>],
+    tokens: &Words<'t, 's>,
 ) -> Result<Stated<'t, 's>, StatementStop>
-    ensures value { ReadsStated (turned parameter.entry.keyword parameter.entry.name parameter.entry.default opening.entry tokens.entry.now) result }
-    ensures shorter { IfOk result (λ x. length x.1.now < length tokens.entry.now) }
+    ensures value { ReadsStated (turned parameter.entry.keyword parameter.entry.name parameter.entry.default opening.entry tokens.now) result }
+    ensures shorter { IfOk result (λ x. length x.1 < length tokens.now) }
 {
     let (word, rest) = wanted(Expected::Transposed, tokens)?;
-    let (closing, rest) = wanted(Expected::Closing, rest)?;
-    let (colon, rest) = wanted(Expected::Colon, rest)?;
+    let (closing, rest) = wanted(Expected::Closing, &rest)?;
+    let (colon, rest) = wanted(Expected::Colon, &rest)?;
     let transposed = Transposed {
         opening,
         word,
         closing,
     };
-    table(alloc, parameter, Some(transposed), colon, rest)
+    table(alloc, parameter, Some(transposed), colon, &rest)
 }
 
 /// Builds a list from its parts.
@@ -87,10 +86,10 @@ fn listed<'t, 's>(
     parameter: Parameter<'t, 's>,
     given: Option<Given<'t, 's>>,
     end: Word<'t, 's>,
-    tokens: &'t [Token<'s>],
+    tokens: Words<'t, 's>,
 ) -> Result<Stated<'t, 's>, StatementStop>
-    ensures value { ReadsStated (listed parameter.entry.keyword parameter.entry.name parameter.entry.default given.entry end.entry tokens.entry.now) result }
-    ensures rest { IfOk result (λ x. x.1.now ≡ tokens.entry.now) }
+    ensures value { ReadsStated (listed parameter.entry.keyword parameter.entry.name parameter.entry.default given.entry end.entry tokens.entry) result }
+    ensures rest { IfOk result (λ x. x.1 ≡ tokens.entry) }
 {
     let Parameter {
         keyword,
@@ -112,10 +111,10 @@ fn listed<'t, 's>(
 fn list<'t, 's>(
     alloc: Global,
     parameter: Parameter<'t, 's>,
-    tokens: &'t [Token<'s>],
+    tokens: &Words<'t, 's>,
 ) -> Result<Stated<'t, 's>, StatementStop>
-    ensures value { ReadsStated (list parameter.entry.keyword parameter.entry.name parameter.entry.default tokens.entry.now) result }
-    ensures shorter { IfOk result (λ x. length x.1.now < length tokens.entry.now) }
+    ensures value { ReadsStated (list parameter.entry.keyword parameter.entry.name parameter.entry.default tokens.now) result }
+    ensures shorter { IfOk result (λ x. length x.1 < length tokens.now) }
 {
     match met(Expected::Assign, tokens) {
         None => {
@@ -123,8 +122,7 @@ fn list<'t, 's>(
             listed(alloc, parameter, None, end, rest)
         }
         Some((assign, rest)) => {
-            let (cells, end, rest) = cells(rest)?;
-            let assign = Word::new(assign);
+            let (cells, end, rest) = cells(&rest)?;
             let cells = cells.words(alloc)?;
             listed(alloc, parameter, Some(Given { assign, cells }), end, rest)
         }
@@ -136,16 +134,16 @@ fn list<'t, 's>(
 fn body<'t, 's>(
     alloc: Global,
     parameter: Parameter<'t, 's>,
-    tokens: &'t [Token<'s>],
+    tokens: &Words<'t, 's>,
 ) -> Result<Stated<'t, 's>, StatementStop>
-    ensures value { ReadsStated (body parameter.entry.keyword parameter.entry.name parameter.entry.default tokens.entry.now) result }
-    ensures shorter { IfOk result (λ x. length x.1.now < length tokens.entry.now) }
+    ensures value { ReadsStated (body parameter.entry.keyword parameter.entry.name parameter.entry.default tokens.now) result }
+    ensures shorter { IfOk result (λ x. length x.1 < length tokens.now) }
 {
     if let Some((opening, rest)) = met(Expected::Opening, tokens) {
-        return turned(alloc, parameter, Word::new(opening), rest);
+        return turned(alloc, parameter, opening, &rest);
     }
     match met(Expected::Colon, tokens) {
-        Some((colon, rest)) => table(alloc, parameter, None, Word::new(colon), rest),
+        Some((colon, rest)) => table(alloc, parameter, None, colon, &rest),
         None => list(alloc, parameter, tokens),
     }
 }
@@ -153,16 +151,15 @@ fn body<'t, 's>(
 /// Parses the default of a parameter, if present; also returns the remaining tokens.
 #[tactic(auto, unfolding(crate::specs::Reading::default))]
 fn default<'t, 's>(
-    tokens: &'t [Token<'s>],
-) -> Result<(Option<DefaultValue<'t, 's>>, &'t [Token<'s>]), ParseError>
-    ensures value { Reads (default tokens.entry.now) result }
-    ensures within { IfOk result (λ x. length x.1.now ≤ length tokens.entry.now) }
+    tokens: &Words<'t, 's>,
+) -> Result<(Option<DefaultValue<'t, 's>>, Words<'t, 's>), ParseError>
+    ensures value { result ≡ default tokens.now }
+    ensures within { IfOk result (λ x. length x.1 ≤ length tokens.now) }
 {
     match met(Expected::Default, tokens) {
-        None => Ok((None, tokens)),
+        None => Ok((None, tokens.copied())),
         Some((keyword, rest)) => {
-            let (value, rest) = wanted(Expected::Member, rest)?;
-            let keyword = Word::new(keyword);
+            let (value, rest) = wanted(Expected::Member, &rest)?;
             Ok((Some(DefaultValue { keyword, value }), rest))
         }
     }
@@ -173,36 +170,32 @@ fn default<'t, 's>(
 fn named<'t, 's>(
     alloc: Global,
     keyword: Word<'t, 's>,
-    tokens: &'t [Token<'s>],
+    tokens: &Words<'t, 's>,
 ) -> Result<Stated<'t, 's>, StatementStop>
-    ensures value { ReadsStated (named keyword.entry tokens.entry.now) result }
-    ensures shorter { IfOk result (λ x. length x.1.now < length tokens.entry.now) }
+    ensures value { ReadsStated (named keyword.entry tokens.now) result }
+    ensures shorter { IfOk result (λ x. length x.1 < length tokens.now) }
 {
     let (name, rest) = wanted(Expected::Name, tokens)?;
-    let (default, rest) = default(rest)?;
+    let (default, rest) = default(&rest)?;
     let parameter = Parameter {
         keyword,
         name,
         default,
     };
-    body(alloc, parameter, rest)
+    body(alloc, parameter, &rest)
 }
 
 /// Parses the name of a set and a colon, if they come next; also returns the remaining tokens.
 #[tactic(auto, unfolding(crate::specs::Reading::named_set))]
-fn named_set<'t, 's>(tokens: &'t [Token<'s>]) -> (Option<NamedSet<'t, 's>>, &'t [Token<'s>])
-    ensures value { (result.0, result.1.now) ≡ named_set tokens.entry.now }
-    ensures within { length result.1.now ≤ length tokens.entry.now }
+fn named_set<'t, 's>(tokens: &Words<'t, 's>) -> (Option<NamedSet<'t, 's>>, Words<'t, 's>)
+    ensures value { result ≡ named_set tokens.now }
+    ensures within { length result.1 ≤ length tokens.now }
 {
     match met(Expected::Name, tokens) {
-        None => (None, tokens),
-        Some((name, rest)) => match met(Expected::Colon, rest) {
-            None => (None, tokens),
-            Some((colon, rest)) => {
-                let name = Word::new(name);
-                let colon = Word::new(colon);
-                (Some(NamedSet { name, colon }), rest)
-            }
+        None => (None, tokens.copied()),
+        Some((name, rest)) => match met(Expected::Colon, &rest) {
+            None => (None, tokens.copied()),
+            Some((colon, rest)) => (Some(NamedSet { name, colon }), rest),
         },
     }
 }
@@ -213,14 +206,14 @@ fn columns<'t, 's>(
     alloc: Global,
     keyword: Word<'t, 's>,
     colon: Word<'t, 's>,
-    tokens: &'t [Token<'s>],
+    tokens: &Words<'t, 's>,
 ) -> Result<Stated<'t, 's>, StatementStop>
-    ensures value { ReadsStated (columns keyword.entry colon.entry tokens.entry.now) result }
-    ensures shorter { IfOk result (λ x. length x.1.now < length tokens.entry.now) }
+    ensures value { ReadsStated (columns keyword.entry colon.entry tokens.now) result }
+    ensures shorter { IfOk result (λ x. length x.1 < length tokens.now) }
 {
     let (set, rest) = named_set(tokens);
-    let (names, assign, rest) = heading(Expected::Name, rest)?;
-    let (cells, end, rest) = cells(rest)?;
+    let (names, assign, rest) = heading(Expected::Name, &rest)?;
+    let (cells, end, rest) = cells(&rest)?;
     let names = names.words(alloc)?;
     let cells = cells.words(alloc)?;
     let statement = ColumnsStatement {
@@ -240,13 +233,13 @@ fn columns<'t, 's>(
 pub(crate) fn param<'t, 's>(
     alloc: Global,
     keyword: Word<'t, 's>,
-    tokens: &'t [Token<'s>],
+    tokens: &Words<'t, 's>,
 ) -> Result<Stated<'t, 's>, StatementStop>
-    ensures value { ReadsStated (param keyword.entry tokens.entry.now) result }
-    ensures shorter { IfOk result (λ x. length x.1.now < length tokens.entry.now) }
+    ensures value { ReadsStated (param keyword.entry tokens.now) result }
+    ensures shorter { IfOk result (λ x. length x.1 < length tokens.now) }
 {
     match met(Expected::Colon, tokens) {
-        Some((colon, rest)) => columns(alloc, keyword, Word::new(colon), rest),
+        Some((colon, rest)) => columns(alloc, keyword, colon, &rest),
         None => named(alloc, keyword, tokens),
     }
 }

@@ -1,33 +1,32 @@
 //! `set NAME := items ;`
 ghost use Rattle.std.specs.Prelude.{◌≡◌, ◌+◌, ◌<◌, ◌≤◌, length, Result, Ok, Err, IfOk};
 ghost use Rattle.net_data.specs.Spots.{outside};
-ghost use Rattle.net_data.specs.Reading.{items, items_from, set, Reads, ReadsStated, CountsItems};
+ghost use Rattle.net_data.specs.Reading.{items, items_from, set, ReadsStated, CountsItems};
 
-use crate::cells::Word;
 use crate::data_parser::{ParseError, StatementStop};
 use crate::expected_token::Expected;
 use crate::members::{Members, Spot};
 use crate::next_token::wanted;
 use crate::statement::{SetStatement, Stated, Statement, stated};
 use net_base::ErrorCode;
-use net_lex::Token;
+use net_lex::{Word, Words};
 use std::alloc::Global;
 
 /// Returns the number of tokens in the leading members and tuples, including the commas among them.
-fn items_len(tokens: &[Token<'_>]) -> Result<usize, ParseError>
+fn items_len(tokens: &Words<'_, '_>) -> Result<usize, ParseError>
     ensures value { CountsItems tokens.now (items_from outside tokens.now) result }
     ensures within { IfOk result (λ n. n ≤ length tokens.now) }
 {
     let mut spot = Spot::Outside;
     let mut len = 0;
-    'tokens: for token in tokens {
-        match spot.after(token) {
+    'tokens: for token in tokens.copied() {
+        match spot.after(&token) {
             Some(next) => spot = next,
             None if spot.rests() => return Ok(len),
             None => {
                 return Err(ParseError {
                     error_code: ErrorCode::DataSyntax,
-                    at: Some(token.span),
+                    at: Some(token.span()),
                 });
             }
         }
@@ -43,11 +42,9 @@ fn items_len(tokens: &[Token<'_>]) -> Result<usize, ParseError>
 }
 
 /// Splits off the leading members and tuples.
-fn items_at<'t, 's>(
-    tokens: &'t [Token<'s>],
-) -> Result<(Members<'t, 's>, &'t [Token<'s>]), ParseError>
-    ensures value { Reads (items tokens.entry.now) result }
-    ensures within { IfOk result (λ x. length x.1.now ≤ length tokens.entry.now) }
+fn items_at<'t, 's>(tokens: &Words<'t, 's>) -> Result<(Members<'t, 's>, Words<'t, 's>), ParseError>
+    ensures value { result ≡ items tokens.now }
+    ensures within { IfOk result (λ x. length x.1 ≤ length tokens.now) }
 {
     match items_len(tokens) {
         Err(stop) => Err(stop),
@@ -63,15 +60,15 @@ fn items_at<'t, 's>(
 pub(crate) fn set<'t, 's>(
     alloc: Global,
     keyword: Word<'t, 's>,
-    tokens: &'t [Token<'s>],
+    tokens: &Words<'t, 's>,
 ) -> Result<Stated<'t, 's>, StatementStop>
-    ensures value { ReadsStated (set keyword.entry tokens.entry.now) result }
-    ensures shorter { IfOk result (λ x. length x.1.now < length tokens.entry.now) }
+    ensures value { ReadsStated (set keyword.entry tokens.now) result }
+    ensures shorter { IfOk result (λ x. length x.1 < length tokens.now) }
 {
     let (name, rest) = wanted(Expected::Name, tokens)?;
-    let (assign, rest) = wanted(Expected::Assign, rest)?;
-    let (items, rest) = items_at(rest)?;
-    let (end, rest) = wanted(Expected::Semicolon, rest)?;
+    let (assign, rest) = wanted(Expected::Assign, &rest)?;
+    let (items, rest) = items_at(&rest)?;
+    let (end, rest) = wanted(Expected::Semicolon, &rest)?;
     let statement = SetStatement {
         keyword,
         name,

@@ -4,11 +4,10 @@ ghost use Rattle.std.specs.Prelude.{◌≡◌, [], ◌∷◌, ◌++◌, OnOk, If
 ghost use Rattle.net_base.specs.declared.diagnostic.Fault.TheVariants.{OutOfMemory};
 ghost use Rattle.net_data.specs.declared.data_parser.StatementStop.TheVariants as statement_stops;
 
-use crate::cells::Word;
 use crate::data_parser::StatementStop;
 use crate::members::Members;
 use net_base::{Boxed, Fault, Items};
-use net_lex::Token;
+use net_lex::{Word, Words};
 use std::alloc::Global;
 
 /// `set NAME := items ;`
@@ -117,16 +116,16 @@ pub struct Tables<'t, 's> {
 }
 
 /// A statement, and the remaining tokens.
-pub(crate) type Stated<'t, 's> = (Boxed<Statement<'t, 's>>, &'t [Token<'s>]);
+pub(crate) type Stated<'t, 's> = (Boxed<Statement<'t, 's>>, Words<'t, 's>);
 
 /// Boxes a parsed statement, since it has many forms. Fails only if memory runs out.
 pub(crate) fn stated<'t, 's, T: Drop>(
     alloc: Global,
     statement: T,
-    tokens: &'t [Token<'s>],
-) -> Result<(Boxed<T>, &'t [Token<'s>]), StatementStop>
+    tokens: Words<'t, 's>,
+) -> Result<(Boxed<T>, Words<'t, 's>), StatementStop>
     ensures value { IfOk result (λ x. x.0 ≡ statement) }
-    ensures rest { IfOk result (λ x. x.1.now ≡ tokens.entry.now) }
+    ensures rest { IfOk result (λ x. x.1 ≡ tokens.entry) }
     ensures memory { IfErr result (λ e. e ≡ statement_stops.OutOfMemory) }
 {
     match Box::new(alloc, statement) {

@@ -35,7 +35,7 @@ fn network_with<'s>(
     // The tokens and statements of the data are freed before the network is built.
     let world = {
         let tokens = lex_data(alloc, data)?;
-        let tables = parse_data(alloc, &tokens)?;
+        let tables = parse_data(alloc, &tokens.words())?;
         bind(alloc, declared, hints, &tables)?
     };
     instantiate_for(alloc, declared, &world, objective)

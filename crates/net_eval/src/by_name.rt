@@ -10,8 +10,9 @@ use crate::given::{DataFor, Given, Grid, Groups, Line, NamedData};
 use net_base::{Fault, Items};
 use net_data::{
     ColumnsStatement, DefaultValue, ListStatement, NamedSet, SetStatement, Statement,
-    TableStatement, Word,
+    TableStatement,
 };
+use net_lex::Word;
 use std::alloc::{AllocError, Global};
 
 /// Adds a statement's data for the set or parameter that a token names.

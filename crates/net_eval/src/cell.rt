@@ -5,8 +5,7 @@ ghost use Rattle.net_tree.specs.Numerals.{number_in};
 ghost use Rattle.net_eval.specs.Cells.{member_in, tuple_in, number_or_name as wanted_number_or_name};
 
 use net_base::Excerpt;
-use net_data::Word;
-use net_lex::Kind;
+use net_lex::{Kind, Word};
 use net_sets::{Member, Text, Tuple};
 use net_tree::number_in;
 
@@ -15,10 +14,10 @@ use net_tree::number_in;
 pub(crate) fn member_in<'s>(word: &Word<'_, 's>) -> Member<'s>
     ensures { result ≡ member_in word.now }
 {
-    let token = word.token();
-    match token.kind {
-        Kind::Num => number_or_name(&token.text),
-        _ => Member::Name(Text::new(&token.text)),
+    let text = word.text();
+    match word.kind() {
+        Kind::Num => number_or_name(&text),
+        _ => Member::Name(Text::new(&text)),
     }
 }
 

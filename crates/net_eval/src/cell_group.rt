@@ -10,8 +10,7 @@ ghost use Rattle.net_base.specs.Outcomes.{Refines, RefinesAs};
 
 use crate::given::Line;
 use net_base::{Detail, ErrorCode, Fault, Items, Language, Span};
-use net_data::Word;
-use net_lex::Kind;
+use net_lex::{Kind, Word};
 use std::alloc::{AllocError, Global};
 
 /// Returns the span of the first token of a row.
@@ -20,7 +19,7 @@ pub(crate) fn begins_at(at: Span, row: &[Word<'_, '_>]) -> Span
 {
     match row {
         [] => at,
-        [first, ..] => first.token().span,
+        [first, ..] => first.span(),
     }
 }
 
@@ -37,9 +36,8 @@ fn without_points(key: &[Word<'_, '_>]) -> Result<(), Fault>
     ensures { Refines (set_data.without_points key.now) result }
 {
     for cell in key {
-        let token = cell.token();
-        if is_point(token.kind) {
-            return Err(Fault::of_data(ErrorCode::Arity, token.span));
+        if is_point(cell.kind()) {
+            return Err(Fault::of_data(ErrorCode::Arity, cell.span()));
         }
     }
     Ok(())

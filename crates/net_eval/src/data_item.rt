@@ -6,7 +6,8 @@ ghost use Rattle.net_eval.specs.SetData as set_data;
 use crate::cell_group::{behind, front};
 use crate::given::{Given, Line};
 use net_base::Items;
-use net_data::{Members, Word};
+use net_data::Members;
+use net_lex::Word;
 use std::alloc::{AllocError, Global};
 
 /// Returns the members of all items, if the statement gives items. Fails only if memory runs out.

@@ -15,8 +15,8 @@ use crate::cell::{member_in, tuple_in};
 use crate::cell_group::{begins_at, front, is_point};
 use crate::given::Line;
 use net_base::{Detail, ErrorCode, Fault, Items, Language, Span};
-use net_data::Word;
 use net_expr::reported_reference;
+use net_lex::Word;
 use net_sets::{KeyList, Member, SetFault, Table, Tuple};
 use std::alloc::{AllocError, Global};
 use std::marker::Model;
@@ -80,8 +80,8 @@ fn reject_row(
 ) -> Result<Fault, AllocError>
     ensures { IfOk result (λ f. f ≡ At (diagnostic_at Data error_code at (worlds.reference parameter.now.word.now.text parameter.now.keys key.now))) }
 {
-    let name = &parameter.word.token().text;
-    let detail = reported_reference(alloc, name, parameter.keys, key)?;
+    let name = parameter.word.text();
+    let detail = reported_reference(alloc, &name, parameter.keys, key)?;
     Ok(Fault::of_text(Language::Data, error_code, at, detail))
 }
 
@@ -122,7 +122,7 @@ fn with_row<'s>(
     ensures { Updates (rows.with_row (named_of parameter.now) cells.now value.now values.old) result values.new }
 {
     let key = tuple_in(cells);
-    let at = begins_at(value.token().span, cells);
+    let at = begins_at(value.span(), cells);
     let next = values.table.next();
     let Some(near) = parameter.index.position_with_hint(next, &key) else {
         let error_code = if values.table.get(&key).is_some() {
@@ -134,7 +134,7 @@ fn with_row<'s>(
     };
     match values.table.insert_new(near, &key, member_in(value)) {
         Ok(true) => {
-            values.places.push(value.token().span)?;
+            values.places.push(value.span())?;
             Ok(())
         }
         Ok(false) => {
@@ -157,7 +157,7 @@ pub(crate) fn with_cell<'s>(
     ensures { Updates (rows.with_cell (named_of parameter.now) cells.now (Some value.now) values.old) result
         values.new }
 {
-    if is_point(value.token().kind) {
+    if is_point(value.kind()) {
         Ok(())
     } else {
         with_row(alloc, parameter, cells, value, values)

@@ -8,7 +8,7 @@ ghost use Rattle.net_base.specs.Outcomes.{Refines};
 
 use crate::world_calls::reject_name;
 use net_base::{ErrorCode, Fault, Language};
-use net_data::Word;
+use net_lex::Word;
 use net_sets::{HashKey, NameMap};
 use net_tree::Decl;
 use std::alloc::{AllocError, Global};

@@ -2,7 +2,8 @@
 
 ghost use Rattle.std.specs.Prelude.{◌≡◌, ◌++◌, ◌∷◌, [], OnOk};
 
-use net_data::{Members, Word};
+use net_data::Members;
+use net_lex::Word;
 use std::alloc::AllocError;
 use std::marker::Model;
 

@@ -13,8 +13,8 @@ use crate::given::{Given, Grid, Groups, Line, NamedData};
 use crate::parameter::Parameter;
 use crate::set_declaration::{agrees, doubled, leading_size};
 use net_base::Fault;
-use net_data::Word;
 use net_expr::key_count;
+use net_lex::Word;
 use std::alloc::Global;
 
 /// Adds the cells of a row in a table, column by column.
@@ -73,7 +73,7 @@ fn grouped<'t, 's>(
     let word = parameter.word;
     let size = key_count(parameter.keys);
     agrees(word, leading_size(widths, groups.leader, size), size)?;
-    let at = word.token().span;
+    let at = word.span();
     let rows = whole_rows(alloc, at, size, groups.values, groups.cells.cells())?;
     if is_doubled {
         return Err(doubled(alloc, word)?);
@@ -100,7 +100,7 @@ fn gridded<'t, 's>(
 {
     let word = parameter.word;
     agrees(word, key_count(parameter.keys), 2)?;
-    let at = word.token().span;
+    let at = word.span();
     let columns = grid.columns.cells().len();
     let lines = whole_rows(alloc, at, 1, columns, grid.cells.cells())?;
     if is_doubled {

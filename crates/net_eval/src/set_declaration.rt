@@ -22,9 +22,9 @@ use crate::given::{Given, Groups, Line, NamedData};
 use crate::set_phrase::{Claim, Claims, SetPhrase, assigned, set_phrases};
 use crate::world_calls::reject_name;
 use net_base::{Boxed, ErrorCode, Fault, Items, Language};
-use net_data::{Members, Word};
+use net_data::Members;
 use net_expr::Entry;
-use net_lex::Token;
+use net_lex::{Token, Word};
 use net_sets::{HashKey, IndexedSet, SetFault, TUPLES_LIMIT, TupleSet};
 use net_tree::Phrase;
 use std::alloc::{AllocError, Global};
@@ -46,7 +46,7 @@ pub(crate) fn agrees(word: &Word<'_, '_>, reported: usize, own: usize) -> Result
     if reported == own {
         Ok(())
     } else {
-        Err(Fault::of_data(ErrorCode::Arity, word.token().span))
+        Err(Fault::of_data(ErrorCode::Arity, word.span()))
     }
 }
 
@@ -76,7 +76,7 @@ fn member_rows<'c, 't, 's>(
     ensures { Refines (set_data.given_rows [] dimension word.now (given.Members members.now)) result }
 {
     let rows = set_rows(alloc, dimension, members, words)?;
-    all_of_size(word.token().span, dimension, rows.as_slice())?;
+    all_of_size(word.span(), dimension, rows.as_slice())?;
     Ok(rows)
 }
 
@@ -94,7 +94,7 @@ fn key_rows<'c, 't, 's>(
         leading_size(widths, groups.leader, dimension),
         dimension,
     )?;
-    let at = word.token().span;
+    let at = word.span();
     let rows = whole_rows(alloc, at, dimension, groups.values, groups.cells.cells())?;
     Ok(keys_of(alloc, dimension, rows.as_slice())?)
 }
@@ -125,8 +125,7 @@ fn with_member<'s>(
 ) -> Result<(), Fault>
     ensures { Updates (set_data.with_member word.now row.now set.old) result set.new }
 {
-    let token = word.token();
-    let at = begins_at(token.span, row);
+    let at = begins_at(word.span(), row);
     let _few = set.len();
     match set.add_new(tuple_in(row)) {
         Ok(true) => Ok(()),
@@ -135,7 +134,7 @@ fn with_member<'s>(
             Language::Data,
             ErrorCode::DoubleValue,
             at,
-            &token.text,
+            &word.text(),
         )?),
         Err(SetFault::OutOfMemory) => Err(Fault::OutOfMemory),
         Err(SetFault::TooMany) => Err(Fault::of_data(ErrorCode::TooMany, at)),

@@ -9,8 +9,8 @@ ghost use Rattle.net_base.specs.Outcomes.{Refines, Updates, each};
 use crate::cell::member_in;
 use crate::data_row::with_value;
 use net_base::{Fault, Language, Span};
-use net_data::Word;
 use net_expr::{Env, Row, RowList, Scope, member};
+use net_lex::Word;
 use net_sets::{Member, Table};
 use net_tree::{Expr, span_of};
 use std::alloc::Global;
@@ -87,7 +87,7 @@ pub(crate) fn source_at(source: &Source<'_, '_, '_>) -> Span
 {
     match (source.expr, source.word) {
         (Some(expr), _) => span_of(expr),
-        (None, Some(word)) => word.token().span,
+        (None, Some(word)) => word.span(),
         (None, None) => source.declared_at,
     }
 }

@@ -26,3 +26,4 @@ pub mod Reporting
 pub mod FirstFaults
 pub mod Rising
 pub mod LineEnds
+pub mod PackedLemmas

@@ -1,6 +1,7 @@
 -- What is answered of a text, from what its tokens tell.
-use Rattle.std.proofs.Common.{◌≡◌, ℕ, ◌≤◌, Result, Ok, Err, MatchResult, IfOk, IfErr, IsUtf8, List, [], length, refl, arith}
+use Rattle.std.proofs.Common.{◌≡◌, ℕ, ◌≤◌, ◌<◌, ◌∷◌, sym, subst, Result, Ok, Err, MatchResult, IfOk, IfErr, IsUtf8, List, [], length, refl, arith}
 use Rattle.std.specs.List.{AllByRecursion}
+use Rattle.std.specs.Result.{IsErr, IsErrAnd}
 use Rattle.net_base.specs.declared.diagnostic.Fault.{Fault}
 use Rattle.net_base.specs.declared.diagnostic.Fault.TheVariants.{OutOfMemory, At}
 use Rattle.net_base.specs.Outcomes.{bare}
@@ -8,7 +9,7 @@ use Rattle.net_base.specs.declared.diagnostic.Language.{Language}
 use Rattle.net_lex.specs.declared.token.Token.{Token}
 use Rattle.net_lex.specs.Limits.{limits, text_limit}
 use Rattle.net_lex.specs.Reading.{EndsInGap, IsSliceOf}
-use Rattle.net_lex.specs.Faults.{StandSound, IsFaultAfter, HasPlace, after_tokens}
+use Rattle.net_lex.specs.Faults.{StandSound, IsFaultAfter, HasPlace, BeginsWithToken, after_tokens}
 use Rattle.net_lex.specs.Lexing.{AreTokensOf, IsFirstFault, IsRejection, Lexes}
 use Rattle.net_lex.proofs.FirstFaults.{read_or_rejected}
 use Rattle.net_base.specs.declared.error_code.ErrorCode.{ErrorCode}
@@ -67,3 +68,24 @@ module _ {V : Type 0} (items : V → List Token) (language : Language) (text : L
     complete = λ tokens are. absurd (read_or_rejected language text tokens d span are fault);
     place = here;
   }
+
+pub reported_stands : (language : Language) (text : List ℕ) (r : Result (List Token) Fault) → Reported {V = List Token} (λ v. v) language text r → IfOk r (λ v. StandSound limits language EndsInGap 0 text v)
+reported_stands language text (Ok v) stand = stand
+reported_stands language text (Err e) fault = tt
+
+-- the first of several tokens
+first_begins : (language : Language) (text : List ℕ) (tokens : List Token) → 0 < length tokens → StandSound limits language EndsInGap 0 text tokens → BeginsWithToken limits language text
+first_begins language text [] some stand = absurd (omega (arith, some))
+first_begins language text (t ∷ ts) some (gap, after, next, tail) = (t, gap, after, next)
+
+-- memory that runs out after the tokens are found
+pub lexes_no_memory : {V : Type 0} (items : V → List Token) (language : Language) (text : List ℕ) (tokens : List Token) (r : Result V Fault) → AreTokensOf language text tokens
+    → StandSound limits language EndsInGap 0 text tokens → 0 < length tokens → IsErr r → IsErrAnd r (λ f. f ≡ OutOfMemory) → Lexes items language text r
+lexes_no_memory items language text tokens (Ok v) are stand some is e = absurd cc
+lexes_no_memory items language text tokens (Err fault) are stand some is e =
+    subst (λ (f : Fault). Lexes items language text (Err f)) (sym e) (record {
+      ok = tt;
+      rejected = (are.short, are.utf8, first_begins language text tokens some stand);
+      complete = λ others same. refl;
+      place = tt;
+    })

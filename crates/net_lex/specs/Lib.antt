@@ -16,5 +16,6 @@ pub mod Reading
 pub mod Faults
 pub mod Scanning
 pub mod LineEnds
+pub mod Packed
 pub mod Lexing
 pub mod Productions

@@ -9,8 +9,8 @@ use crate::bytes::first;
 use crate::reserved_words::data_mark_len;
 use crate::shape::{BadFront, Shape, mark_front};
 use crate::string::{is_quote, string_at};
-use crate::token::Token;
 use crate::tokens::lex;
+use crate::words::WordList;
 use net_base::{Fault, Language};
 use std::alloc::Global;
 
@@ -36,8 +36,8 @@ pub const DATA_LIMIT: usize = 0x100_0000;
 
 /// Splits a data file into tokens. Returns the first error with its span: the size limit is checked
 /// first, then UTF-8, then the tokens in order. Spans count bytes from 0.
-pub fn lex_data<'s>(alloc: Global, text: &'s [u8]) -> Result<Vec<Token<'s>>, Fault>
-    ensures value { Lexes (λ v. v.items) Data text.entry.now result }
+pub fn lex_data<'s>(alloc: Global, text: &'s [u8]) -> Result<WordList<'s>, Fault>
+    ensures value { Lexes (λ v. v) Data text.entry.now result }
 {
     lex(alloc, Language::Data, text)
 }

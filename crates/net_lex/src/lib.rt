@@ -16,6 +16,7 @@ mod string;
 mod token;
 mod tokens;
 mod whole;
+mod words;
 
 pub use data_text::{DATA_LIMIT, lex_data};
 pub use error_search::{
@@ -25,3 +26,4 @@ pub use model_text::{MODEL_LIMIT, lex_model};
 pub use net_base::{Fault as LexFault, Span};
 pub use token::{Kind, Token, line_column};
 pub use whole::{NumFault, VALUE_LIMIT, whole_of};
+pub use words::{Word, WordList, Words};

@@ -70,5 +70,6 @@ pub const MODEL_LIMIT: usize = 0x10_0000;
 pub fn lex_model<'s>(alloc: Global, text: &'s [u8]) -> Result<Vec<Token<'s>>, Fault>
     ensures value { Lexes (λ v. v.items) Model text.entry.now result }
 {
-    lex(alloc, Language::Model, text)
+    let words = lex(alloc, Language::Model, text)?;
+    Ok(words.to_tokens(alloc)?)
 }

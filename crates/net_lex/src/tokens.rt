@@ -1,5 +1,5 @@
 //! Splitting a whole text into tokens.
-ghost use Rattle.std.specs.Prelude.{◌≡◌, ◌≤◌, ◌^◌, length, MatchResult};
+ghost use Rattle.std.specs.Prelude.{◌≡◌, ◌≤◌, ◌^◌, length, IfOk, MatchResult};
 ghost use Rattle.net_lex.specs.Limits.{limits, text_limit};
 ghost use Rattle.net_lex.specs.Reading.{EndsInGap};
 ghost use Rattle.net_lex.specs.Faults.{StandSound, IsFaultAfter};
@@ -8,14 +8,14 @@ ghost use Rattle.net_lex.specs.Lexing.{Lexes};
 use crate::data_text::DATA_LIMIT;
 use crate::model_text::MODEL_LIMIT;
 use crate::scan::step;
-use crate::token::Token;
+use crate::words::{PackedToken, WordList};
 use net_base::{Detail, ErrorCode, Fault, Language, Span};
 use std::alloc::Global;
 
-fn tokens_of<'s>(alloc: Global, language: Language, text: &'s str) -> Result<Vec<Token<'s>>, Fault>
+fn tokens_of<'s>(alloc: Global, language: Language, text: &'s str) -> Result<WordList<'s>, Fault>
     requires { length text.now ≤ 2 ^ 24 }
     ensures { MatchResult result
-        (λ v. StandSound limits language EndsInGap 0 text.entry.now v.items)
+        (λ v. StandSound limits language EndsInGap 0 text.entry.now v)
         (λ e. IsFaultAfter limits language text.entry.now e) }
 {
     let mut tokens = Vec::new(alloc);
@@ -29,10 +29,10 @@ fn tokens_of<'s>(alloc: Global, language: Language, text: &'s str) -> Result<Vec
                 span,
                 Detail::Nothing,
             )),
-            Ok(None) => return Ok(tokens),
+            Ok(None) => return Ok(WordList::new(text, tokens)),
             Ok(Some((token, after))) => {
                 at = token.span.end;
-                let Ok(()) = tokens.push(token) else {
+                let Ok(()) = tokens.push(PackedToken::of(&token)) else {
                     return Err(Fault::OutOfMemory);
                 };
                 rest = after;
@@ -56,8 +56,9 @@ pub(crate) fn lex<'s>(
     alloc: Global,
     language: Language,
     text: &'s [u8],
-) -> Result<Vec<Token<'s>>, Fault>
-    ensures value { Lexes (λ v. v.items) language text.entry.now result }
+) -> Result<WordList<'s>, Fault>
+    ensures value { Lexes (λ v. v) language text.entry.now result }
+    ensures stands { IfOk result (λ v. StandSound limits language EndsInGap 0 text.entry.now v) }
 {
     if text.len() > text_limit(language) {
         let at = Span { start: 0, end: 0 };

@@ -34,6 +34,6 @@ pub use operations::{
 };
 pub use range::Range;
 pub use table::Table;
-pub use text::Text;
+pub use text::{Text, TextBytes};
 pub use tuple::{ARITY_LIMIT, Tuple};
 pub use tuple_set::{SetFault, TUPLES_LIMIT, TupleSet};

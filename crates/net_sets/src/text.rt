@@ -1,6 +1,7 @@
 //! The text of names and strings.
 
 ghost use Rattle.std.specs.Prelude.{◌≡◌, ◌<◌, ◌+◌, ◌∷◌, [], ◌++◌, ℕ, List, fold, length, string_bytes, IsTrue, MatchOption, OnOk};
+ghost use Rattle.std.specs.Option.{IfSome};
 ghost use Rattle.net_lex.specs.Characters.{is_quote};
 ghost use Rattle.net_sets.specs.Hashes.{full_word, packed};
 ghost use Rattle.net_sets.specs.Texts.{text_of, spelled, single, same_text, without_close};
@@ -204,6 +205,22 @@ impl<'s> Text<'s> {
         }
     }
 
+    /// Returns the bytes of the text, one by one.
+    pub fn bytes(&self) -> TextBytes<'s>
+        ensures { result ≡ self.now }
+    {
+        let (left, doubled) = spelling(self.text);
+        TextBytes { left, doubled }
+    }
+
+    /// Returns the text as a slice of the source, if it is one.
+    pub fn as_slice(&self) -> Option<&'s [u8]>
+        ensures { IfSome result (λ slice. slice.now ≡ self.now) }
+    {
+        let bytes = self.text.as_bytes();
+        if is_plain(bytes) { Some(bytes) } else { None }
+    }
+
     /// Returns the text as the source spells it, or without its quotes if nothing is doubled inside.
     pub(crate) fn as_written(&self) -> &'s str
         ensures { text_of result.now ≡ self.now }
@@ -216,6 +233,41 @@ impl<'s> Text<'s> {
         ensures { result ≡ self.now }
     {
         Text { text: self.text }
+    }
+}
+
+/// The bytes of a text that are not yet read, which contracts see as their list.
+#[derive(Drop)]
+pub struct TextBytes<'s> {
+    left: &'s [u8],
+    doubled: Option<u8>,
+}
+
+impl<'s> Model for TextBytes<'s> {
+    ghost use Rattle.std.specs.Prelude.{ℕ, List};
+    ghost use Rattle.std.specs.Coded.{coded_list, coded_ℕ};
+    ghost use Rattle.net_sets.specs.Texts.{spelled};
+
+    ghost Value = { List ℕ };
+
+    ghost coded = { coded_list coded_ℕ };
+
+    ghost view = { λ b. spelled b.doubled b.left.now };
+}
+
+impl<'s> Iterator for TextBytes<'s> {
+    type Item = u8;
+
+    ghost use Rattle.std.specs.Iterator.{YieldsFirst, item_count};
+
+    ghost next_gives = { YieldsFirst (λ b. b) };
+
+    ghost remaining = { item_count (λ b. b) };
+
+    fn next(&mut self) -> Option<u8> {
+        let (byte, rest) = first(self.left, self.doubled)?;
+        self.left = rest;
+        Some(byte)
     }
 }
 

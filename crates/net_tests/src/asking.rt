@@ -11,7 +11,7 @@ use net_base::Excerpt;
 use net_data::{Tables, parse_data};
 use net_driver::well_named;
 use net_eval::{Member, Scope, World, bind, well_named_are_new};
-use net_lex::{Token, lex_data, lex_model};
+use net_lex::{Token, Words, lex_data, lex_model};
 use net_model::{CheckedModel, free_model, parse_declarations, parse_model};
 use net_resolve::Hints;
 use net_sets::HashKey;
@@ -164,7 +164,7 @@ fn of_data_tokens(
     alloc: Global,
     question: Option<Question>,
     model: &CheckedModel<'static>,
-    tokens: &[Token<'static>],
+    tokens: &Words<'_, 'static>,
 ) -> Result<String, AllocError>
     requires { AreNew [] (view.model model.now) }
 {
@@ -183,7 +183,7 @@ fn of_model(
     requires { AreNew [] (view.model model.now) }
 {
     match lex_data(alloc, data.as_bytes()) {
-        Ok(tokens) => of_data_tokens(alloc, question, model, tokens.as_slice()),
+        Ok(tokens) => of_data_tokens(alloc, question, model, &tokens.words()),
         Err(fault) => line_of(alloc, &fault),
     }
 }

@@ -2,8 +2,8 @@
 
 use crate::comparison::expect;
 use net_base::{Fault, Span};
-use net_data::{Cells, Given, Statement, Tables, Word, parse_data};
-use net_lex::{Token, lex_data, lex_model};
+use net_data::{Cells, Given, Statement, Tables, parse_data};
+use net_lex::{Token, Word, Words, lex_data, lex_model};
 use net_model::{free_model, parse_model};
 use net_sets::HashKey;
 use net_tree::{Body, Decl, Model, Phrase, span_of};
@@ -30,16 +30,34 @@ fn tokens_shown(alloc: Global, tokens: &[Token<'_>]) -> Result<String, AllocErro
     Ok(out)
 }
 
-/// The tokens of a model, or of its data.
-fn tokens_of(alloc: Global, is_data: bool, text: &[u8]) -> Result<String, AllocError> {
-    let found = if is_data {
-        lex_data(alloc, text)
-    } else {
-        lex_model(alloc, text)
-    };
-    match found {
+fn words_shown(alloc: Global, words: Words<'_, '_>) -> Result<String, AllocError> {
+    let mut out = String::new(alloc);
+    for word in words {
+        out.push_str(token_shown(alloc, &word.token())?.as_str())?;
+    }
+    Ok(out)
+}
+
+fn data_tokens_of(alloc: Global, text: &[u8]) -> Result<String, AllocError> {
+    match lex_data(alloc, text) {
+        Ok(tokens) => words_shown(alloc, tokens.words()),
+        Err(fault) => line_of(alloc, &fault),
+    }
+}
+
+fn model_tokens_of(alloc: Global, text: &[u8]) -> Result<String, AllocError> {
+    match lex_model(alloc, text) {
         Ok(tokens) => tokens_shown(alloc, tokens.as_slice()),
         Err(fault) => line_of(alloc, &fault),
+    }
+}
+
+/// The tokens of a model, or of its data.
+fn tokens_of(alloc: Global, is_data: bool, text: &[u8]) -> Result<String, AllocError> {
+    if is_data {
+        data_tokens_of(alloc, text)
+    } else {
+        model_tokens_of(alloc, text)
     }
 }
 
@@ -188,7 +206,7 @@ fn cells_shown(alloc: Global, cells: &[Word<'_, '_>]) -> Result<String, AllocErr
     let mut out = String::new(alloc);
     for cell in cells {
         out.push_str(" ")?;
-        out.push_str(cell.token().text.as_str())?;
+        out.push_str(cell.text().as_str())?;
     }
     Ok(out)
 }
@@ -214,12 +232,12 @@ fn item_shown(alloc: Global, first: &Option<Cells<'_, '_>>) -> Result<String, Al
 
 fn statement_shown(alloc: Global, statement: &Statement<'_, '_>) -> Result<String, AllocError> {
     let (name, cells) = match statement {
-        Statement::Set(it) => (it.name.token(), item_shown(alloc, &it.items.first())?),
-        Statement::List(it) => (it.name.token(), given_shown(alloc, &it.given)?),
-        Statement::Table(it) => (it.name.token(), cells_shown(alloc, it.cells.as_slice())?),
-        Statement::Columns(it) => (it.colon.token(), cells_shown(alloc, it.cells.as_slice())?),
+        Statement::Set(it) => (it.name.text(), item_shown(alloc, &it.items.first())?),
+        Statement::List(it) => (it.name.text(), given_shown(alloc, &it.given)?),
+        Statement::Table(it) => (it.name.text(), cells_shown(alloc, it.cells.as_slice())?),
+        Statement::Columns(it) => (it.colon.text(), cells_shown(alloc, it.cells.as_slice())?),
     };
-    let name = name.text.as_str();
+    let name = name.as_str();
     format!(in alloc; "{name}{cells};")
 }
 
@@ -231,7 +249,7 @@ fn tables_shown(alloc: Global, tables: &Tables<'_, '_>) -> Result<String, AllocE
     Ok(out)
 }
 
-fn statements_in(alloc: Global, tokens: &[Token<'_>]) -> Result<String, AllocError> {
+fn statements_in(alloc: Global, tokens: &Words<'_, '_>) -> Result<String, AllocError> {
     match parse_data(alloc, tokens) {
         Ok(tables) => tables_shown(alloc, &tables),
         Err(fault) => line_of(alloc, &fault),
@@ -240,7 +258,7 @@ fn statements_in(alloc: Global, tokens: &[Token<'_>]) -> Result<String, AllocErr
 
 fn statements_of(alloc: Global, data: &[u8]) -> Result<String, AllocError> {
     match lex_data(alloc, data) {
-        Ok(tokens) => statements_in(alloc, tokens.as_slice()),
+        Ok(tokens) => statements_in(alloc, &tokens.words()),
         Err(fault) => line_of(alloc, &fault),
     }
 }

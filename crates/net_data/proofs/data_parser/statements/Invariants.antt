@@ -5,9 +5,9 @@ use Rattle.net_data.proofs.data_parser.statements.Given as goal
 
 abbrev pub invariant-statements : goal.invariant-statements
 invariant-statements l = record {
-  value : (n : ℕ) → statements (length l.statements.items + n) l.fn.tokens ≡ with_statements l.statements.items (statements n l.unread.tokens.now);
-  count : length l.statements.items + length l.unread.tokens.now ≤ length l.fn.tokens;
+  value : (n : ℕ) → statements (length l.statements.items + n) l.fn.tokens ≡ with_statements l.statements.items (statements n l.unread.tokens);
+  count : length l.statements.items + length l.unread.tokens ≤ length l.fn.tokens;
 }
 
 abbrev pub decreases-statements : goal.decreases-statements
-decreases-statements l = length l.unread.tokens.now
+decreases-statements l = length l.unread.tokens

@@ -1,4 +1,4 @@
-use Rattle.std.proofs.Common.{◌≡◌, take, drop}
+use Rattle.std.proofs.Common.{◌≡◌, ◌+◌, take, drop, length}
 use Rattle.net_data.specs.Spots.{outside}
 use Rattle.net_data.specs.Reading.{items_from}
 use Rattle.net_data.proofs.Items.{with_tokens}
@@ -6,6 +6,7 @@ use Rattle.net_data.proofs.set_statement.items_len.Given as goal
 
 abbrev pub invariant-tokens : goal.invariant-tokens
 invariant-tokens l = record {
-  value : items_from outside l.tokens ≡ with_tokens (take l.token-index l.tokens) (items_from l.spot (drop l.token-index l.tokens));
-  len : l.len ≡ l.token-index;
+  value : items_from outside l.fn.tokens ≡ with_tokens (take l.len l.fn.tokens) (items_from l.spot l.token-iterator);
+  left : l.token-iterator ≡ drop l.len l.fn.tokens;
+  within : l.len + length l.token-iterator ≡ length l.fn.tokens;
 }

@@ -12,20 +12,20 @@ returns-in_err-tokens-clause-rejected c text is =
 pub returns-in_err-tables-clause-rejected : goal.returns-in_err-tables-clause-rejected
 returns-in_err-tables-clause-rejected c text is =
     let fault = c.in_err-tables.field-0.0 in
-    let place = subst (λ (t : List Token). data_reading.Answers (data_reading.end_of t) (data_reading.tables t) (Err fault)) c.deref.ensures.value c.in_err-tables.ensures.place in
+    let place = subst (λ (t : List Token). data_reading.Answers (data_reading.end_of t) (data_reading.tables t) (Err fault)) c.words.ensures c.in_err-tables.ensures.place in
     passed_on _ fault c.from_residual-in_err-tables.result _ (λ e h. h)
-    (data_parse _ text c.args.data.now (view.model c.args.declared.now) c.in_ok-tokens.tokens.items fault is c.in_ok-tokens.ensures.value.ok place) c.from_residual-in_err-tables.ensures.1
+    (data_parse _ text c.args.data.now (view.model c.args.declared.now) c.in_ok-tokens.tokens fault is c.in_ok-tokens.ensures.value.ok place) c.from_residual-in_err-tables.ensures.1
 
 pub returns-in_err-world-clause-rejected : goal.returns-in_err-world-clause-rejected
 returns-in_err-world-clause-rejected c text is =
     let tables = c.in_ok-tables.tables in
     let fault = c.in_err-world.field-0.0 in
-    let found = is_data c.args.data.now c.in_ok-tokens.tokens.items _ tables c.deref.ensures.value c.in_ok-tokens.ensures.value.ok c.in_ok-tables.ensures.ok c.in_ok-tables.ensures.full in
+    let found = is_data c.args.data.now c.in_ok-tokens.tokens _ tables c.words.ensures c.in_ok-tokens.ensures.value.ok c.in_ok-tables.ensures.ok c.in_ok-tables.ensures.full in
     passed_on _ fault c.from_residual-in_err-world.result _ (λ e h. h)
     (network_stop _ text c.args.data.now (view.model c.args.declared.now) tables fault is found (bind_stop _ (view.model c.args.declared.now) tables fault c.in_err-world.ensures)) c.from_residual-in_err-world.ensures.1
 
 pub returns-clause-rejected : goal.returns-clause-rejected
 returns-clause-rejected c text is =
     let tables = c.in_ok-tables.tables in
-    let found = is_data c.args.data.now c.in_ok-tokens.tokens.items _ tables c.deref.ensures.value c.in_ok-tokens.ensures.value.ok c.in_ok-tables.ensures.ok c.in_ok-tables.ensures.full in
+    let found = is_data c.args.data.now c.in_ok-tokens.tokens _ tables c.words.ensures c.in_ok-tokens.ensures.value.ok c.in_ok-tables.ensures.ok c.in_ok-tables.ensures.full in
     network_stops _ text c.args.data.now (view.model c.args.declared.now) tables c.in_ok-world.world c.instantiate_for.result is found c.in_ok-world.ensures c.instantiate_for.ensures
