@@ -2,7 +2,6 @@ pub mod Limits
 pub mod Words
 pub mod Lines
 pub mod Written
-pub mod Sending
 pub mod Faults
 pub mod Reading
 pub mod Numbers

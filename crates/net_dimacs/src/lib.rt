@@ -11,7 +11,6 @@ mod integer;
 mod line_scan;
 mod number_field;
 mod open_line;
-mod page;
 mod problem_draft;
 mod problem_fault;
 mod problem_line;
@@ -19,6 +18,7 @@ mod problem_reader;
 mod problem_writer;
 mod progress;
 mod reading;
+mod written_line;
 
 pub use certificate_reader::{read_certificate, written_texts_are_read_back};
 pub use certificate_writer::write_certificate;

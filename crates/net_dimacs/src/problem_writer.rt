@@ -7,11 +7,11 @@ ghost use Rattle.net_io.specs.Ends.{WritesFront};
 ghost use Rattle.net_normal.specs.Limits.{flow_node_limit};
 ghost use Rattle.net_dimacs.specs.Written.{head_line, node_line, node_lines, arc_line, problem_text};
 ghost use Rattle.net_dimacs.specs.Problems.{IsProblemText, IsOnlyProblem};
-ghost use Rattle.net_dimacs.specs.Sending.{Sends};
+ghost use Rattle.net_io.specs.Paging.{Sends};
 
 use crate::OutOfMemory;
-use crate::page::{Page, send_line};
-use net_io::{Failed, GrowingSink, Sink, write_whole};
+use crate::written_line::send_line;
+use net_io::{Failed, GrowingSink, Page, Sink};
 use net_normal::{FlowArc, Problem};
 use std::alloc::{AllocError, Global};
 
@@ -62,74 +62,62 @@ fn send_whole<W: Sink>(problem: &Problem, sink: &mut W) -> Result<(), Failed>
     ensures flag { W.failed sink.new ≡ (W.failed sink.old || is_err result) }
 {
     let mut page = Page::new();
-    send_problem(sink, &mut page, problem)?;
-    write_whole(sink, page.as_slice())?;
-    Ok(())
+    send_problem(sink, &mut page, problem);
+    page.finish(sink)
 }
 
-fn send_problem<W: Sink>(sink: &mut W, page: &mut Page, problem: &Problem) -> Result<(), Failed>
-    ensures bytes { Sends (W.taken sink.old) (W.taken sink.new) page.old.items
-        (problem_text problem.now.supplies.items problem.now.arcs.items) page.new.items result }
-    ensures flag { W.failed sink.new ≡ (W.failed sink.old || is_err result) }
+fn send_problem<W: Sink>(sink: &mut W, page: &mut Page, problem: &Problem)
+    ensures { Sends (record { bytes = W.taken sink.old; failed = W.failed sink.old }) (record { bytes = W.taken sink.new; failed = W.failed sink.new })
+        page.old (problem_text problem.now.supplies.items problem.now.arcs.items) page.new }
 {
-    send_head(sink, page, problem)?;
-    send_nodes(sink, page, &problem.supplies)?;
-    send_arcs(sink, page, &problem.arcs)?;
-    Ok(())
+    send_head(sink, page, problem);
+    send_nodes(sink, page, &problem.supplies);
+    send_arcs(sink, page, &problem.arcs);
 }
 
-fn send_head<W: Sink>(sink: &mut W, page: &mut Page, problem: &Problem) -> Result<(), Failed>
-    ensures bytes { Sends (W.taken sink.old) (W.taken sink.new) page.old.items
-        (head_line problem.now.supplies.items problem.now.arcs.items) page.new.items result }
-    ensures flag { W.failed sink.new ≡ (W.failed sink.old || is_err result) }
+fn send_head<W: Sink>(sink: &mut W, page: &mut Page, problem: &Problem)
+    ensures { Sends (record { bytes = W.taken sink.old; failed = W.failed sink.old }) (record { bytes = W.taken sink.new; failed = W.failed sink.new })
+        page.old (head_line problem.now.supplies.items problem.now.arcs.items) page.new }
 {
     let node_count = problem.supplies.len() as i64;
     let arc_count = problem.arcs.len() as i64;
-    send_line(sink, page, b"p min", &[node_count, arc_count])
+    send_line(sink, page, b"p min", &[node_count, arc_count]);
 }
 
-fn send_nodes<W: Sink>(sink: &mut W, page: &mut Page, supplies: &[i64]) -> Result<(), Failed>
+fn send_nodes<W: Sink>(sink: &mut W, page: &mut Page, supplies: &[i64])
     requires { length supplies.now ≤ flow_node_limit }
-    ensures bytes { Sends (W.taken sink.old) (W.taken sink.new) page.old.items (node_lines 0 supplies.now) page.new.items result }
-    ensures flag { W.failed sink.new ≡ (W.failed sink.old || is_err result) }
+    ensures { Sends (record { bytes = W.taken sink.old; failed = W.failed sink.old }) (record { bytes = W.taken sink.new; failed = W.failed sink.new })
+        page.old (node_lines 0 supplies.now) page.new }
 {
     for (node, supply) in supplies.iter().enumerate() {
-        send_node(sink, page, node, supply)?;
+        send_node(sink, page, node, supply);
     }
-    Ok(())
 }
 
-fn send_node<W: Sink>(
-    sink: &mut W,
-    page: &mut Page,
-    node: usize,
-    supply: &i64,
-) -> Result<(), Failed>
+fn send_node<W: Sink>(sink: &mut W, page: &mut Page, node: usize, supply: &i64)
     requires { node < flow_node_limit }
-    ensures bytes { Sends (W.taken sink.old) (W.taken sink.new) page.old.items (node_line node supply.now) page.new.items result }
-    ensures flag { W.failed sink.new ≡ (W.failed sink.old || is_err result) }
+    ensures { Sends (record { bytes = W.taken sink.old; failed = W.failed sink.old }) (record { bytes = W.taken sink.new; failed = W.failed sink.new })
+        page.old (node_line node supply.now) page.new }
 {
-    if *supply == 0 {
-        return Ok(());
+    if *supply != 0 {
+        send_line(sink, page, b"n", &[node as i64 + 1, *supply]);
     }
-    send_line(sink, page, b"n", &[node as i64 + 1, *supply])
 }
 
-fn send_arcs<W: Sink>(sink: &mut W, page: &mut Page, arcs: &[FlowArc]) -> Result<(), Failed>
-    ensures bytes { Sends (W.taken sink.old) (W.taken sink.new) page.old.items (flat_map arc_line arcs.now) page.new.items result }
-    ensures flag { W.failed sink.new ≡ (W.failed sink.old || is_err result) }
+fn send_arcs<W: Sink>(sink: &mut W, page: &mut Page, arcs: &[FlowArc])
+    ensures { Sends (record { bytes = W.taken sink.old; failed = W.failed sink.old }) (record { bytes = W.taken sink.new; failed = W.failed sink.new })
+        page.old (flat_map arc_line arcs.now) page.new }
 {
     for arc in arcs {
-        send_arc(sink, page, *arc)?;
+        send_arc(sink, page, *arc);
     }
-    Ok(())
 }
 
-fn send_arc<W: Sink>(sink: &mut W, page: &mut Page, arc: FlowArc) -> Result<(), Failed>
-    ensures bytes { Sends (W.taken sink.old) (W.taken sink.new) page.old.items (arc_line arc) page.new.items result }
-    ensures flag { W.failed sink.new ≡ (W.failed sink.old || is_err result) }
+fn send_arc<W: Sink>(sink: &mut W, page: &mut Page, arc: FlowArc)
+    ensures { Sends (record { bytes = W.taken sink.old; failed = W.failed sink.old }) (record { bytes = W.taken sink.new; failed = W.failed sink.new })
+        page.old (arc_line arc) page.new }
 {
     let src = i64::from(arc.src) + 1;
     let dst = i64::from(arc.dst) + 1;
-    send_line(sink, page, b"a", &[src, dst, arc.low, arc.cap, arc.cost])
+    send_line(sink, page, b"a", &[src, dst, arc.low, arc.cap, arc.cost]);
 }

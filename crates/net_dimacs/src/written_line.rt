@@ -1,84 +1,63 @@
-//! An output buffer of one page.
+//! Writing a line of a problem.
 
-ghost use Rattle.std.specs.Prelude.{◌≡◌, ◌+◌, ◌≤◌, ◌||◌, [], ◌∷◌, ◌++◌, OnOk, is_err, length};
+ghost use Rattle.std.specs.Prelude.{◌≡◌, ◌+◌, ◌≤◌, ◌∷◌, ◌++◌, length};
 ghost use Rattle.std.specs.Fmt.{signed_decimal};
 ghost use Rattle.arrayvec.specs.ArrayVec.{array_vec_len};
+ghost use Rattle.net_io.specs.Paging.{Sends};
 ghost use Rattle.net_dimacs.specs.Written.{line};
-ghost use Rattle.net_dimacs.specs.Sending.{Sends};
 
 use arrayvec::ArrayVec;
 use itoa::Buffer;
-use net_io::{Failed, Sink, write_whole};
-
-/// The size of the buffer in bytes.
-const PAGE: usize = 4096;
+use net_io::{Page, Sink};
 
 /// The maximum length of a line: a kind of 8 bytes, five numbers of 40 bytes, each after a space,
 /// and LF.
 const LINE: usize = 214;
 
-/// The buffered bytes.
-pub type Page = ArrayVec<u8, PAGE>;
+/// The bytes of a line.
+type Line = ArrayVec<u8, LINE>;
 
-/// Appends a line to the buffer. Writes the buffer out first if the line may not fit.
-pub fn send_line<W: Sink>(
-    sink: &mut W,
-    page: &mut Page,
-    kind: &[u8],
-    numbers: &[i64],
-) -> Result<(), Failed>
+/// Sends a line through a page: a kind, and numbers, each after a space.
+pub fn send_line<W: Sink>(sink: &mut W, page: &mut Page, kind: &[u8], numbers: &[i64])
     requires kind { length kind.now ≤ 8 }
     requires numbers { length numbers.now ≤ 5 }
-    ensures bytes { Sends (W.taken sink.old) (W.taken sink.new) page.old.items (line kind.now numbers.now) page.new.items result }
-    ensures flag { W.failed sink.new ≡ (W.failed sink.old || is_err result) }
+    ensures { Sends (record { bytes = W.taken sink.old; failed = W.failed sink.old }) (record { bytes = W.taken sink.new; failed = W.failed sink.new })
+        page.old (line kind.now numbers.now) page.new }
 {
-    make_room(sink, page)?;
-    hold_line(page, kind, numbers);
-    Ok(())
+    let line = line_of(kind, numbers);
+    page.send(sink, line.as_slice());
 }
 
-fn make_room<W: Sink>(sink: &mut W, page: &mut Page) -> Result<(), Failed>
-    ensures bytes { Sends (W.taken sink.old) (W.taken sink.new) page.old.items [] page.new.items result }
-    ensures room { OnOk result (array_vec_len page.new + LINE ≤ PAGE) }
-    ensures flag { W.failed sink.new ≡ (W.failed sink.old || is_err result) }
-{
-    if page.remaining_capacity() >= LINE {
-        return Ok(());
-    }
-    write_whole(sink, page.as_slice())?;
-    page.clear();
-    Ok(())
-}
-
-fn hold_line(page: &mut Page, kind: &[u8], numbers: &[i64])
-    requires room { array_vec_len page.old + LINE ≤ PAGE }
+fn line_of(kind: &[u8], numbers: &[i64]) -> Line
     requires kind { length kind.now ≤ 8 }
     requires numbers { length numbers.now ≤ 5 }
-    ensures { page.new.items ≡ page.old.items ++ line kind.now numbers.now }
+    ensures { result.items ≡ line kind.now numbers.now }
 {
-    hold(page, kind);
+    let mut line = Line::new();
+    hold(&mut line, kind);
     for number in numbers {
-        hold_number(page, *number);
+        hold_number(&mut line, *number);
     }
-    page.push(b'\n');
+    line.push(b'\n');
+    line
 }
 
-fn hold_number(page: &mut Page, number: i64)
-    requires { array_vec_len page.old + 41 ≤ PAGE }
-    ensures text { page.new.items ≡ page.old.items ++ 32 ∷ signed_decimal number }
-    ensures few { array_vec_len page.new ≤ array_vec_len page.old + 41 }
+fn hold_number(line: &mut Line, number: i64)
+    requires { array_vec_len line.old + 41 ≤ LINE }
+    ensures text { line.new.items ≡ line.old.items ++ 32 ∷ signed_decimal number }
+    ensures few { array_vec_len line.new ≤ array_vec_len line.old + 41 }
 {
     let mut buffer = Buffer::new();
-    page.push(b' ');
-    hold(page, buffer.format(number).as_bytes());
+    line.push(b' ');
+    hold(line, buffer.format(number).as_bytes());
 }
 
-fn hold(page: &mut Page, bytes: &[u8])
-    requires { array_vec_len page.old + length bytes.now ≤ PAGE }
-    ensures text { page.new.items ≡ page.old.items ++ bytes.now }
-    ensures few { array_vec_len page.new ≡ array_vec_len page.old + length bytes.now }
+fn hold(line: &mut Line, bytes: &[u8])
+    requires { array_vec_len line.old + length bytes.now ≤ LINE }
+    ensures text { line.new.items ≡ line.old.items ++ bytes.now }
+    ensures few { array_vec_len line.new ≡ array_vec_len line.old + length bytes.now }
 {
-    match page.try_extend_from_slice(bytes) {
+    match line.try_extend_from_slice(bytes) {
         Ok(()) => {}
         Err(_) => unreachable!(),
     }

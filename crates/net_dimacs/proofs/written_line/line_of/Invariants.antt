@@ -1,11 +1,11 @@
 use Rattle.std.proofs.Common.{◌≡◌, ◌≤◌, ◌+◌, ◌*◌, ◌++◌, drop, length}
 use Rattle.arrayvec.specs.ArrayVec.{array_vec_len}
 use Rattle.net_dimacs.specs.Written.{row}
-use Rattle.net_dimacs.proofs.page.hold_line.Given as goal
+use Rattle.net_dimacs.proofs.written_line.line_of.Given as goal
 
 abbrev pub invariant-loop-number : goal.invariant-loop-number
 invariant-loop-number l =
     record {
-      text : l.page.items ++ row (drop l.number-index l.numbers) ≡ l.fn.page.items ++ (l.kind ++ row l.numbers);
-      few : array_vec_len l.page ≤ array_vec_len l.fn.page + (length l.kind + 41 * l.number-index);
+      text : l.line.items ++ row (drop l.number-index l.numbers) ≡ l.kind ++ row l.numbers;
+      few : array_vec_len l.line ≤ length l.kind + 41 * l.number-index;
     }

@@ -1,6 +1,6 @@
 use Rattle.std.proofs.Common.{arith}
 use Rattle.std.proofs.lemmas.Grind.{common_steps}
-use Rattle.net_dimacs.proofs.page.hold_line.Goals as goal
+use Rattle.net_dimacs.proofs.written_line.line_of.Goals as goal
 
 pub returns : goal.returns
 returns c = grind (arith, common_steps)
