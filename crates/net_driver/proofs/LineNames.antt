@@ -26,9 +26,8 @@ use Rattle.net_meaning.proofs.TextTokens.{declaration_and, declarations_hold, st
 use Rattle.net_meaning.proofs.TextWorlds.{world_holds}
 use Rattle.net_inst.specs.AsWritten as written
 use Rattle.net_inst.specs.declared.network_names.Declared.{Declared}
-use Rattle.net_inst.specs.declared.network_names.Key.{Key}
+use Rattle.net_inst.specs.Lists.{Key, Listed}
 use Rattle.net_inst.specs.Laws.{IsKeyOf, AreNames}
-use Rattle.net_inst.specs.Lists.{Listed}
 use Rattle.net_report.specs.LineNames.{AreWithinLine, HasLineNames}
 use Rattle.net_report.specs.Links.{in_line}
 use Rattle.net_report.specs.References.{names_in}

@@ -1,5 +1,5 @@
-//! Runs that compile: read both files completely, build the problem and its name map, then write
-//! them.
+//! Runs that compile: read both files completely, build the problem, then write it with its name
+//! map.
 
 ghost use Rattle.std.specs.Prelude.{◌≡◌, ◌+◌, ◌^◌, ◌<◌, ◌⊎◌, None, true, false, IfOk, IfErr};
 ghost use Rattle.std.specs.Option.{option_copied};
@@ -13,7 +13,6 @@ use crate::network_reader::read_network;
 use crate::reporting::reported;
 use net_io::{ReadFault, Sink, Source, read_to_limit};
 use net_lex::{DATA_LIMIT, MODEL_LIMIT};
-use net_report::write_links;
 use std::alloc::Global;
 
 /// Compiles the model and data of two sources, with the model's only objective, in the normal form,
@@ -62,8 +61,7 @@ pub fn run_compile_with<M: Source, D: Source, W: Sink>(
     let read = read_network(alloc, &model_text, &data_text, options.objective);
     let named = reported(alloc, &model_text, &data_text, read)?;
     let network = compile_network(alloc, options.lean, named)?;
-    let name_map = write_links(alloc, &network.names, &network.link)?;
-    match write_text(output, &name_map, &network) {
+    match write_text(output, &network) {
         Ok(()) => Ok(()),
         Err(_) => Err(Fault::Unwritten),
     }

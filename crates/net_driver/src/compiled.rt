@@ -8,15 +8,13 @@ ghost use Rattle.net_driver.specs.Reporting.{IsRejection};
 ghost use Rattle.net_driver.specs.IsBuilt.{IsBuilt};
 ghost use Rattle.net_driver.specs.Meaning.{IsCompilation};
 
-use crate::compiled_network::{CompiledNetwork, compile_network};
+use crate::compiled_network::{CompiledNetwork, compile_network, write_text};
 use crate::driver_fault::Fault;
 use crate::network_reader::read_network;
 use crate::reporting::reported;
-use net_dimacs::write_problem_to;
 use net_inst::Names;
 use net_io::GrowingSink;
 use net_normal::{Link, Problem};
-use net_report::write_links;
 use std::alloc::{AllocError, Global};
 use std::marker::Model;
 
@@ -92,9 +90,8 @@ pub(crate) fn with_text(
     requires { SizesAgree (written network) }
     ensures { IfOk result (λ compiled. compiled ≡ written network.entry) }
 {
-    let name_map = write_links(alloc, &network.names, &network.link)?;
-    let mut sink = GrowingSink::new(name_map);
-    match write_problem_to(&network.problem, &mut sink) {
+    let mut sink = GrowingSink::new(Vec::new(alloc));
+    match write_text(&mut sink, &network) {
         Ok(()) => Ok(Compiled {
             text: Text::new(sink.taken),
             problem: network.problem,

@@ -7,16 +7,16 @@ ghost use Rattle.net_expr.specs.Worlds.{Name};
 ghost use Rattle.net_inst.specs.Instances.{seen_as};
 ghost use Rattle.net_normal.specs.NormalForm.{IsFormIn};
 ghost use Rattle.net_normal.specs.Correspondence.{CorrespondsOneToOne};
-ghost use Rattle.net_report.specs.Links.{link_text};
 ghost use Rattle.net_driver.specs.IsBuilt.{IsBuilt};
 ghost use Rattle.net_driver.specs.CompiledNetwork.{written};
-ghost use Rattle.net_driver.specs.Made.{profile_of};
+ghost use Rattle.net_driver.specs.Made.{SizesAgree, profile_of};
 ghost use Rattle.net_driver.specs.Reading.{IsNetworkOf};
 
 use net_dimacs::write_problem_to;
 use net_inst::{Named, Names};
-use net_io::{Failed, Sink, write_whole};
+use net_io::{Failed, Sink};
 use net_normal::{Instance, Link, Problem, normalise, normalise_lean};
+use net_report::write_links_to;
 use std::alloc::{AllocError, Global};
 
 /// A compiled model without its text.
@@ -58,19 +58,14 @@ fn form_of(alloc: Global, lean: bool, instance: &Instance) -> Result<(Problem, L
     }
 }
 
-/// Writes the text of a compiled model: its name map, then the problem's lines through a buffer.
-/// Allocates no memory.
-pub(crate) fn write_text<W: Sink>(
-    sink: &mut W,
-    name_map: &[u8],
-    network: &CompiledNetwork<'_>,
-) -> Result<(), Failed>
-    requires { name_map.now ≡ link_text network.now.names network.now.link }
+/// Writes the text of a compiled model: its name map, then the problem's lines. Allocates no memory.
+pub(crate) fn write_text<W: Sink>(sink: &mut W, network: &CompiledNetwork<'_>) -> Result<(), Failed>
+    requires { SizesAgree (written network.now) }
     ensures ok { OnOk result (Appends (W.taken sink.old) (W.taken sink.new) (written network.now).text.items) }
     ensures err { OnErr result (WritesFront (W.taken sink.old) (W.taken sink.new) (written network.now).text.items) }
     ensures flag { W.failed sink.new ≡ (W.failed sink.old || is_err result) }
 {
-    write_whole(sink, name_map)?;
+    write_links_to(&network.names, &network.link, sink)?;
     write_problem_to(&network.problem, sink)?;
     Ok(())
 }

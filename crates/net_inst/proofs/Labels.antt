@@ -18,13 +18,12 @@ use Rattle.net_linear.specs.Arcs.{declared, is_arc}
 use Rattle.net_inst.specs.declared.node_name.Group.{Group}
 use Rattle.net_expr.specs.declared.indexing.Indexing.{Indexing}
 use Rattle.net_inst.specs.declared.network_names.Declared.{Declared}
-use Rattle.net_inst.specs.declared.network_names.Key.{Key}
+use Rattle.net_inst.specs.Lists.{Key, keyed, AreInOrder}
 use Rattle.net_inst.specs.AsWritten.{Label, label_at, same_label}
 use Rattle.net_inst.specs.Groups.{Numbers, unless_known, numbers_with, group_with}
 use Rattle.net_expr.specs.Indexings.{alone, by_keys, indexing_in}
 use Rattle.net_expr.specs.Rows.{keys_of}
 use Rattle.net_inst.specs.Laws.{IsKeyOf}
-use Rattle.net_inst.specs.Lists.{keyed, AreInOrder}
 use Rattle.net_inst.specs.Readings.{name_alone}
 use Rattle.net_inst.proofs.Zips.{ok_then, ok_is, map_map, map_join, zip_join, zip_as, get_front, get_after, get_last, get_below, distinct_front, distinct_after, distinct_of}
 

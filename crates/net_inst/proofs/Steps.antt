@@ -14,8 +14,7 @@ use Rattle.net_tree.proofs.Views.{next_phrase, next_declaration}
 use Rattle.net_expr.specs.declared.row.Row.{Row}
 use Rattle.net_expr.specs.Rows.{keys_of}
 use Rattle.net_expr.proofs.RowLists.{key_kept}
-use Rattle.net_inst.specs.declared.network_names.Key.{Key}
-use Rattle.net_inst.specs.Lists.{keyed}
+use Rattle.net_inst.specs.Lists.{Key, keyed}
 use Rattle.net_expr.specs.Worlds.{Name, World, Scope}
 use Rattle.net_linear.specs.Forms.{Linear}
 use Rattle.net_linear.specs.declared.condition.Sides.{Sides}

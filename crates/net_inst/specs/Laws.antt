@@ -18,12 +18,11 @@ use Rattle.net_linear.specs.Conditions.{Holds}
 use Rattle.net_inst.specs.declared.arc.Built.{Built}
 use Rattle.net_inst.specs.declared.network.Named.{Named as NamedOfCode}
 use Rattle.net_inst.specs.declared.network_names.Declared.{Declared}
-use Rattle.net_inst.specs.declared.network_names.Key.{Key}
+use Rattle.net_inst.specs.Lists.{Key, Listed, AreInOrder}
 use Rattle.net_inst.specs.AsWritten.{Label, Node, Arc, rows_of, known_after, nodes, arcs, node_declared, arc_declared, same_label, Assignment, numbers_on, by_label, from_end, to_end, AreDistinct, IsFeasible}
 use Rattle.net_expr.specs.Indexings.{indexing_in}
 use Rattle.net_expr.specs.Rows.{keys_of}
 use Rattle.net_inst.specs.Instances.{Network, network, seen_as}
-use Rattle.net_inst.specs.Lists.{Listed, AreInOrder}
 use Rattle.net_inst.specs.Readings.{Objective, objectives, chosen, value_of}
 
 -- an arc without its coefficient

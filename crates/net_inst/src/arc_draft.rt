@@ -114,10 +114,10 @@ impl<'s> ArcDraft<'s> {
         alloc: Global,
         name: &Token<'s>,
         first: u32,
-        indexing: &Indexing<'s>,
+        indexing: Indexing<'s>,
     ) -> Result<(), AllocError>
-        requires { length indexing.now.rows ≤ length self.now.arcs }
-        ensures { OnOk result (self.new ≡ found.named_arcs name.now.text first indexing.now self.old) }
+        requires { length indexing.rows ≤ length self.now.arcs }
+        ensures { OnOk result (self.new ≡ found.named_arcs name.now.text first indexing.entry self.old) }
     {
         self.group.declare(alloc, &name.text, first, indexing)
     }
@@ -128,9 +128,9 @@ impl<'s> ArcDraft<'s> {
         alloc: Global,
         visible: &ArcEnv<'_, 's>,
         text: &ArcText<'_, 's>,
-        indexing: &Indexing<'s>,
+        indexing: Indexing<'s>,
     ) -> Result<(), Fault>
-        ensures { Updates (found.arcs_by (arc_env_of visible.now) (arc_text_of text.now) self.old indexing.now) result self.new }
+        ensures { Updates (found.arcs_by (arc_env_of visible.now) (arc_text_of text.now) self.old indexing.entry) result self.new }
     {
         let first = self.len() as u32;
         self.add_rows(alloc, visible, text, &indexing.count, &indexing.rows)?;
@@ -150,7 +150,7 @@ impl<'s> ArcDraft<'s> {
             (arc_text_of text.now) self.old)) result self.new }
     {
         let indexing = kept_indexing_of(alloc, visible.env, braces)?;
-        self.declare_at(alloc, visible, text, &indexing)
+        self.declare_at(alloc, visible, text, indexing)
     }
 
     /// Adds the arcs of a declaration. A missing phrase is reported first, even if there are no

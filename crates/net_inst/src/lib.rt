@@ -19,4 +19,4 @@ pub use inst_laws::{
 };
 pub use net_base::Fault as InstFault;
 pub use network::{Named, instantiate, instantiate_for};
-pub use network_names::{Declared, Key, NameList, Names};
+pub use network_names::{Declared, DeclaredRows, NameList, Names};

@@ -1,7 +1,6 @@
 //! The names of nodes and arcs.
 
-ghost use Rattle.std.specs.Prelude.{◌≡◌, ◌++◌, List, map, slice_get, IfOk, OnOk};
-ghost use Rattle.std.specs.Option.{option_copied};
+ghost use Rattle.std.specs.Prelude.{◌≡◌, IfOk, OnOk};
 ghost use Rattle.net_inst.specs.Lists as lists;
 ghost use Rattle.net_base.specs.Outcomes.{diagnostic_at};
 ghost use Rattle.net_base.specs.declared.diagnostic.Detail.TheVariants.{Reported};
@@ -11,7 +10,6 @@ ghost use Rattle.net_base.specs.declared.diagnostic.Language.TheVariants.{Model 
 use net_base::{Detail, ErrorCode, Excerpt, Fault, Language, Span};
 use net_expr::RowList;
 use net_lex::Token;
-use net_sets::Tuple;
 use std::alloc::{AllocError, Global};
 use std::marker::Model;
 
@@ -22,28 +20,26 @@ pub struct Declared<'s> {
     pub indexed: bool,
 }
 
-/// A node or an arc: the index of its declaration, counted from 0, and its key, which is empty
-/// without indexing.
+/// A declaration with its nodes or arcs: a row for each, in the order of their keys.
 #[derive(Drop)]
-pub struct Key<'s> {
-    pub declaration: usize,
-    pub tuple: Tuple<'s>,
+pub struct DeclaredRows<'s> {
+    pub declared: Declared<'s>,
+    pub rows: RowList<'s>,
 }
 
 /// The declarations of nodes or of arcs in model order, and their nodes or arcs in the order of
 /// declarations and of keys.
 #[derive(Drop)]
 pub struct NameList<'s> {
-    declarations: Vec<Declared<'s>>,
-    keys: Vec<Key<'s>>,
+    declarations: Vec<DeclaredRows<'s>>,
 }
 
 impl<'s> Model for NameList<'s> {
-    ghost use Rattle.net_inst.specs.Lists.{Listed};
+    ghost use Rattle.net_inst.specs.Lists.{Listed, listed_rows};
 
     ghost Value = { Listed };
 
-    ghost view = { λ l. record { declarations = l.declarations.items; keys = l.keys.items } };
+    ghost view = { λ l. listed_rows l.declarations.items };
 }
 
 /// The names of a network: that of its objective, and those of its nodes and arcs in order.
@@ -61,22 +57,14 @@ impl<'s> NameList<'s> {
     {
         NameList {
             declarations: Vec::new(alloc),
-            keys: Vec::new(alloc),
         }
     }
 
-    /// Returns the declared names, in model order.
-    pub fn declarations(&self) -> &[Declared<'s>]
-        ensures { result.now ≡ self.now.declarations }
+    /// Returns the declarations with their rows, in model order.
+    pub fn declarations(&self) -> &[DeclaredRows<'s>]
+        ensures { self.now ≡ lists.listed_rows result.now }
     {
         self.declarations.as_slice()
-    }
-
-    /// Returns the nodes or arcs, grouped by declaration.
-    pub fn keys(&self) -> &[Key<'s>]
-        ensures { result.now ≡ self.now.keys }
-    {
-        self.keys.as_slice()
     }
 
     /// Adds a declaration: its name, the number of its subscripts (`None` without indexing), and
@@ -85,33 +73,19 @@ impl<'s> NameList<'s> {
         &mut self,
         name: &Excerpt<'s>,
         count: Option<u8>,
-        rows: &RowList<'s>,
+        rows: RowList<'s>,
     ) -> Result<(), AllocError>
-        ensures { OnOk result (self.new ≡ lists.listed_with self.old name.now count rows.now) }
+        ensures { OnOk result (self.new ≡ lists.listed_with self.old name.now count rows.entry) }
     {
-        push_keys(&mut self.keys, self.declarations.len(), rows)?;
-        self.declarations.push(Declared {
-            name: name.copied(),
-            indexed: count.is_some(),
+        self.declarations.push(DeclaredRows {
+            declared: Declared {
+                name: name.copied(),
+                indexed: count.is_some(),
+            },
+            rows,
         })?;
         Ok(())
     }
-}
-
-fn push_keys<'s>(
-    keys: &mut Vec<Key<'s>>,
-    declaration: usize,
-    rows: &RowList<'s>,
-) -> Result<(), AllocError>
-    ensures { OnOk result (keys.new.items ≡ keys.old.items ++ map (lists.keyed declaration) rows.now) }
-{
-    for place in 0..rows.len() {
-        keys.push(Key {
-            declaration,
-            tuple: rows.key(place),
-        })?;
-    }
-    Ok(())
 }
 
 /// Builds an error with its span and its detail.

@@ -154,9 +154,9 @@ impl<'s> NodeDraft<'s> {
         alloc: Global,
         env: &Env<'_, 's>,
         text: &NodeText<'_, 's>,
-        indexing: &Indexing<'s>,
+        indexing: Indexing<'s>,
     ) -> Result<(), Fault>
-        ensures { Updates (nodes.nodes_by env.now text.now.name.now (condition_of text.now.condition.now) self.old indexing.now) result self.new }
+        ensures { Updates (nodes.nodes_by env.now text.now.name.now (condition_of text.now.condition.now) self.old indexing.entry) result self.new }
     {
         let first = self.next_number();
         let rows = &indexing.rows;
@@ -178,7 +178,7 @@ impl<'s> NodeDraft<'s> {
     {
         let indexing = kept_indexing_of(alloc, env, braces)?;
         let text = NodeText { name, condition };
-        self.declare_at(alloc, env, &text, &indexing)
+        self.declare_at(alloc, env, &text, indexing)
     }
 
     /// Moves the ranges of the nodes out of the draft.

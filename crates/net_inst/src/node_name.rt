@@ -231,12 +231,13 @@ impl<'s> Group<'s> {
         alloc: Global,
         name: &Excerpt<'s>,
         first: u32,
-        indexing: &Indexing<'s>,
+        indexing: Indexing<'s>,
     ) -> Result<(), AllocError>
-        requires { length indexing.now.rows ≤ tuples_limit }
-        ensures { OnOk result (self.new ≡ groups.group_with self.old name.now first indexing.now) }
+        requires { length indexing.rows ≤ tuples_limit }
+        ensures { OnOk result (self.new ≡ groups.group_with self.old name.now first indexing.entry) }
     {
-        self.list.declare(name, indexing.count, &indexing.rows)?;
-        declare_number(alloc, name, first, indexing, &mut self.numbers)
+        declare_number(alloc, name, first, &indexing, &mut self.numbers)?;
+        let Indexing { count, rows } = indexing;
+        self.list.declare(name, count, rows)
     }
 }

@@ -8,9 +8,8 @@ use Rattle.net_normal.specs.declared.instance.Sense.TheVariants.{Maximise}
 use Rattle.net_normal.specs.declared.problem.FlowArc.{FlowArc}
 use Rattle.net_check.specs.Certificates.{supply_in, most_out, least_out}
 use Rattle.net_check.specs.declared.certificate.Side.TheVariants.{Over, Under}
-use Rattle.net_inst.specs.Lists.{Listed}
+use Rattle.net_inst.specs.Lists.{Listed, Key}
 use Rattle.net_inst.specs.declared.network_names.Declared.{Declared}
-use Rattle.net_inst.specs.declared.network_names.Key.{Key}
 use Rattle.net_report.specs.References.{names_in}
 use Rattle.net_report.specs.Links as links
 use Rattle.net_report.specs.Displays.{Assigned, value_line, blocks}

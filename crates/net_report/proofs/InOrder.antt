@@ -5,9 +5,8 @@ use Rattle.std.specs.List.{zip, filter, take_while, prefix_len}
 use Rattle.std.proofs.lemmas.Bool.{cases_Bool}
 use Rattle.std.proofs.lemmas.Bool.Decides.{nat_tests}
 use Rattle.net_inst.specs.declared.network_names.Declared.{Declared}
-use Rattle.net_inst.specs.declared.network_names.Key.{Key}
+use Rattle.net_inst.specs.Lists.{Key, AreInOrder}
 use Rattle.net_inst.specs.declared.network_names.Names.{Names}
-use Rattle.net_inst.specs.Lists.{AreInOrder}
 use Rattle.net_report.specs.Displays.{Assigned, value_line, is_of, block, blocks, blocks_of_all, display_text, display_of_all}
 
 -- arcs with their numbers, of declaration d or a later one, in order

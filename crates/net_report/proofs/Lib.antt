@@ -1,4 +1,6 @@
-pub mod Pairs
+pub mod ListedRows
+pub mod WrittenNames
+pub mod DeclaredBlocks
 pub mod Texts
 mod LineEnds
 pub mod InOrder

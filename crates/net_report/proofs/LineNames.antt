@@ -11,12 +11,11 @@ use Rattle.net_sets.specs.Sets.{Tuple}
 use Rattle.net_sets.specs.declared.member.Member.{Member}
 use Rattle.net_sets.specs.declared.member.Member.TheVariants.{Number, Name}
 use Rattle.net_inst.specs.declared.network_names.Declared.{Declared}
-use Rattle.net_inst.specs.declared.network_names.Key.{Key}
+use Rattle.net_inst.specs.Lists.{Key, Listed}
 use Rattle.net_expr.specs.References.{doubled, quoted, member_text, further_text, members_text, reference_text}
 use Rattle.net_report.specs.References.{declared_name, name_in, names_in}
 use Rattle.net_report.specs.LineNames.{IsWithinLine, AreWithinLine, HasLineNames}
 use Rattle.net_report.specs.Links.{within_line, in_line}
-use Rattle.net_inst.specs.Lists.{Listed}
 
 abbrev stays : ℕ → Bool
 stays b = not (ends_line b)
@@ -59,7 +58,7 @@ decimal_stays : (n : ℕ) → HasNoLineEnd (decimal n)
 unfolding digits
 decimal_stays n = digits_stay 64 n [] refl
 
-signed_stays : (z : ℤ) → HasNoLineEnd (signed_decimal z)
+pub signed_stays : (z : ℤ) → HasNoLineEnd (signed_decimal z)
 signed_stays (pos n) = decimal_stays n
 signed_stays (negsuc n) = decimal_stays (suc n)
 

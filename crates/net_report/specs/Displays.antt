@@ -5,7 +5,9 @@ use Rattle.std.specs.List.{zip, flat_map, filter, take_while, prefix_len}
 use Rattle.net_sets.specs.Sets.{Tuple}
 use Rattle.net_expr.specs.References.{member_text}
 use Rattle.net_inst.specs.declared.network_names.Declared.{Declared}
-use Rattle.net_inst.specs.declared.network_names.Key.{Key}
+use Rattle.net_expr.specs.Rows.{keys_of}
+use Rattle.net_inst.specs.Lists.{Key}
+use Rattle.net_inst.specs.declared.network_names.DeclaredRows.{DeclaredRows}
 use Rattle.net_inst.specs.declared.network_names.Names.{Names}
 
 -- an arc's key and its value in the assignment
@@ -21,15 +23,28 @@ abbrev pub fields : Tuple → List ℕ
 fields [] = []
 fields (m ∷ ms) = member_text m ++ (32 ∷ fields ms)
 
+-- the members of a key, and a value
+abbrev pub key_row : Tuple → ℤ → List ℕ
+key_row key number = fields key ++ (signed_decimal number ++ 10 ∷ [])
+
 -- an arc's members and its value
 abbrev pub row : Assigned → List ℕ
-row a = fields a.0.tuple ++ (signed_decimal a.1 ++ 10 ∷ [])
+row a = key_row a.0.tuple a.1
 
 -- a declaration with its arcs: if indexed, a row for each arc below the name; otherwise the value
 -- after the name
 abbrev pub block : Declared → List Assigned → List ℕ
 block d arcs =
     if d.indexed then d.name ++ (codes " :=\n" ++ (flat_map row arcs ++ codes ";\n")) else flat_map (λ a. value_line d.name a.1) arcs
+
+-- the rows of keys with their values
+abbrev pub key_rows : List Tuple → List ℤ → List ℕ
+key_rows keys numbers = flat_map (λ a. key_row a.0 a.1) (zip keys numbers)
+
+-- a declaration with the values of its arcs
+abbrev pub declared_block : DeclaredRows → List ℤ → List ℕ
+declared_block x numbers =
+    if x.declared.indexed then x.declared.name ++ (codes " :=\n" ++ (key_rows (keys_of x.rows) numbers ++ codes ";\n")) else flat_map (value_line x.declared.name) numbers
 
 -- whether the arc belongs to the declaration with this index, counted from 0
 abbrev pub is_of : ℕ → Assigned → Bool

@@ -1,17 +1,18 @@
 //! Writing why there is no plan.
 
-ghost use Rattle.std.specs.Prelude.{◌≡◌, ◌+◌, ◌≤◌, ◌++◌, IfOk, OnOk, length, vec_len};
+ghost use Rattle.std.specs.Prelude.{◌≡◌, ◌+◌, ◌≤◌, ◌++◌, IfOk, OnOk, Some, length, vec_len};
 ghost use Rattle.net_check.specs.Certificates.{is_in};
-ghost use Rattle.net_report.specs.References.{name_in, names_in};
+ghost use Rattle.net_report.specs.References.{declared_name, names_in, names_of};
 ghost use Rattle.net_report.specs.Cuts as cuts;
 
 use crate::OutOfMemory;
-use crate::links::push_name;
 use itoa::Buffer;
 use net_check::Side;
 use net_check::cut::{least_out, most_out, supply_in};
-use net_inst::{Key, NameList, Names};
+use net_expr::push_reference;
+use net_inst::{Declared, DeclaredRows, NameList, Names};
 use net_normal::Problem;
+use net_sets::Tuple;
 use std::alloc::{AllocError, Global};
 
 /// Formats a cut: `infeasible`, the direction in which the set's supply is infeasible, the supply,
@@ -87,9 +88,29 @@ fn push_nodes(
     requires { length nodes.now.keys ≤ length flags.now }
     ensures ok { OnOk result (text.new.items ≡ text.old.items ++ cuts.node_lines flags.now (names_in nodes.now)) }
 {
-    for (node, key) in nodes.keys().iter().enumerate() {
-        if flags[node] {
-            push_node(alloc, text, nodes, key)?;
+    let mut left = flags;
+    for declaration in nodes.declarations() {
+        let (own, later) = left.split_at(declaration.rows.len());
+        push_declared_nodes(alloc, text, declaration, own)?;
+        left = later;
+    }
+    Ok(())
+}
+
+/// Appends the names of those nodes of a declaration that are in the set.
+fn push_declared_nodes(
+    alloc: Global,
+    text: &mut Vec<u8>,
+    declaration: &DeclaredRows<'_>,
+    flags: &[bool],
+) -> Result<(), AllocError>
+    requires { length flags.now ≡ length declaration.now.rows }
+    ensures ok { OnOk result (text.new.items ≡ text.old.items ++ cuts.node_lines flags.now (names_of declaration.now)) }
+{
+    for place in 0..declaration.rows.len() {
+        if flags[place] {
+            let key = declaration.rows.key(place);
+            push_node(alloc, text, &declaration.declared, &key)?;
         }
     }
     Ok(())
@@ -98,13 +119,13 @@ fn push_nodes(
 fn push_node(
     alloc: Global,
     text: &mut Vec<u8>,
-    nodes: &NameList<'_>,
-    key: &Key<'_>,
+    declared: &Declared<'_>,
+    key: &Tuple<'_>,
 ) -> Result<(), AllocError>
-    ensures ok { OnOk result (text.new.items ≡ text.old.items ++ cuts.node_line (name_in nodes.now.declarations key.now)) }
+    ensures ok { OnOk result (text.new.items ≡ text.old.items ++ cuts.node_line (declared_name (Some declared.now) key.now)) }
 {
     let mut name = String::new(alloc);
-    push_name(alloc, &mut name, nodes, key)?;
+    push_reference(alloc, &mut name, &declared.name, declared.indexed, key)?;
     text.extend_from_slice(b"node ")?;
     text.extend_from_slice(name.as_bytes())?;
     text.push(b'\n')?;

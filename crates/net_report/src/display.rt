@@ -1,7 +1,8 @@
 //! Writing a plan.
 
 ghost use Rattle.std.specs.Prelude.{◌≡◌, ◌≤◌, ◌++◌, IfOk, OnOk, length, nat_eq, ◌<◌};
-ghost use Rattle.std.specs.List.{zip, flat_map, prefix_len, take_while};
+ghost use Rattle.std.specs.List.{zip, flat_map};
+ghost use Rattle.net_expr.specs.Rows.{keys_of};
 ghost use Rattle.net_inst.specs.Lists.{AreInOrder};
 ghost use Rattle.net_report.specs.Displays as displays;
 ghost use Rattle.net_normal.specs.Limits.{IsSized, value_limit};
@@ -12,8 +13,8 @@ use crate::OutOfMemory;
 use itoa::Buffer;
 use net_base::Excerpt;
 use net_check::wide::wide;
-use net_expr::push_member;
-use net_inst::{Declared, Key, NameList, Names};
+use net_expr::{RowList, push_member};
+use net_inst::{Declared, DeclaredRows, NameList, Names};
 use net_normal::Link;
 use net_sets::Tuple;
 use std::alloc::{AllocError, Global};
@@ -75,72 +76,33 @@ fn push_blocks(
     requires { length assignment.now ≡ length arcs.now.keys }
     ensures ok { OnOk result (text.new.items ≡ text.old.items ++ displays.blocks 0 arcs.now.declarations (zip arcs.now.keys assignment.now)) }
 {
-    let keys = arcs.keys();
-    let mut reported = 0;
-    for (number, declared) in arcs.declarations().iter().enumerate() {
-        reported += push_next(
-            alloc,
-            text,
-            number,
-            declared,
-            &keys[reported..],
-            &assignment[reported..],
-        )?;
+    let mut left = assignment;
+    for declaration in arcs.declarations() {
+        let (own, later) = left.split_at(declaration.rows.len());
+        push_block(alloc, text, declaration, own)?;
+        left = later;
     }
     Ok(())
-}
-
-/// Appends a declaration with the run of its arcs at the head of `keys`; returns their number.
-/// Fails only if memory runs out.
-fn push_next(
-    alloc: Global,
-    text: &mut Vec<u8>,
-    number: usize,
-    declared: &Declared<'_>,
-    keys: &[Key<'_>],
-    numbers: &[i64],
-) -> Result<usize, AllocError>
-    requires { length numbers.now ≡ length keys.now }
-    ensures ok { OnOk result (text.new.items ≡ text.old.items ++ displays.block declared.now (take_while (displays.is_of number) (zip keys.now numbers.now))) }
-    ensures count { IfOk result (λ n. n ≡ prefix_len (displays.is_of number) (zip keys.now numbers.now)) }
-    ensures fits { IfOk result (λ n. n ≤ length keys.now) }
-{
-    let count = count_own(number, keys);
-    push_block(alloc, text, declared, &keys[..count], &numbers[..count])?;
-    Ok(count)
-}
-
-/// Returns the length of the run of arcs of a declaration at the head of `keys`.
-fn count_own(declaration: usize, keys: &[Key<'_>]) -> usize
-    ensures value { result ≡ prefix_len (λ k. nat_eq k.declaration declaration) keys.now }
-    ensures fits { result ≤ length keys.now }
-{
-    for (place, key) in keys.iter().enumerate() {
-        if key.declaration != declaration {
-            return place;
-        }
-    }
-    keys.len()
 }
 
 /// Appends a declaration with its arcs. Fails only if memory runs out.
 fn push_block(
     alloc: Global,
     text: &mut Vec<u8>,
-    declared: &Declared<'_>,
-    keys: &[Key<'_>],
+    declaration: &DeclaredRows<'_>,
     numbers: &[i64],
 ) -> Result<(), AllocError>
-    requires { length numbers.now ≡ length keys.now }
-    ensures ok { OnOk result (text.new.items ≡ text.old.items ++ displays.block declared.now (zip keys.now numbers.now)) }
+    requires { length numbers.now ≡ length declaration.now.rows }
+    ensures ok { OnOk result (text.new.items ≡ text.old.items ++ displays.declared_block declaration.now numbers.now) }
 {
-    if declared.indexed {
-        text.extend_from_slice(declared.name.as_str().as_bytes())?;
+    let Declared { name, indexed } = &declaration.declared;
+    if *indexed {
+        text.extend_from_slice(name.as_str().as_bytes())?;
         text.extend_from_slice(b" :=\n")?;
-        push_rows(alloc, text, keys, numbers)?;
+        push_rows(alloc, text, &declaration.rows, numbers)?;
         text.extend_from_slice(b";\n")
     } else {
-        push_values(text, &declared.name, numbers)
+        push_values(text, name, numbers)
     }
 }
 
@@ -156,24 +118,29 @@ fn push_values(text: &mut Vec<u8>, name: &Excerpt<'_>, numbers: &[i64]) -> Resul
 fn push_rows(
     alloc: Global,
     text: &mut Vec<u8>,
-    keys: &[Key<'_>],
+    rows: &RowList<'_>,
     numbers: &[i64],
 ) -> Result<(), AllocError>
-    requires { length numbers.now ≡ length keys.now }
-    ensures ok { OnOk result (text.new.items ≡ text.old.items ++ flat_map displays.row (zip keys.now numbers.now)) }
+    requires { length numbers.now ≡ length rows.now }
+    ensures ok { OnOk result (text.new.items ≡ text.old.items ++ displays.key_rows (keys_of rows.now) numbers.now) }
 {
-    for (arc, key) in keys.iter().enumerate() {
-        push_row(alloc, text, key, numbers[arc])?;
+    for place in 0..rows.len() {
+        push_row(alloc, text, &rows.key(place), numbers[place])?;
     }
     Ok(())
 }
 
 /// Appends the members of an arc's key and its value. Fails only if memory runs out.
-fn push_row(alloc: Global, text: &mut Vec<u8>, key: &Key<'_>, number: i64) -> Result<(), AllocError>
-    ensures ok { OnOk result (text.new.items ≡ text.old.items ++ displays.row (key.now, number)) }
+fn push_row(
+    alloc: Global,
+    text: &mut Vec<u8>,
+    key: &Tuple<'_>,
+    number: i64,
+) -> Result<(), AllocError>
+    ensures ok { OnOk result (text.new.items ≡ text.old.items ++ displays.key_row key.now number) }
 {
     let mut buffer = Buffer::new();
-    push_fields(alloc, text, &key.tuple)?;
+    push_fields(alloc, text, key)?;
     text.extend_from_slice(buffer.format(number).as_bytes())?;
     text.push(b'\n')?;
     Ok(())

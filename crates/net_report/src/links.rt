@@ -1,134 +1,184 @@
 //! The lines that map the numbers of a problem back to the names of its model.
 
-ghost use Rattle.std.specs.Prelude.{◌≡◌, ◌+◌, ◌^◌, ◌<◌, ◌≤◌, ◌∷◌, ◌++◌, IfOk, OnOk, MatchOption, length, not, string_bytes, vec_len, ℕ, List};
-ghost use Rattle.std.specs.List.{prefix_len, AllByRecursion};
+ghost use Rattle.std.specs.Prelude.{◌≡◌, ◌+◌, ◌^◌, ◌<◌, ◌≤◌, ◌||◌, ◌∷◌, ◌++◌, OnErr, OnOk, MatchOption, is_err, length, not, string_bytes, vec_len, ℕ, List};
+ghost use Rattle.std.specs.Io.KnownBytes.{Appends};
+ghost use Rattle.std.specs.List.{flat_map, prefix_len, AllByRecursion};
 ghost use Rattle.std.specs.Str.{IsUtf8};
+ghost use Rattle.net_io.specs.Ends.{WritesFront};
+ghost use Rattle.net_io.specs.Paging.{Sends};
 ghost use Rattle.net_lex.specs.LineEnds.{ends_line, HasNoLineEnd};
-ghost use Rattle.net_report.specs.References.{name_in, names_in};
+ghost use Rattle.net_report.specs.References.{declared_name, names_in, names_of};
 ghost use Rattle.net_report.specs.Links as lines;
 ghost use Rattle.net_inst.specs.Lists.{Listed};
 ghost use Rattle.net_report.specs.LineNames.{HasLineNames};
 ghost use Rattle.net_report.specs.Links.{in_line};
 
-use crate::OutOfMemory;
+use crate::written_name::send_name;
 use itoa::Buffer;
-use net_expr::push_reference;
-use net_inst::{Key, NameList, Names};
+use net_inst::{Declared, DeclaredRows, NameList, Names};
+use net_io::{Failed, Page, Sink};
 use net_normal::{Link, Sense};
-use std::alloc::{AllocError, Global};
+use net_sets::Tuple;
+use std::alloc::AllocError;
 
-/// Formats the comment lines at the top of a problem: the constant and the sign that give the
-/// objective value from a cost, and the name for each number.
+/// Writes the comment lines at the top of a problem through a buffer of one page: the constant and
+/// the sign that give the objective value from a cost, and the name for each number. Allocates no
+/// memory.
 ///
 /// The link has a number and an offset for each arc name; number 0 means that the problem omits the
-/// arc. Fails only if memory runs out.
-pub fn write_links(alloc: Global, names: &Names<'_>, link: &Link) -> Result<Vec<u8>, OutOfMemory>
+/// arc. On `Failed`, a prefix of the lines was written.
+pub fn write_links_to<W: Sink>(names: &Names<'_>, link: &Link, sink: &mut W) -> Result<(), Failed>
     requires { vec_len link.now.numbers ≡ length names.now.arcs.keys }
-    ensures value { IfOk result (λ text. text.items ≡ lines.link_text names.now link.now) }
+    ensures ok { OnOk result (Appends (W.taken sink.old) (W.taken sink.new) (lines.link_text names.now link.now)) }
+    ensures err { OnErr result (WritesFront (W.taken sink.old) (W.taken sink.new) (lines.link_text names.now link.now)) }
+    ensures flag { W.failed sink.new ≡ (W.failed sink.old || is_err result) }
 {
-    let mut text = String::new(alloc);
-    push_constant(&mut text, link.constant)?;
-    text.push_str(sign_line(link.sense))?;
-    push_nodes(alloc, &mut text, &names.nodes)?;
-    push_arcs(alloc, &mut text, &names.arcs, link)?;
-    Ok(text.into_bytes())
+    let mut page = Page::new();
+    send_links(sink, &mut page, names, link);
+    page.finish(sink)
 }
 
-fn push_constant(text: &mut String, constant: i128) -> Result<(), AllocError>
-    ensures ok { OnOk result (string_bytes text.new ≡ string_bytes text.old ++ lines.constant_line constant) }
+fn send_links<W: Sink>(sink: &mut W, page: &mut Page, names: &Names<'_>, link: &Link)
+    requires { vec_len link.now.numbers ≡ length names.now.arcs.keys }
+    ensures { Sends (record { bytes = W.taken sink.old; failed = W.failed sink.old }) (record { bytes = W.taken sink.new; failed = W.failed sink.new })
+        page.old (lines.link_text names.now link.now) page.new }
+{
+    send_constant(sink, page, link.constant);
+    page.send(sink, sign_line(link.sense));
+    send_nodes(sink, page, &names.nodes);
+    send_arcs(sink, page, &names.arcs, link);
+}
+
+fn send_constant<W: Sink>(sink: &mut W, page: &mut Page, constant: i128)
+    ensures { Sends (record { bytes = W.taken sink.old; failed = W.failed sink.old }) (record { bytes = W.taken sink.new; failed = W.failed sink.new })
+        page.old (lines.constant_line constant) page.new }
 {
     let mut buffer = Buffer::new();
-    text.push_str("c constant ")?;
-    text.push_str(buffer.format(constant))?;
-    text.push_str("\n")
+    page.send(sink, b"c constant ");
+    page.send(sink, buffer.format(constant).as_bytes());
+    page.send(sink, b"\n");
 }
 
-fn sign_line(sense: Sense) -> &'static str
+fn sign_line(sense: Sense) -> &'static [u8]
     ensures value { result.now ≡ lines.sign_line sense }
 {
     match sense {
-        Sense::Minimise => "c sign 1\n",
-        Sense::Maximise => "c sign -1\n",
+        Sense::Minimise => b"c sign 1\n",
+        Sense::Maximise => b"c sign -1\n",
     }
 }
 
-fn push_nodes(alloc: Global, text: &mut String, nodes: &NameList<'_>) -> Result<(), AllocError>
-    ensures ok { OnOk result (string_bytes text.new ≡ string_bytes text.old ++ lines.node_lines 0 (names_in nodes.now)) }
+fn send_nodes<W: Sink>(sink: &mut W, page: &mut Page, nodes: &NameList<'_>)
+    ensures { Sends (record { bytes = W.taken sink.old; failed = W.failed sink.old }) (record { bytes = W.taken sink.new; failed = W.failed sink.new })
+        page.old (lines.node_lines 0 (names_in nodes.now)) page.new }
 {
-    for (node, key) in nodes.keys().iter().enumerate() {
-        push_node(alloc, text, node as u64, nodes, key)?;
+    // Several declarations can have more nodes than an `u64` counts.
+    let mut count: u128 = 0;
+    for declaration in nodes.declarations() {
+        let own_count = declaration.rows.len();
+        send_declared_nodes(sink, page, count, declaration);
+        count += own_count as u128;
     }
-    Ok(())
 }
 
-fn push_node(
-    alloc: Global,
-    text: &mut String,
-    node: u64,
-    nodes: &NameList<'_>,
-    key: &Key<'_>,
-) -> Result<(), AllocError>
-    requires { node + 1 < 2 ^ 64 }
-    ensures ok { OnOk result (string_bytes text.new ≡ string_bytes text.old ++ lines.node_line (node + 1) (name_in nodes.now.declarations key.now)) }
+/// Sends a line for each node of a declaration; `count` nodes come before them.
+fn send_declared_nodes<W: Sink>(
+    sink: &mut W,
+    page: &mut Page,
+    count: u128,
+    declaration: &DeclaredRows<'_>,
+)
+    requires { count + length declaration.now.rows < 2 ^ 128 }
+    ensures { Sends (record { bytes = W.taken sink.old; failed = W.failed sink.old }) (record { bytes = W.taken sink.new; failed = W.failed sink.new })
+        page.old (lines.node_lines count (names_of declaration.now)) page.new }
+{
+    for place in 0..declaration.rows.len() {
+        let key = declaration.rows.key(place);
+        let number = count + place as u128 + 1;
+        send_node(sink, page, number, &declaration.declared, &key);
+    }
+}
+
+fn send_node<W: Sink>(
+    sink: &mut W,
+    page: &mut Page,
+    number: u128,
+    declared: &Declared<'_>,
+    key: &Tuple<'_>,
+)
+    ensures { Sends (record { bytes = W.taken sink.old; failed = W.failed sink.old }) (record { bytes = W.taken sink.new; failed = W.failed sink.new })
+        page.old (lines.node_line number (declared_name (Some declared.now) key.now)) page.new }
 {
     let mut buffer = Buffer::new();
-    text.push_str("c node ")?;
-    text.push_str(buffer.format(node + 1))?;
-    text.push_str(" ")?;
-    push_name_in_line(alloc, text, nodes, key)?;
-    text.push_str("\n")
+    page.send(sink, b"c node ");
+    page.send(sink, buffer.format(number).as_bytes());
+    page.send(sink, b" ");
+    send_name(sink, page, declared, key);
+    page.send(sink, b"\n");
 }
 
-fn push_arcs(
-    alloc: Global,
-    text: &mut String,
-    arcs: &NameList<'_>,
-    link: &Link,
-) -> Result<(), AllocError>
+fn send_arcs<W: Sink>(sink: &mut W, page: &mut Page, arcs: &NameList<'_>, link: &Link)
     requires { vec_len link.now.numbers ≡ length arcs.now.keys }
-    ensures ok { OnOk result (string_bytes text.new ≡ string_bytes text.old ++ lines.arc_lines link.now.numbers.items link.now.offsets.items
-        (names_in arcs.now)) }
+    ensures { Sends (record { bytes = W.taken sink.old; failed = W.failed sink.old }) (record { bytes = W.taken sink.new; failed = W.failed sink.new })
+        page.old (lines.arc_lines link.now.numbers.items link.now.offsets.items (names_in arcs.now)) page.new }
 {
-    for (arc, key) in arcs.keys().iter().enumerate() {
-        push_arc(alloc, text, link.numbers[arc], link.offsets[arc], arcs, key)?;
+    let mut numbers = link.numbers.as_slice();
+    let mut offsets = link.offsets.as_slice();
+    for declaration in arcs.declarations() {
+        let own_count = declaration.rows.len();
+        let (own_numbers, later_numbers) = numbers.split_at(own_count);
+        let (own_offsets, later_offsets) = offsets.split_at(own_count);
+        send_declared_arcs(sink, page, declaration, own_numbers, own_offsets);
+        numbers = later_numbers;
+        offsets = later_offsets;
     }
-    Ok(())
 }
 
-fn push_arc(
-    alloc: Global,
-    text: &mut String,
+/// Sends a line for each arc of a declaration.
+fn send_declared_arcs<W: Sink>(
+    sink: &mut W,
+    page: &mut Page,
+    declaration: &DeclaredRows<'_>,
+    numbers: &[u32],
+    offsets: &[i64],
+)
+    requires numbers { length numbers.now ≡ length declaration.now.rows }
+    requires offsets { length offsets.now ≡ length declaration.now.rows }
+    ensures { Sends (record { bytes = W.taken sink.old; failed = W.failed sink.old }) (record { bytes = W.taken sink.new; failed = W.failed sink.new })
+        page.old (lines.arc_lines numbers.now offsets.now (names_of declaration.now)) page.new }
+{
+    for place in 0..declaration.rows.len() {
+        let key = declaration.rows.key(place);
+        send_arc(
+            sink,
+            page,
+            numbers[place],
+            offsets[place],
+            &declaration.declared,
+            &key,
+        );
+    }
+}
+
+fn send_arc<W: Sink>(
+    sink: &mut W,
+    page: &mut Page,
     number: u32,
     offset: i64,
-    arcs: &NameList<'_>,
-    key: &Key<'_>,
-) -> Result<(), AllocError>
-    ensures ok { OnOk result (string_bytes text.new ≡ string_bytes text.old ++ lines.arc_line number offset (name_in arcs.now.declarations key.now)) }
+    declared: &Declared<'_>,
+    key: &Tuple<'_>,
+)
+    ensures { Sends (record { bytes = W.taken sink.old; failed = W.failed sink.old }) (record { bytes = W.taken sink.new; failed = W.failed sink.new })
+        page.old (lines.arc_line number offset (declared_name (Some declared.now) key.now)) page.new }
 {
     let mut buffer = Buffer::new();
-    text.push_str("c arc ")?;
-    text.push_str(buffer.format(number))?;
-    text.push_str(" ")?;
-    text.push_str(buffer.format(offset))?;
-    text.push_str(" ")?;
-    push_name_in_line(alloc, text, arcs, key)?;
-    text.push_str("\n")
-}
-
-/// Appends a name as written within a line. Fails only if memory runs out.
-fn push_name_in_line(
-    alloc: Global,
-    text: &mut String,
-    list: &NameList<'_>,
-    key: &Key<'_>,
-) -> Result<(), AllocError>
-    ensures ok { OnOk result (string_bytes text.new ≡ string_bytes text.old ++ lines.in_line (name_in list.now.declarations key.now)) }
-{
-    let mut name = String::new(alloc);
-    // Most names are shorter. A string that grows would be copied for each name.
-    name.reserve(64)?;
-    push_name(alloc, &mut name, list, key)?;
-    push_in_line(text, name.as_str())
+    page.send(sink, b"c arc ");
+    page.send(sink, buffer.format(number).as_bytes());
+    page.send(sink, b" ");
+    page.send(sink, buffer.format(offset).as_bytes());
+    page.send(sink, b" ");
+    send_name(sink, page, declared, key);
+    page.send(sink, b"\n");
 }
 
 /// Appends a text as written within a line: with a space for each line-ending byte, LF or CR. Fails
@@ -167,28 +217,10 @@ fn plain_len(bytes: &[u8]) -> usize
     bytes.iter().take_while(|b| !ends_line(**b)).count()
 }
 
-fn ends_line(byte: u8) -> bool
+pub(crate) fn ends_line(byte: u8) -> bool
     ensures { result ≡ ends_line byte }
 {
     byte == b'\n' || byte == b'\r'
-}
-
-/// Appends the name of a node or an arc, followed by its key in brackets if it is indexed. Fails
-/// only if memory runs out.
-pub(crate) fn push_name(
-    alloc: Global,
-    text: &mut String,
-    list: &NameList<'_>,
-    key: &Key<'_>,
-) -> Result<(), AllocError>
-    ensures { OnOk result (string_bytes text.new ≡ string_bytes text.old ++ name_in list.now.declarations key.now) }
-{
-    match list.declarations().get(key.declaration) {
-        None => Ok(()),
-        Some(declared) => {
-            push_reference(alloc, text, &declared.name, declared.indexed, &key.tuple)
-        }
-    }
 }
 
 /// Theorem: a name without line endings is unchanged as written within a line.

@@ -3,7 +3,7 @@
 use crate::steps::line_of;
 use crate::values::tuple_shown;
 use net_eval::World;
-use net_inst::{Declared, Key, NameList, Named, instantiate};
+use net_inst::{Declared, DeclaredRows, NameList, Named, instantiate};
 use net_normal::{InstArc, Instance, NodeRange, Sense};
 use net_tree::Model;
 use std::alloc::{AllocError, Global};
@@ -14,21 +14,28 @@ fn declared_shown(alloc: Global, declared: &Declared<'_>) -> Result<String, Allo
     format!(in alloc; " {name}{mark}")
 }
 
-fn key_shown(alloc: Global, key: &Key<'_>) -> Result<String, AllocError> {
-    let declaration = key.declaration;
-    let tuple = tuple_shown(alloc, &key.tuple)?;
-    format!(in alloc; " {declaration}[{tuple}]")
+fn keys_shown(
+    alloc: Global,
+    number: usize,
+    declaration: &DeclaredRows<'_>,
+) -> Result<String, AllocError> {
+    let mut out = String::new(alloc);
+    for place in 0..declaration.rows.len() {
+        let tuple = tuple_shown(alloc, &declaration.rows.key(place))?;
+        out.push_str(format!(in alloc; " {number}[{tuple}]")?.as_str())?;
+    }
+    Ok(out)
 }
 
 /// The declared names, and the keys with the numbers of their declarations.
 fn names_shown(alloc: Global, names: &NameList<'_>) -> Result<String, AllocError> {
     let mut out = String::new(alloc);
-    for declared in names.declarations() {
-        out.push_str(declared_shown(alloc, declared)?.as_str())?;
+    for declaration in names.declarations() {
+        out.push_str(declared_shown(alloc, &declaration.declared)?.as_str())?;
     }
     out.push_str(":")?;
-    for key in names.keys() {
-        out.push_str(key_shown(alloc, key)?.as_str())?;
+    for (number, declaration) in names.declarations().iter().enumerate() {
+        out.push_str(keys_shown(alloc, number, declaration)?.as_str())?;
     }
     Ok(out)
 }

@@ -14,12 +14,12 @@ reported-requires g c =
     let stopped = rw (c.deref.ensures.value, c.deref-2.ensures.value) at c.read_network-read.ensures.rejected in
     rw (c.deref-3.ensures.value, c.deref-4.ensures.value) (lies_there _ c.in_ok-model_text.model_text.items c.in_ok-data_text.data_text.items _ stopped)
 
-pub write_links-requires : goal.write_links-requires
-write_links-requires g c =
+pub write_text-requires : goal.write_text-requires
+write_text-requires g c =
     let m = c.in_ok-model_text.model_text.items in
     let d = c.in_ok-data_text.data_text.items in
     let found = rw (c.deref.ensures.value, c.deref-2.ensures.value) at c.read_network-read.ensures.ok in
-    (c.in_ok-network.ensures _ m d (network_read _ m d _ c.in_ok-named.named c.in_ok-named.ensures.ok found)).sizes.arcs
+    (c.in_ok-network.ensures _ m d (network_read _ m d _ c.in_ok-named.named c.in_ok-named.ensures.ok found)).sizes
 
 pub returns-in-Ok-clause-run : goal.returns-in-Ok-clause-run
 returns-in-Ok-clause-run g c =

@@ -1,8 +1,7 @@
 use Rattle.std.proofs.Common.{◌≡◌, ◌++◌, drop}
-use Rattle.std.specs.List.{flat_map, zip}
-use Rattle.net_report.specs.Displays.{row}
+use Rattle.net_expr.specs.Rows.{keys_of}
+use Rattle.net_report.specs.Displays.{key_rows}
 use Rattle.net_report.proofs.display.push_rows.Given as goal
 
-abbrev pub invariant-loop-arc : goal.invariant-loop-arc
-invariant-loop-arc l =
-    l.text.items ++ flat_map row (zip (drop l.arc l.keys) (drop l.arc l.numbers)) ≡ l.fn.text.items ++ flat_map row (zip l.keys l.numbers)
+abbrev pub invariant-loop-place : goal.invariant-loop-place
+invariant-loop-place l = l.text.items ++ key_rows (drop l.place (keys_of l.rows)) (drop l.place l.numbers) ≡ l.fn.text.items ++ key_rows (keys_of l.rows) l.numbers
