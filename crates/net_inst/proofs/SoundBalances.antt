@@ -1,6 +1,6 @@
 -- In the normal form and the lean form, the supply of each node stands for its range, whether or not the other nodes can be balanced; and the
 -- cost of any flow gives the value of its assignment.
-use Rattle.std.specs.Prelude.{◌≡◌, ◌≢◌, ◌+◌, ℕ, suc, List, [], ◌∷◌, ◌++◌, length, map, slice_get, Option, None, Some, vec_len, ⊤, ℤ, pos, ◌+ℤ◌, ◌-ℤ◌, ◌≤ℤ◌, neg_ℤ, nat_eq}
+use Rattle.std.specs.Prelude.{◌≡◌, ◌≢◌, ◌+◌, ℕ, List, [], ◌∷◌, ◌++◌, length, map, slice_get, Option, None, Some, vec_len, ⊤, ℤ, pos, ◌+ℤ◌, ◌-ℤ◌, ◌≤ℤ◌, neg_ℤ, nat_eq}
 use Rattle.std.specs.Int.{int_min, int_max}
 use Rattle.std.specs.List.{AllZip}
 use Rattle.std.proofs.Common.{refl, ap, sym, ◌∙◌, subst, arith}
@@ -19,7 +19,7 @@ use Rattle.net_normal.specs.declared.profile.Profile.{Profile}
 use Rattle.net_normal.specs.Flows.{net_outflow, IsWithinCapacity, cost_of}
 use Rattle.net_normal.specs.Links.{signed, mapped_back, mapped_back_by, value_at}
 use Rattle.net_normal.specs.NormalForm.{offsets_of, numbers_from, flow_arc_of, written_arcs, least_inflow, most_inflow, low_of, high_of, shift_of, supply_of, supplies_from, slack_arcs_from, IsFormIn}
-use Rattle.net_normal.specs.Sums.{flow_on, price_of, sum_of}
+use Rattle.net_normal.specs.Sums.{price_of, sum_of}
 use Rattle.net_normal.proofs.ArcMapsBack.{length-offsets, lessened-within}
 use Rattle.net_normal.proofs.ArcSums.{added, lessened, added-lessened, flow_on-append, flow_on-added, flow_on-le, flow_on-ge, price_of-append, price_of-added, zipped_parts, zipped_whole, zipped-weaker, zipped-length}
 use Rattle.net_normal.proofs.NodeRuns.{EachNode, each-get_from_zero, each-from_get_zero, slice_get-inside}

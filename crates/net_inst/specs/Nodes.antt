@@ -93,6 +93,15 @@ abbrev pub node_by : BuiltNodes → World → Scope → Span → Option (Token �
 node_by d w s at None = rejected KindMismatch at
 node_by d w s at (Some p) = node_of d w s at p.0 p.1
 
+-- the keys of the declaration that a reference names
+abbrev pub named_keys : BuiltNodes → Option (Token × Option (Tree × Links)) → Option KeyNumbers
+named_keys d None = None
+named_keys d (Some p) = declared d.group.numbers p.0.text
+
+abbrev pub end_keys : BuiltNodes → Option Tree → Option KeyNumbers
+end_keys d None = None
+end_keys d (Some t) = named_keys d (name_in t)
+
 -- the node of a reference; its subscripts are evaluated first
 abbrev pub node_named : BuiltNodes → World → Scope → Tree → Outcome ℕ
 node_named d w s t = node_by d w s (span_of t) (name_in t)

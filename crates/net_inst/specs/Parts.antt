@@ -4,7 +4,7 @@ use Rattle.std.specs.Prelude.{map, option_map, option_copied}
 use Rattle.net_tree.specs.View.{phrase_of, tree}
 use Rattle.net_inst.specs.Arcs.{ArcEnv, ArcText}
 use Rattle.net_inst.specs.declared.arc.ArcEnv as code
-use Rattle.net_inst.specs.declared.arc.ArcText as code_text
+use Rattle.net_inst.specs.declared.arc_text.ArcText as code_text
 use Rattle.net_inst.specs.declared.arc.ArcParts.{ArcParts}
 use Rattle.net_inst.specs.Phrases.{Parts}
 

@@ -8,18 +8,20 @@ ghost use Rattle.net_inst.specs.Arcs as found;
 ghost use Rattle.net_inst.specs.Fitting.{IsPriced};
 ghost use Rattle.net_inst.specs.Instances as network;
 ghost use Rattle.net_base.specs.Outcomes.{Refines, RefinesAs};
-ghost use Rattle.net_inst.specs.Parts.{parts_seen};
+ghost use Rattle.net_inst.specs.Nodes.{end_keys};
+ghost use Rattle.net_inst.specs.Parts.{arc_text_of, parts_seen};
 ghost use Rattle.net_inst.specs.Phrases as saying;
 
+use crate::arc_text::ArcText;
 use crate::draft::ChosenObjective;
 use crate::network_names::{reject, reject_name};
 use crate::node::NodeDraft;
-use crate::node_name::node_named;
+use crate::node_name::{end_keys, node_named};
 use crate::price::number_of;
 use net_base::{ErrorCode, Fault};
 use net_expr::{Env, Row, Scope, reported_reference};
 use net_lex::Token;
-use net_linear::Affine;
+use net_linear::{Affine, KeyNumbers};
 use net_normal::InstArc;
 use net_tree::{Expr, Phrase, PhraseWord, phrase_value};
 use std::alloc::{AllocError, Global};
@@ -33,28 +35,46 @@ pub(crate) struct Built {
     pub(crate) head: Option<u32>,
 }
 
-/// The parts of a declaration of arcs.
-#[derive(Clone, Copy)]
-pub(crate) struct ArcText<'a, 's> {
-    /// The declared name.
-    pub(crate) name: &'a Token<'s>,
-    pub(crate) parts: ArcParts<'a, 's>,
-    pub(crate) phrases: &'a [Phrase<'s>],
+impl<'a, 's> ArcText<'a, 's> {
+    /// Creates the declaration of its parts.
+    pub(crate) fn new(
+        visible: ArcEnv<'a, 's>,
+        name: &'a Token<'s>,
+        parts: ArcParts<'a, 's>,
+        phrases: &'a [Phrase<'s>],
+    ) -> ArcText<'a, 's>
+        ensures visible { result.visible ≡ visible.entry }
+        ensures text { arc_text_of result ≡ found.arc_text name.entry.now (parts_seen parts.entry) (map phrase_of phrases.entry.now) }
+    {
+        let tail_keys = end_keys(visible.nodes, &parts.tail);
+        let head_keys = end_keys(visible.nodes, &parts.head);
+        ArcText {
+            visible,
+            name,
+            parts,
+            phrases,
+            tail_keys,
+            head_keys,
+        }
+    }
 }
 
-/// Returns the node at an end, or `None` if the end is not given.
+/// Returns the node at an end, given the keys of the declaration that it names; `None` if the end is
+/// not given.
 fn end_at<'s>(
     alloc: Global,
     visible: &ArcEnv<'_, 's>,
     scope: &Scope<'s>,
     end: &Option<&Expr<'s>>,
+    keys: Option<&KeyNumbers<'s>>,
 ) -> Result<Option<u32>, Fault>
+    requires { option_copied keys ≡ end_keys visible.now.nodes.now (option_map tree (option_copied end.now)) }
     ensures { Refines (found.end_at visible.now.nodes.now visible.now.env.now scope.now (option_map tree (option_copied end.now))) result }
 {
     match end {
         None => Ok(None),
         Some(expr) => {
-            let number = node_named(alloc, visible.env, scope, visible.nodes, expr)?;
+            let number = node_named(alloc, visible.env, scope, visible.nodes, expr, keys)?;
             Ok(Some(number))
         }
     }
@@ -63,16 +83,16 @@ fn end_at<'s>(
 /// Builds an arc with these bounds and its ends.
 fn with_ends<'s>(
     alloc: Global,
-    visible: &ArcEnv<'_, 's>,
+    text: &ArcText<'_, 's>,
     scope: &Scope<'s>,
-    parts: &ArcParts<'_, 's>,
     lower: i64,
     upper: i64,
 ) -> Result<Built, Fault>
-    ensures { Refines (found.with_ends visible.now.nodes.now visible.now.env.now scope.now (parts_seen parts.now) lower upper) result }
+    ensures { Refines (found.with_ends text.now.visible.nodes.now text.now.visible.env.now scope.now (parts_seen text.now.parts) lower upper) result }
 {
-    let tail = end_at(alloc, visible, scope, &parts.tail)?;
-    let head = end_at(alloc, visible, scope, &parts.head)?;
+    let ArcParts { tail, head, .. } = &text.parts;
+    let tail = end_at(alloc, &text.visible, scope, tail, text.tail_keys)?;
+    let head = end_at(alloc, &text.visible, scope, head, text.head_keys)?;
     Ok(Built {
         lower,
         upper,
@@ -84,21 +104,21 @@ fn with_ends<'s>(
 /// Returns the arc at a key: evaluates first its bounds, then its ends.
 pub(crate) fn arc_at<'s>(
     alloc: Global,
-    visible: &ArcEnv<'_, 's>,
     text: &ArcText<'_, 's>,
     count: &Option<u8>,
     row: &Row<'s>,
 ) -> Result<Built, Fault>
-    ensures { Refines (found.built visible.now.nodes.now visible.now.env.now text.now.name.now count.now (parts_seen text.now.parts) row.now) result }
+    ensures { Refines (found.built text.now.visible.nodes.now text.now.visible.env.now text.now.name.now count.now (parts_seen text.now.parts) row.now) result }
 {
     let scope = &row.scope;
-    let lower = number_of(alloc, visible.env, scope, text.parts.lower)?;
-    let upper = number_of(alloc, visible.env, scope, text.parts.upper)?;
+    let env = text.visible.env;
+    let lower = number_of(alloc, env, scope, text.parts.lower)?;
+    let upper = number_of(alloc, env, scope, text.parts.upper)?;
     if upper < lower {
         let detail = reported_reference(alloc, &text.name.text, *count, &row.key)?;
         Err(reject(ErrorCode::ArcCrossed, text.name.span, detail))
     } else {
-        with_ends(alloc, visible, scope, &text.parts, lower, upper)
+        with_ends(alloc, text, scope, lower, upper)
     }
 }
 

@@ -12,7 +12,8 @@ ghost use Rattle.net_base.specs.Outcomes.{Updates, and_then, Refines};
 ghost use Rattle.net_inst.specs.Parts.{arc_env_of, arc_text_of};
 ghost use Rattle.net_inst.specs.Drafts as drafts;
 
-use crate::arc::{ArcEnv, ArcText, Built, arc_at, parts_of, priced};
+use crate::arc::{ArcEnv, Built, arc_at, parts_of, priced};
+use crate::arc_text::ArcText;
 use crate::network_names::{NameList, reject_name};
 use crate::node_name::Group;
 use crate::price::add_phrases;
@@ -63,20 +64,19 @@ impl<'s> ArcDraft<'s> {
     fn add_arc(
         &mut self,
         alloc: Global,
-        visible: &ArcEnv<'_, 's>,
         text: &ArcText<'_, 's>,
         count: &Option<u8>,
         row: &Row<'s>,
     ) -> Result<(), Fault>
-        ensures value { Updates (found.next_arc (arc_env_of visible.now) (arc_text_of text.now) count.now row.now self.old) result self.new }
+        ensures value { Updates (found.next_arc (arc_env_of text.now.visible) (arc_text_of text.now) count.now row.now self.old) result self.new }
         ensures count { OnOk result (length self.new.arcs ≡ length self.old.arcs + 1) }
     {
         let arc = self.arcs.len();
         if arc < ARC_LIMIT {
-            let new = arc_at(alloc, visible, text, count, row)?;
+            let new = arc_at(alloc, text, count, row)?;
             add_phrases(
                 alloc,
-                visible,
+                &text.visible,
                 &row.scope,
                 arc,
                 text.phrases,
@@ -93,17 +93,16 @@ impl<'s> ArcDraft<'s> {
     fn add_rows(
         &mut self,
         alloc: Global,
-        visible: &ArcEnv<'_, 's>,
         text: &ArcText<'_, 's>,
         count: &Option<u8>,
         rows: &RowList<'s>,
     ) -> Result<(), Fault>
-        ensures value { Updates (found.arcs_at (arc_env_of visible.now) (arc_text_of text.now) count.now rows.now self.old) result self.new }
+        ensures value { Updates (found.arcs_at (arc_env_of text.now.visible) (arc_text_of text.now) count.now rows.now self.old) result self.new }
         ensures few { OnOk result (length rows.now ≤ length self.new.arcs) }
     {
         for place in 0..rows.len() {
             let row = rows.row(alloc, place)?;
-            self.add_arc(alloc, visible, text, count, row.get())?;
+            self.add_arc(alloc, text, count, row.get())?;
         }
         Ok(())
     }
@@ -126,14 +125,13 @@ impl<'s> ArcDraft<'s> {
     fn declare_at(
         &mut self,
         alloc: Global,
-        visible: &ArcEnv<'_, 's>,
         text: &ArcText<'_, 's>,
         indexing: Indexing<'s>,
     ) -> Result<(), Fault>
-        ensures { Updates (found.arcs_by (arc_env_of visible.now) (arc_text_of text.now) self.old indexing.entry) result self.new }
+        ensures { Updates (found.arcs_by (arc_env_of text.now.visible) (arc_text_of text.now) self.old indexing.entry) result self.new }
     {
         let first = self.len() as u32;
-        self.add_rows(alloc, visible, text, &indexing.count, &indexing.rows)?;
+        self.add_rows(alloc, text, &indexing.count, &indexing.rows)?;
         self.declare_name(alloc, text.name, first, indexing)?;
         Ok(())
     }
@@ -142,15 +140,14 @@ impl<'s> ArcDraft<'s> {
     fn declare_said(
         &mut self,
         alloc: Global,
-        visible: &ArcEnv<'_, 's>,
         text: &ArcText<'_, 's>,
         braces: &Option<Braces<'s>>,
     ) -> Result<(), Fault>
-        ensures { Updates (and_then (indexing_in visible.now.env.now (indexing_of braces.now)) (found.arcs_by (arc_env_of visible.now)
+        ensures { Updates (and_then (indexing_in text.now.visible.env.now (indexing_of braces.now)) (found.arcs_by (arc_env_of text.now.visible)
             (arc_text_of text.now) self.old)) result self.new }
     {
-        let indexing = kept_indexing_of(alloc, visible.env, braces)?;
-        self.declare_at(alloc, visible, text, indexing)
+        let indexing = kept_indexing_of(alloc, text.visible.env, braces)?;
+        self.declare_at(alloc, text, indexing)
     }
 
     /// Adds the arcs of a declaration. A missing phrase is reported first, even if there are no
@@ -166,12 +163,8 @@ impl<'s> ArcDraft<'s> {
         ensures { Updates (found.with_arcs (arc_env_of visible.now) name.now (indexing_of braces.now) (map phrase_of phrases.now) self.old) result self.new }
     {
         let parts = parts_of(alloc, name, phrases)?;
-        let text = ArcText {
-            name,
-            parts,
-            phrases,
-        };
-        self.declare_said(alloc, visible, &text, braces)
+        let text = ArcText::new(*visible, name, parts, phrases);
+        self.declare_said(alloc, &text, braces)
     }
 
     /// Returns the number of arcs.

@@ -3,6 +3,7 @@
 
 mod arc;
 mod arc_draft;
+mod arc_text;
 mod draft;
 mod inst_laws;
 mod network;

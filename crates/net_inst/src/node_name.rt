@@ -119,21 +119,6 @@ fn node_at<'s>(
     }
 }
 
-/// Returns the node with a declared name and a key.
-fn declared_node<'s>(
-    alloc: Global,
-    nodes: &NodeDraft<'s>,
-    whole: &Expr<'s>,
-    name: &Token<'s>,
-    key: Tuple<'s>,
-) -> Result<u32, Fault>
-    ensures value { Refines (found.node_at (length nodes.now.ranges) (trees.span_of (tree whole.now)) name.now.text (declared
-        nodes.now.group.numbers name.now.text) key.entry) result }
-{
-    let keys = nodes.keys_of(&name.text);
-    node_at(alloc, nodes.len(), whole, &name.text, keys, key)
-}
-
 /// Returns a name and its subscripts, if there are any.
 #[tactic(auto, using(net_tree::proofs::Views::views))]
 fn name_in<'a, 's>(
@@ -153,22 +138,41 @@ fn name_in<'a, 's>(
     }
 }
 
-/// Returns the number of the node of a reference; its subscripts are evaluated first.
+/// Returns the keys of the declaration that a reference to a node names, if there is one.
+pub(crate) fn end_keys<'a, 's>(
+    nodes: &'a NodeDraft<'s>,
+    end: &Option<&Expr<'s>>,
+) -> Option<&'a KeyNumbers<'s>>
+    ensures { option_copied result ≡ found.end_keys nodes.entry.now (option_map tree (option_copied end.now)) }
+{
+    match end {
+        None => None,
+        Some(expr) => match name_in(expr) {
+            None => None,
+            Some((name, _)) => nodes.keys_of(&name.text),
+        },
+    }
+}
+
+/// Returns the number of the node of a reference, given the keys of the declaration that it names;
+/// its subscripts are evaluated first.
 pub(crate) fn node_named<'s>(
     alloc: Global,
     env: &Env<'_, 's>,
     scope: &Scope<'s>,
     nodes: &NodeDraft<'s>,
     expr: &Expr<'s>,
+    keys: Option<&KeyNumbers<'s>>,
 ) -> Result<u32, Fault>
+    requires { option_copied keys ≡ found.named_keys nodes.now (found.name_in (tree expr.now)) }
     ensures value { Refines (found.node_named nodes.now env.now scope.now (tree expr.now)) result }
 {
     match name_in(expr) {
         None => Err(reject_tree(ErrorCode::KindMismatch, expr)),
-        Some((name, None)) => declared_node(alloc, nodes, expr, name, Tuple::new()),
+        Some((name, None)) => { node_at(alloc, nodes.len(), expr, &name.text, keys, Tuple::new()) }
         Some((name, Some((first, more)))) => {
             let key = key_of(alloc, env, scope, expr, first, more)?;
-            declared_node(alloc, nodes, expr, name, key)
+            node_at(alloc, nodes.len(), expr, &name.text, keys, key)
         }
     }
 }
