@@ -10,7 +10,7 @@ use Rattle.net_data.specs.declared.data_parser.ParseError.{ParseError}
 use Rattle.net_data.specs.declared.statement.Tables.{Tables}
 use Rattle.net_data.specs.GoingOn.{Begins, EndsAt, NoneGoOn, EndsOpen, AllBegin, IsWrong, at_token, at_end}
 use Rattle.net_data.specs.Meaning.{Mean}
-use Rattle.net_data.specs.Reading.{tables, stop, end_of, span_or_end, fault_of, Fails, Answers}
+use Rattle.net_data.specs.Reading.{tables, stop, end_of, span_or_end, Fails, Answers}
 use Rattle.net_data.specs.Rejections.{HasFault, IsErrorCodeAt, IsRejection}
 use Rattle.net_data.proofs.Blames.{tables_err}
 use Rattle.net_data.proofs.GoingOn.{stops_at_token}

@@ -1,12 +1,11 @@
 -- What holds of the tokens of a data text holds of those of its statements. Where the tokens rise through the text, its statements lie in it, and so
 -- does what stops the reading.
-use Rattle.std.specs.Prelude.{◌≡◌, ℕ, ◌-◌, Bool, true, false, ◌&&◌, List, [], ◌∷◌, ◌++◌, length, slice_get, if◌then◌else◌, Option, None, Some, Err, ⊤}
+use Rattle.std.specs.Prelude.{◌≡◌, ℕ, ◌-◌, Bool, true, false, ◌&&◌, List, [], ◌∷◌, ◌++◌, length, slice_get, if◌then◌else◌, Option, None, Some, Err}
 use Rattle.std.specs.List.{AllByRecursion}
 use Rattle.std.proofs.Common.{refl, subst, arith}
 use Rattle.net_base.specs.declared.diagnostic.Span.{Span}
 use Rattle.net_base.specs.declared.error_code.ErrorCode.{ErrorCode}
 use Rattle.net_base.specs.declared.error_code.ErrorCode.TheVariants.{DataSyntax}
-use Rattle.net_base.specs.declared.diagnostic.Fault.TheVariants.{At}
 use Rattle.net_lex.specs.declared.token.Token.{Token}
 use Rattle.net_data.specs.declared.statement.DefaultValue.{DefaultValue}
 use Rattle.net_data.specs.declared.statement.Given.{Given}
@@ -20,9 +19,9 @@ use Rattle.net_data.specs.declared.statement.Tables.{Tables}
 use Rattle.net_data.specs.Commas.{Place, before, place_after, skips, bare}
 use Rattle.net_data.specs.Tests.{is_comma}
 use Rattle.net_data.specs.Meaning.{Mean}
-use Rattle.net_data.specs.Printing.{put_default, put_given, put_transposed, put_set, put_single, put, put_all, print}
+use Rattle.net_data.specs.Printing.{put_default, put_given, put_transposed, put_set, put_single, put, put_all}
 use Rattle.net_data.specs.Reading.{tables, end_at, end_of, span_or_end, fault_of}
-use Rattle.net_data.specs.GoingOn.{BeginsBefore, EndsAt, IsWrong, at_token, at_end}
+use Rattle.net_data.specs.GoingOn.{BeginsBefore, IsWrong, at_token, at_end}
 use Rattle.net_data.specs.Rejections.{IsErrorCodeAt}
 use Rattle.net_data.proofs.FirstWrong.{answer_rejected}
 use Rattle.net_base.specs.Places.{IsSpanIn}

@@ -7,7 +7,7 @@ ghost use Rattle.net_io.specs.Ends.{WritesFront};
 ghost use Rattle.net_normal.specs.Limits.{flow_node_limit};
 ghost use Rattle.net_dimacs.specs.Written.{head_line, node_line, node_lines, arc_line, problem_text};
 ghost use Rattle.net_dimacs.specs.Problems.{IsProblemText, IsOnlyProblem};
-ghost use Rattle.net_io.specs.Paging.{Sends};
+ghost use Rattle.net_io.specs.Paging.{SendsTo};
 
 use crate::OutOfMemory;
 use crate::written_line::send_line;
@@ -67,8 +67,7 @@ fn send_whole<W: Sink>(problem: &Problem, sink: &mut W) -> Result<(), Failed>
 }
 
 fn send_problem<W: Sink>(sink: &mut W, page: &mut Page, problem: &Problem)
-    ensures { Sends (record { bytes = W.taken sink.old; failed = W.failed sink.old }) (record { bytes = W.taken sink.new; failed = W.failed sink.new })
-        page.old (problem_text problem.now.supplies.items problem.now.arcs.items) page.new }
+    ensures { SendsTo W.taken W.failed sink.old sink.new page.old (problem_text problem.now.supplies.items problem.now.arcs.items) page.new }
 {
     send_head(sink, page, problem);
     send_nodes(sink, page, &problem.supplies);
@@ -76,8 +75,7 @@ fn send_problem<W: Sink>(sink: &mut W, page: &mut Page, problem: &Problem)
 }
 
 fn send_head<W: Sink>(sink: &mut W, page: &mut Page, problem: &Problem)
-    ensures { Sends (record { bytes = W.taken sink.old; failed = W.failed sink.old }) (record { bytes = W.taken sink.new; failed = W.failed sink.new })
-        page.old (head_line problem.now.supplies.items problem.now.arcs.items) page.new }
+    ensures { SendsTo W.taken W.failed sink.old sink.new page.old (head_line problem.now.supplies.items problem.now.arcs.items) page.new }
 {
     let node_count = problem.supplies.len() as i64;
     let arc_count = problem.arcs.len() as i64;
@@ -86,8 +84,7 @@ fn send_head<W: Sink>(sink: &mut W, page: &mut Page, problem: &Problem)
 
 fn send_nodes<W: Sink>(sink: &mut W, page: &mut Page, supplies: &[i64])
     requires { length supplies.now ≤ flow_node_limit }
-    ensures { Sends (record { bytes = W.taken sink.old; failed = W.failed sink.old }) (record { bytes = W.taken sink.new; failed = W.failed sink.new })
-        page.old (node_lines 0 supplies.now) page.new }
+    ensures { SendsTo W.taken W.failed sink.old sink.new page.old (node_lines 0 supplies.now) page.new }
 {
     for (node, supply) in supplies.iter().enumerate() {
         send_node(sink, page, node, supply);
@@ -96,8 +93,7 @@ fn send_nodes<W: Sink>(sink: &mut W, page: &mut Page, supplies: &[i64])
 
 fn send_node<W: Sink>(sink: &mut W, page: &mut Page, node: usize, supply: &i64)
     requires { node < flow_node_limit }
-    ensures { Sends (record { bytes = W.taken sink.old; failed = W.failed sink.old }) (record { bytes = W.taken sink.new; failed = W.failed sink.new })
-        page.old (node_line node supply.now) page.new }
+    ensures { SendsTo W.taken W.failed sink.old sink.new page.old (node_line node supply.now) page.new }
 {
     if *supply != 0 {
         send_line(sink, page, b"n", &[node as i64 + 1, *supply]);
@@ -105,8 +101,7 @@ fn send_node<W: Sink>(sink: &mut W, page: &mut Page, node: usize, supply: &i64)
 }
 
 fn send_arcs<W: Sink>(sink: &mut W, page: &mut Page, arcs: &[FlowArc])
-    ensures { Sends (record { bytes = W.taken sink.old; failed = W.failed sink.old }) (record { bytes = W.taken sink.new; failed = W.failed sink.new })
-        page.old (flat_map arc_line arcs.now) page.new }
+    ensures { SendsTo W.taken W.failed sink.old sink.new page.old (flat_map arc_line arcs.now) page.new }
 {
     for arc in arcs {
         send_arc(sink, page, *arc);
@@ -114,8 +109,7 @@ fn send_arcs<W: Sink>(sink: &mut W, page: &mut Page, arcs: &[FlowArc])
 }
 
 fn send_arc<W: Sink>(sink: &mut W, page: &mut Page, arc: FlowArc)
-    ensures { Sends (record { bytes = W.taken sink.old; failed = W.failed sink.old }) (record { bytes = W.taken sink.new; failed = W.failed sink.new })
-        page.old (arc_line arc) page.new }
+    ensures { SendsTo W.taken W.failed sink.old sink.new page.old (arc_line arc) page.new }
 {
     let src = i64::from(arc.src) + 1;
     let dst = i64::from(arc.dst) + 1;

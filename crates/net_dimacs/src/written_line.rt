@@ -3,7 +3,7 @@
 ghost use Rattle.std.specs.Prelude.{◌≡◌, ◌+◌, ◌≤◌, ◌∷◌, ◌++◌, length};
 ghost use Rattle.std.specs.Fmt.{signed_decimal};
 ghost use Rattle.arrayvec.specs.ArrayVec.{array_vec_len};
-ghost use Rattle.net_io.specs.Paging.{Sends};
+ghost use Rattle.net_io.specs.Paging.{SendsTo};
 ghost use Rattle.net_dimacs.specs.Written.{line};
 
 use arrayvec::ArrayVec;
@@ -21,8 +21,7 @@ type Line = ArrayVec<u8, LINE>;
 pub fn send_line<W: Sink>(sink: &mut W, page: &mut Page, kind: &[u8], numbers: &[i64])
     requires kind { length kind.now ≤ 8 }
     requires numbers { length numbers.now ≤ 5 }
-    ensures { Sends (record { bytes = W.taken sink.old; failed = W.failed sink.old }) (record { bytes = W.taken sink.new; failed = W.failed sink.new })
-        page.old (line kind.now numbers.now) page.new }
+    ensures { SendsTo W.taken W.failed sink.old sink.new page.old (line kind.now numbers.now) page.new }
 {
     let line = line_of(kind, numbers);
     page.send(sink, line.as_slice());

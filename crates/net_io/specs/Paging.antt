@@ -1,5 +1,5 @@
 -- Output through a buffer of one page (terms of Rust's std::io, BufWriter).
-use Rattle.std.specs.Prelude.{◌≡◌, ℕ, Bool, true, false, ◌||◌, List, [], ◌++◌, Option}
+use Rattle.std.specs.Prelude.{◌≡◌, ℕ, Bool, true, false, List, [], ◌++◌, Option}
 use Rattle.std.specs.Io.KnownBytes.{Appends}
 use Rattle.net_io.specs.Ends.{WritesFront}
 
@@ -28,3 +28,7 @@ pub record Sends (old new : Taken) (before : Held) (text : List ℕ) (after : He
   pub passes : before.failed ≡ false → after.failed ≡ false → Passes old.bytes new.bytes before.bytes text after.bytes × (new.failed ≡ old.failed)
   pub stops : before.failed ≡ false → after.failed ≡ true → WritesFront old.bytes new.bytes (before.bytes ++ text) × (new.failed ≡ true)
   pub stopped : before.failed ≡ true → (after.failed ≡ true) × (new ≡ old)
+
+-- the same of a sink before and after: `taken` and `failed` are what is known of it
+abbrev pub SendsTo : {S : Type 0} (taken : S → Option (List ℕ)) (failed : S → Bool) (old new : S) (before : Held) (text : List ℕ) (after : Held) → Type 0
+SendsTo taken failed old new before text after = Sends (record { bytes = taken old; failed = failed old }) (record { bytes = taken new; failed = failed new }) before text after

@@ -5,7 +5,7 @@ ghost use Rattle.std.specs.Io.KnownBytes.{Appends};
 ghost use Rattle.arrayvec.specs.ArrayVec.{array_vec_len};
 ghost use Rattle.net_io.specs.Ends.{WritesFront};
 ghost use Rattle.net_io.specs.Paging as paging;
-ghost use Rattle.net_io.specs.Paging.{Sends};
+ghost use Rattle.net_io.specs.Paging.{SendsTo};
 
 use crate::sink::{Failed, Sink, write_whole};
 use arrayvec::ArrayVec;
@@ -43,8 +43,7 @@ impl Page {
     /// Appends bytes to the page. Writes the page first if they do not fit, and writes them too if
     /// they are longer than a page.
     pub fn send<W: Sink>(&mut self, sink: &mut W, bytes: &[u8])
-        ensures { Sends (record { bytes = W.taken sink.old; failed = W.failed sink.old }) (record { bytes = W.taken sink.new; failed = W.failed sink.new })
-            self.old bytes.now self.new }
+        ensures { SendsTo W.taken W.failed sink.old sink.new self.old bytes.now self.new }
     {
         if self.failed {
             return;

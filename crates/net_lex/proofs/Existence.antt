@@ -1,5 +1,5 @@
 -- A text that is short enough and UTF-8 has tokens or a first error.
-use Rattle.std.proofs.Common.{◌≡◌, ℕ, ◌≤◌, List, length, Option, Some, None, MatchOption, IsUtf8}
+use Rattle.std.proofs.Common.{ℕ, ◌≤◌, List, length, Option, Some, None, MatchOption, IsUtf8}
 use Rattle.net_base.specs.declared.error_code.ErrorCode.{ErrorCode}
 use Rattle.net_base.specs.declared.diagnostic.Language.{Language}
 use Rattle.net_base.specs.declared.diagnostic.Span.{Span}

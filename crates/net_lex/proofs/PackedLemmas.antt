@@ -1,7 +1,6 @@
 -- The place of a token, as it is stored.
-use Rattle.std.proofs.Common.{◌≡◌, ℕ, ◌+◌, ◌-◌, ◌≤◌, List, [], ◌∷◌, ◌++◌, length, take, drop, map, sym, ap, ◌∙◌, arith, subst, refl, length-append, take_at, drop_at, IsUtf8, suc, zero, ◌<◌, slice_index_or}
+use Rattle.std.proofs.Common.{◌≡◌, ℕ, ◌+◌, ◌-◌, ◌≤◌, List, ◌++◌, length, take, drop, sym, ap, ◌∙◌, arith, subst, refl, length-append, take_at, drop_at, IsUtf8}
 use Rattle.std.proofs.Math.Seq.{drop-drop}
-use Rattle.std.specs.Prelude.{slice_range, All}
 use Rattle.std.proofs.lemmas.Str.{IsUtf8-append, IsCharBoundary-from_drop}
 use Rattle.net_base.specs.declared.diagnostic.Language.{Language}
 use Rattle.net_lex.specs.declared.token.Token.{Token}

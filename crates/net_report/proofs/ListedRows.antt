@@ -1,7 +1,7 @@
 -- The names, lines and values of declarations with their rows, one declaration after the other.
-use Rattle.std.proofs.Common.{◌≡◌, ℕ, zero, suc, ◌+◌, ◌≤◌, ◌<◌, Bool, true, false, List, [], ◌∷◌, ◌++◌, length, map, take, drop, ℤ, refl, sym, ap, ◌∙◌, append_assoc, append-nil, arith, length-append, length-drop, get_or, add-one, pos}
-use Rattle.std.specs.Prelude.{Option, Some, slice_get, nat_eq, if◌then◌else◌}
-use Rattle.std.specs.List.{flat_map, zip, take_while, prefix_len}
+use Rattle.std.proofs.Common.{◌≡◌, ℕ, zero, suc, ◌+◌, ◌≤◌, ◌<◌, Bool, true, false, List, [], ◌∷◌, ◌++◌, length, map, take, drop, ℤ, refl, sym, ap, ◌∙◌, append_assoc, arith, length-append, length-drop, get_or, add-one, pos}
+use Rattle.std.specs.Prelude.{Some, slice_get, if◌then◌else◌}
+use Rattle.std.specs.List.{flat_map}
 use Rattle.std.proofs.lemmas.List.{map-append, length-map, drop_all}
 use Rattle.std.proofs.Math.Seq.{drop-cons}
 use Rattle.net_sets.specs.Sets.{Tuple}
@@ -9,7 +9,7 @@ use Rattle.net_expr.specs.declared.row.Row.{Row}
 use Rattle.net_expr.specs.Rows.{keys_of}
 use Rattle.net_inst.specs.declared.network_names.Declared.{Declared}
 use Rattle.net_inst.specs.declared.network_names.DeclaredRows.{DeclaredRows}
-use Rattle.net_inst.specs.Lists.{Key, keyed, keyed_rows, listed_rows}
+use Rattle.net_inst.specs.Lists.{keyed, keyed_rows, listed_rows}
 use Rattle.net_report.specs.References.{declared_name, name_in, names_in, names_of}
 use Rattle.net_report.specs.Links as links
 use Rattle.net_report.specs.Cuts as cuts

@@ -1,7 +1,6 @@
 -- Names within a line, written piece by piece.
-use Rattle.std.proofs.Common.{◌≡◌, ℕ, suc, ◌+◌, ◌<◌, Bool, true, false, ◌||◌, List, [], ◌∷◌, ◌++◌, length, map, take, drop, get_or, ℤ, refl, sym, ap, ◌∙◌, append_assoc, append-nil, arith, add-one, take_all, ◌≤◌, ◌-◌}
-use Rattle.std.specs.Prelude.{nat_eq, Some}
-use Rattle.std.specs.Fmt.{signed_decimal}
+use Rattle.std.proofs.Common.{◌≡◌, ℕ, suc, ◌+◌, ◌<◌, Bool, true, false, List, [], ◌∷◌, ◌++◌, length, take, drop, get_or, refl, sym, ap, ◌∙◌, append_assoc, append-nil, arith, add-one, take_all, ◌≤◌, ◌-◌}
+use Rattle.std.specs.Prelude.{nat_eq}
 use Rattle.std.proofs.lemmas.List.{map-append, drop_all}
 use Rattle.std.proofs.Math.Seq.{drop-cons, take-suc}
 use Rattle.net_lex.specs.LineEnds.{ends_line}

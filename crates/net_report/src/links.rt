@@ -5,7 +5,7 @@ ghost use Rattle.std.specs.Io.KnownBytes.{Appends};
 ghost use Rattle.std.specs.List.{flat_map, prefix_len, AllByRecursion};
 ghost use Rattle.std.specs.Str.{IsUtf8};
 ghost use Rattle.net_io.specs.Ends.{WritesFront};
-ghost use Rattle.net_io.specs.Paging.{Sends};
+ghost use Rattle.net_io.specs.Paging.{SendsTo};
 ghost use Rattle.net_lex.specs.LineEnds.{ends_line, HasNoLineEnd};
 ghost use Rattle.net_report.specs.References.{declared_name, names_in, names_of};
 ghost use Rattle.net_report.specs.Links as lines;
@@ -40,8 +40,7 @@ pub fn write_links_to<W: Sink>(names: &Names<'_>, link: &Link, sink: &mut W) -> 
 
 fn send_links<W: Sink>(sink: &mut W, page: &mut Page, names: &Names<'_>, link: &Link)
     requires { vec_len link.now.numbers ≡ length names.now.arcs.keys }
-    ensures { Sends (record { bytes = W.taken sink.old; failed = W.failed sink.old }) (record { bytes = W.taken sink.new; failed = W.failed sink.new })
-        page.old (lines.link_text names.now link.now) page.new }
+    ensures { SendsTo W.taken W.failed sink.old sink.new page.old (lines.link_text names.now link.now) page.new }
 {
     send_constant(sink, page, link.constant);
     page.send(sink, sign_line(link.sense));
@@ -50,8 +49,7 @@ fn send_links<W: Sink>(sink: &mut W, page: &mut Page, names: &Names<'_>, link: &
 }
 
 fn send_constant<W: Sink>(sink: &mut W, page: &mut Page, constant: i128)
-    ensures { Sends (record { bytes = W.taken sink.old; failed = W.failed sink.old }) (record { bytes = W.taken sink.new; failed = W.failed sink.new })
-        page.old (lines.constant_line constant) page.new }
+    ensures { SendsTo W.taken W.failed sink.old sink.new page.old (lines.constant_line constant) page.new }
 {
     let mut buffer = Buffer::new();
     page.send(sink, b"c constant ");
@@ -69,8 +67,7 @@ fn sign_line(sense: Sense) -> &'static [u8]
 }
 
 fn send_nodes<W: Sink>(sink: &mut W, page: &mut Page, nodes: &NameList<'_>)
-    ensures { Sends (record { bytes = W.taken sink.old; failed = W.failed sink.old }) (record { bytes = W.taken sink.new; failed = W.failed sink.new })
-        page.old (lines.node_lines 0 (names_in nodes.now)) page.new }
+    ensures { SendsTo W.taken W.failed sink.old sink.new page.old (lines.node_lines 0 (names_in nodes.now)) page.new }
 {
     // Several declarations can have more nodes than an `u64` counts.
     let mut count: u128 = 0;
@@ -89,8 +86,7 @@ fn send_declared_nodes<W: Sink>(
     declaration: &DeclaredRows<'_>,
 )
     requires { count + length declaration.now.rows < 2 ^ 128 }
-    ensures { Sends (record { bytes = W.taken sink.old; failed = W.failed sink.old }) (record { bytes = W.taken sink.new; failed = W.failed sink.new })
-        page.old (lines.node_lines count (names_of declaration.now)) page.new }
+    ensures { SendsTo W.taken W.failed sink.old sink.new page.old (lines.node_lines count (names_of declaration.now)) page.new }
 {
     for place in 0..declaration.rows.len() {
         let key = declaration.rows.key(place);
@@ -106,8 +102,7 @@ fn send_node<W: Sink>(
     declared: &Declared<'_>,
     key: &Tuple<'_>,
 )
-    ensures { Sends (record { bytes = W.taken sink.old; failed = W.failed sink.old }) (record { bytes = W.taken sink.new; failed = W.failed sink.new })
-        page.old (lines.node_line number (declared_name (Some declared.now) key.now)) page.new }
+    ensures { SendsTo W.taken W.failed sink.old sink.new page.old (lines.node_line number (declared_name (Some declared.now) key.now)) page.new }
 {
     let mut buffer = Buffer::new();
     page.send(sink, b"c node ");
@@ -119,8 +114,7 @@ fn send_node<W: Sink>(
 
 fn send_arcs<W: Sink>(sink: &mut W, page: &mut Page, arcs: &NameList<'_>, link: &Link)
     requires { vec_len link.now.numbers ≡ length arcs.now.keys }
-    ensures { Sends (record { bytes = W.taken sink.old; failed = W.failed sink.old }) (record { bytes = W.taken sink.new; failed = W.failed sink.new })
-        page.old (lines.arc_lines link.now.numbers.items link.now.offsets.items (names_in arcs.now)) page.new }
+    ensures { SendsTo W.taken W.failed sink.old sink.new page.old (lines.arc_lines link.now.numbers.items link.now.offsets.items (names_in arcs.now)) page.new }
 {
     let mut numbers = link.numbers.as_slice();
     let mut offsets = link.offsets.as_slice();
@@ -144,8 +138,7 @@ fn send_declared_arcs<W: Sink>(
 )
     requires numbers { length numbers.now ≡ length declaration.now.rows }
     requires offsets { length offsets.now ≡ length declaration.now.rows }
-    ensures { Sends (record { bytes = W.taken sink.old; failed = W.failed sink.old }) (record { bytes = W.taken sink.new; failed = W.failed sink.new })
-        page.old (lines.arc_lines numbers.now offsets.now (names_of declaration.now)) page.new }
+    ensures { SendsTo W.taken W.failed sink.old sink.new page.old (lines.arc_lines numbers.now offsets.now (names_of declaration.now)) page.new }
 {
     for place in 0..declaration.rows.len() {
         let key = declaration.rows.key(place);
@@ -168,8 +161,7 @@ fn send_arc<W: Sink>(
     declared: &Declared<'_>,
     key: &Tuple<'_>,
 )
-    ensures { Sends (record { bytes = W.taken sink.old; failed = W.failed sink.old }) (record { bytes = W.taken sink.new; failed = W.failed sink.new })
-        page.old (lines.arc_line number offset (declared_name (Some declared.now) key.now)) page.new }
+    ensures { SendsTo W.taken W.failed sink.old sink.new page.old (lines.arc_line number offset (declared_name (Some declared.now) key.now)) page.new }
 {
     let mut buffer = Buffer::new();
     page.send(sink, b"c arc ");

@@ -1,7 +1,7 @@
 //! Writing the names of nodes and arcs within a line.
 
 ghost use Rattle.std.specs.Prelude.{◌≡◌, ◌∷◌, [], IsTrue, Some};
-ghost use Rattle.net_io.specs.Paging.{Sends};
+ghost use Rattle.net_io.specs.Paging.{SendsTo};
 ghost use Rattle.net_expr.specs.References as texts;
 ghost use Rattle.net_report.specs.References.{declared_name};
 ghost use Rattle.net_report.specs.Links as lines;
@@ -20,8 +20,7 @@ pub(crate) fn send_name<W: Sink>(
     declared: &Declared<'_>,
     key: &Tuple<'_>,
 )
-    ensures { Sends (record { bytes = W.taken sink.old; failed = W.failed sink.old }) (record { bytes = W.taken sink.new; failed = W.failed sink.new })
-        page.old (lines.in_line (declared_name (Some declared.now) key.now)) page.new }
+    ensures { SendsTo W.taken W.failed sink.old sink.new page.old (lines.in_line (declared_name (Some declared.now) key.now)) page.new }
 {
     send_in_line(sink, page, declared.name.as_str().as_bytes());
     if declared.indexed {
@@ -32,8 +31,7 @@ pub(crate) fn send_name<W: Sink>(
 }
 
 fn send_members<W: Sink>(sink: &mut W, page: &mut Page, members: &[Member<'_>])
-    ensures { Sends (record { bytes = W.taken sink.old; failed = W.failed sink.old }) (record { bytes = W.taken sink.new; failed = W.failed sink.new })
-        page.old (lines.in_line (texts.members_text members.now)) page.new }
+    ensures { SendsTo W.taken W.failed sink.old sink.new page.old (lines.in_line (texts.members_text members.now)) page.new }
 {
     if let [first, further @ ..] = members {
         send_member(sink, page, first);
@@ -43,8 +41,7 @@ fn send_members<W: Sink>(sink: &mut W, page: &mut Page, members: &[Member<'_>])
 
 /// Sends members, each after a comma.
 fn send_further<W: Sink>(sink: &mut W, page: &mut Page, members: &[Member<'_>])
-    ensures { Sends (record { bytes = W.taken sink.old; failed = W.failed sink.old }) (record { bytes = W.taken sink.new; failed = W.failed sink.new })
-        page.old (lines.in_line (texts.further_text members.now)) page.new }
+    ensures { SendsTo W.taken W.failed sink.old sink.new page.old (lines.in_line (texts.further_text members.now)) page.new }
 {
     for member in members {
         page.send(sink, b",");
@@ -53,8 +50,7 @@ fn send_further<W: Sink>(sink: &mut W, page: &mut Page, members: &[Member<'_>])
 }
 
 fn send_member<W: Sink>(sink: &mut W, page: &mut Page, member: &Member<'_>)
-    ensures { Sends (record { bytes = W.taken sink.old; failed = W.failed sink.old }) (record { bytes = W.taken sink.new; failed = W.failed sink.new })
-        page.old (lines.in_line (texts.member_text member.now)) page.new }
+    ensures { SendsTo W.taken W.failed sink.old sink.new page.old (lines.in_line (texts.member_text member.now)) page.new }
 {
     match member {
         Member::Number(number) => {
@@ -84,8 +80,7 @@ fn is_plain(bytes: &[u8]) -> bool
 
 /// Sends a text with each single quote doubled.
 fn send_text<W: Sink>(sink: &mut W, page: &mut Page, text: &Text<'_>)
-    ensures { Sends (record { bytes = W.taken sink.old; failed = W.failed sink.old }) (record { bytes = W.taken sink.new; failed = W.failed sink.new })
-        page.old (lines.in_line (texts.doubled text.now)) page.new }
+    ensures { SendsTo W.taken W.failed sink.old sink.new page.old (lines.in_line (texts.doubled text.now)) page.new }
 {
     match text.as_slice() {
         Some(bytes) if is_plain(bytes) => page.send(sink, bytes),
@@ -99,8 +94,7 @@ fn send_text<W: Sink>(sink: &mut W, page: &mut Page, text: &Text<'_>)
 
 /// Sends a byte of a text, a single quote twice.
 fn send_text_byte<W: Sink>(sink: &mut W, page: &mut Page, byte: u8)
-    ensures { Sends (record { bytes = W.taken sink.old; failed = W.failed sink.old }) (record { bytes = W.taken sink.new; failed = W.failed sink.new })
-        page.old (lines.in_line (texts.doubled (byte ∷ []))) page.new }
+    ensures { SendsTo W.taken W.failed sink.old sink.new page.old (lines.in_line (texts.doubled (byte ∷ []))) page.new }
 {
     if byte == b'\'' {
         page.send(sink, b"''");
@@ -117,8 +111,7 @@ fn within_line(byte: u8) -> u8
 
 /// Sends bytes with a space for each line-ending byte.
 fn send_in_line<W: Sink>(sink: &mut W, page: &mut Page, bytes: &[u8])
-    ensures { Sends (record { bytes = W.taken sink.old; failed = W.failed sink.old }) (record { bytes = W.taken sink.new; failed = W.failed sink.new })
-        page.old (lines.in_line bytes.now) page.new }
+    ensures { SendsTo W.taken W.failed sink.old sink.new page.old (lines.in_line bytes.now) page.new }
 {
     if is_plain(bytes) {
         page.send(sink, bytes);

@@ -1,4 +1,4 @@
-use Rattle.std.proofs.Common.{◌≡◌, ◌∷◌, ◌∙◌, sym, arith, ap, length}
+use Rattle.std.proofs.Common.{◌∙◌, sym, arith, ap, length}
 use Rattle.net_data.proofs.Items.{items_turn, counted_over, counted_stop, counted_end, counted_open}
 use Rattle.net_data.proofs.set_statement.items_len.Goals as goal
 

@@ -1,4 +1,4 @@
-use Rattle.std.proofs.Common.{◌+◌, sym, subst, refl, arith}
+use Rattle.std.proofs.Common.{sym, subst, refl, arith}
 use Rattle.std.specs.Str.{IsValidUpTo}
 use Rattle.net_lex.specs.Faults.{not_utf8}
 use Rattle.net_lex.proofs.Existence.{Walked, decided}

@@ -1,7 +1,6 @@
 use Rattle.std.proofs.Common.{◌++◌, ◌∷◌, [], ℕ, List, refl, arith}
-use Rattle.std.proofs.lemmas.Grind.{common_steps}
 use Rattle.net_lex.specs.Reading.{EndsInGap}
-use Rattle.net_lex.specs.Faults.{IsFault, StandSound}
+use Rattle.net_lex.specs.Faults.{IsFault}
 use Rattle.net_lex.specs.Limits.{limits}
 use Rattle.net_lex.specs.Scanning.{IsStep}
 use Rattle.net_lex.proofs.StandLemmas.{LeadsTo, stand_on, stand_ends, next_room}

@@ -1,5 +1,5 @@
-use Rattle.std.proofs.Common.{◌≡◌, ◌<◌, subst, arith}
-use Rattle.net_lex.specs.Numerals.{digits_value, IsWhole}
+use Rattle.std.proofs.Common.{◌<◌, arith}
+use Rattle.net_lex.specs.Numerals.{digits_value}
 use Rattle.net_lex.proofs.SizeLemmas.{whole_of_digits}
 use Rattle.net_lex.proofs.whole.plain_size.Goals as goal
 

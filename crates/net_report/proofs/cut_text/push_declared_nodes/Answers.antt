@@ -1,4 +1,4 @@
-use Rattle.std.proofs.Common.{◌≡◌, ◌+◌, ◌<◌, ◌++◌, [], List, ℕ, length, drop, get_or, Some, refl, ap, ◌∙◌, arith}
+use Rattle.std.proofs.Common.{◌+◌, ◌<◌, ◌++◌, [], List, ℕ, length, drop, get_or, Some, refl, ap, ◌∙◌, arith}
 use Rattle.net_expr.specs.Rows.{keys_of}
 use Rattle.net_report.specs.Cuts as cuts
 use Rattle.net_report.specs.Cuts.{node_lines}

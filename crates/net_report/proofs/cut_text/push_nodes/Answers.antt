@@ -1,4 +1,4 @@
-use Rattle.std.proofs.Common.{◌≡◌, ◌+◌, ◌≤◌, ◌++◌, Bool, List, ℕ, length, take, drop, ap, sym, ◌∙◌, append_assoc, length-append, length-drop, arith}
+use Rattle.std.proofs.Common.{◌≡◌, ◌+◌, ◌++◌, length, take, drop, ap, sym, ◌∙◌, append_assoc, length-append, length-drop, arith}
 use Rattle.std.specs.List.{flat_map}
 use Rattle.net_inst.specs.Lists.{Listed}
 use Rattle.net_report.specs.Cuts.{node_lines}

@@ -1,8 +1,7 @@
-use Rattle.std.proofs.Common.{◌≡◌, ◌++◌, ◌≤◌, List, ℕ, length, ap, sym, ◌∙◌, arith}
-use Rattle.std.specs.List.{flat_map, zip}
+use Rattle.std.proofs.Common.{◌≡◌, ◌++◌, length, ap, sym, ◌∙◌, arith}
+use Rattle.std.specs.List.{zip}
 use Rattle.net_inst.specs.Lists.{Listed, keyed_rows}
 use Rattle.net_report.specs.Displays.{blocks}
-use Rattle.net_report.specs.References.{names_of}
 use Rattle.net_report.proofs.ListedRows.{name_count}
 use Rattle.net_report.proofs.DeclaredBlocks.{blocks_same}
 use Rattle.net_report.proofs.display.push_blocks.Goals as goal

@@ -1,4 +1,4 @@
-use Rattle.std.proofs.Common.{◌≡◌, ◌+◌, ◌<◌, ◌++◌, List, ℕ, ℤ, length, drop, ap, sym, ◌∙◌, arith}
+use Rattle.std.proofs.Common.{◌≡◌, ◌+◌, List, ℕ, ℤ, length, drop, ap, sym, ◌∙◌}
 use Rattle.std.specs.List.{flat_map}
 use Rattle.net_inst.specs.Lists.{Listed}
 use Rattle.net_io.proofs.Paging.{start_as, step}

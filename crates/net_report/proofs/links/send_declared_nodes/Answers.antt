@@ -1,4 +1,4 @@
-use Rattle.std.proofs.Common.{◌≡◌, ◌+◌, ◌<◌, length, drop, Some, arith}
+use Rattle.std.proofs.Common.{◌+◌, ◌<◌, length, drop, Some, arith}
 use Rattle.net_io.proofs.Paging.{step}
 use Rattle.net_report.specs.Links.{node_line, node_lines}
 use Rattle.net_report.specs.References.{declared_name, names_of}

@@ -2,7 +2,6 @@ use Rattle.std.proofs.Common.{◌≡◌, ◌∙◌, sym, ap, arith}
 use Rattle.std.specs.Fmt.{signed_decimal}
 use Rattle.std.proofs.lemmas.Grind.{common_steps}
 use Rattle.net_sets.specs.declared.member.Member.{Member}
-use Rattle.net_sets.specs.declared.member.Member.TheVariants.{Number, Name}
 use Rattle.net_io.proofs.Paging.{sends_both, sends_as}
 use Rattle.net_expr.specs.References.{member_text}
 use Rattle.net_report.specs.Links.{in_line}

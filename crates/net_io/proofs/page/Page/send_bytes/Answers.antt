@@ -1,4 +1,4 @@
-use Rattle.std.proofs.Common.{◌≡◌, ◌∙◌, sym, ap}
+use Rattle.std.proofs.Common.{◌∙◌, ap}
 use Rattle.net_io.proofs.Paging.{page_fails, both_pass, text_fails}
 use Rattle.net_io.proofs.page.Page.send_bytes.Goals as goal
 
