@@ -4,7 +4,6 @@ use Rattle.std.specs.List.{flat_map, zip}
 use Rattle.std.proofs.Common.{refl, ap, sym, ◌∙◌, arith}
 use Rattle.std.proofs.lemmas.Bool.Decides.{nat_tests}
 use Rattle.net_lex.specs.declared.token.Token.{Token}
-use Rattle.net_sets.specs.Sets.{Tuple}
 use Rattle.net_data.specs.declared.statement.Given.{Given}
 use Rattle.net_data.specs.declared.statement.Transposed.{Transposed}
 use Rattle.net_data.specs.Rows.{Row, points, row_of, groups, given_rows, table_keys, row_across}

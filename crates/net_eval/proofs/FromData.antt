@@ -1,10 +1,9 @@
 -- Parameters whose values all come from the data.
-use Rattle.std.specs.Prelude.{◌≡◌, ◌&&◌, ◌||◌, ℕ, zero, suc, drop, option_map, slice_get, Bool, true, false, List, [], ◌∷◌, Option, None, Some, is_some, if◌then◌else◌, Result, Ok, Err, ℤ}
+use Rattle.std.specs.Prelude.{◌≡◌, ◌&&◌, ℕ, zero, suc, drop, option_map, slice_get, Bool, true, false, List, [], ◌∷◌, Option, None, Some, is_some, if◌then◌else◌, Ok, ℤ}
 use Rattle.std.specs.List.{AllByRecursion}
 use Rattle.std.proofs.Common.{refl, ap, sym, subst, ◌∙◌}
 use Rattle.net_base.specs.declared.diagnostic.Detail.{Detail}
 use Rattle.net_base.specs.declared.diagnostic.Span.{Span}
-use Rattle.net_base.specs.declared.diagnostic.Fault.{Fault}
 use Rattle.net_base.specs.Outcomes.{Outcome, and_then, each}
 use Rattle.net_lex.specs.declared.token.Token.{Token}
 use Rattle.net_sets.specs.declared.member.Member.{Member}
@@ -17,8 +16,8 @@ use Rattle.net_tree.specs.Numerals.{number_as, number_of}
 use Rattle.net_tree.specs.Phrases.{is_becomes, is_default}
 use Rattle.net_tree.specs.PhraseValues.{phrase_value}
 use Rattle.net_tree.specs.Role.{role_of}
-use Rattle.net_tree.specs.Spans.{span_of, braces_span}
-use Rattle.net_tree.specs.Tree.{Tree, leaf, indexed, parens, tuple, negated, braced, signed, reduced, chain, choice, net, Body, plain, valued, priced, Phrase, Braces}
+use Rattle.net_tree.specs.Spans.{span_of}
+use Rattle.net_tree.specs.Tree.{Tree, leaf, indexed, parens, tuple, negated, braced, signed, reduced, chain, choice, net, Body, plain, valued, priced, Phrase}
 use Rattle.net_expr.specs.declared.row.Row.{Row}
 use Rattle.net_expr.specs.declared.world.Entry.{Entry}
 use Rattle.net_expr.specs.declared.world.Entry.TheVariants.{Parameter}
@@ -26,8 +25,8 @@ use Rattle.net_expr.specs.declared.value.Value.TheVariants.{One}
 use Rattle.net_expr.specs.Values.{value, token_value, number_value}
 use Rattle.net_expr.specs.Worlds.{World, Scope, reference}
 use Rattle.net_eval.specs.declared.given.NamedData.{NamedData}
-use Rattle.net_eval.specs.BoundParameters.{PlacedValues, Source, source, source_in, with_key, fit_kind, is_number, takes_texts, cell_of, keys_with, fit_value, fit_row, fit_values, data_of, placed, valued_by, values, with_data, bound_parameter}
-use Rattle.net_eval.specs.FromData.{numeral, is_numeral, compares, are_constant, Fits, Answers}
+use Rattle.net_eval.specs.BoundParameters.{PlacedValues, source, source_in, with_key, fit_value, fit_values, data_of, placed, valued_by, values, with_data}
+use Rattle.net_eval.specs.FromData.{numeral, is_numeral, compares, are_constant, Fits}
 use Rattle.net_eval.specs.Restrictions.{relation, related, holding, restricted, restricted_by, restricted_in}
 use Rattle.net_eval.specs.Rows.{KeyedParameter, Table, Taken}
 use Rattle.net_eval.proofs.RowsTaken.{then_ok}

@@ -8,7 +8,7 @@ use Rattle.std.proofs.Math.Seq.{take-append_seam, drop-append_seam}
 use Rattle.net_lex.specs.declared.token.Token.{Token}
 use Rattle.net_data.specs.Rows.{first_item, begins_tuple, more_items, inside_len}
 use Rattle.net_data.specs.Tests.{is_mark}
-use Rattle.net_eval.specs.SetData.{Item, Rows, item, items_from, closed, closed_with, with_item, pending}
+use Rattle.net_eval.specs.SetData.{Item, item, items_from, closed, closed_with, with_item, pending}
 
 shorter : (t : Token) (ts : List Token) → length (more_items (t ∷ ts)) ≤ length ts
 shorter t ts = go (is_mark (codes "(") t) (is_mark (codes ";") t)

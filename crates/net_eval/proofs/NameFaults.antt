@@ -1,9 +1,9 @@
 -- What data statements name stands at their words.
-use Rattle.std.specs.Prelude.{ℕ, ◌+◌, Bool, true, false, List, [], ◌∷◌, ◌++◌, length, map, slice_index_or, slice_set, is_some, Option, None, Some, Ok, Err, ⊤}
+use Rattle.std.specs.Prelude.{ℕ, ◌+◌, Bool, true, false, List, [], ◌∷◌, ◌++◌, length, slice_index_or, Option, None, Some}
 use Rattle.std.specs.List.{AllByRecursion}
 use Rattle.net_base.specs.declared.diagnostic.Span.{Span}
 use Rattle.net_base.specs.declared.diagnostic.Language.TheVariants.{Data}
-use Rattle.net_base.specs.Outcomes.{Outcome, and_then, each}
+use Rattle.net_base.specs.Outcomes.{and_then}
 use Rattle.net_lex.specs.declared.token.Token.{Token}
 use Rattle.net_data.specs.declared.statement.DefaultValue.{DefaultValue}
 use Rattle.net_data.specs.declared.statement.Given.{Given as Cells}
@@ -15,9 +15,9 @@ use Rattle.net_eval.specs.declared.given.Given.TheVariants as given
 use Rattle.net_eval.specs.declared.given.NamedData.{NamedData}
 use Rattle.net_sets.specs.Names.{located}
 use Rattle.net_eval.specs.Names.{Declared, at_place, as_wanted, target}
-use Rattle.net_eval.specs.DataByName.{Sorted, no_data, with_named_data, default_word, given_cells, grouped, gridded, named, with_named, lesser, set_first, first_of, or_zero, headed, set_headed, in_columns, in_statement, data_by_name}
+use Rattle.net_eval.specs.DataByName.{Sorted, no_data, with_named_data, default_word, given_cells, grouped, named, with_named, lesser, set_first, first_of, or_zero, headed, set_headed, in_columns, in_statement, data_by_name}
 use Rattle.net_base.specs.Places.{Places, Finds}
-use Rattle.net_base.proofs.Found.{finds_then, Gives, gives_then, gives_each, gives_after, gives_found}
+use Rattle.net_base.proofs.Found.{finds_then, Gives, gives_then, gives_each, gives_after}
 use Rattle.net_base.proofs.Elements.{OfSome, all_append, all_set, all_index}
 use Rattle.net_data.specs.Standing.{TokensHaveSpans, DefaultHasSpan, GivenHasSpans, NamedSetHasSpan, StatementHasSpans, StatementsHaveSpans}
 

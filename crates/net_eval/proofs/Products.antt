@@ -1,24 +1,22 @@
 -- A product has a tuple where its factors have the two parts of it.
-use Rattle.std.specs.Prelude.{◌≡◌, ◌≤◌, ◌<◌, ◌+◌, ◌*◌, ◌&&◌, ◌||◌, ℕ, Bool, true, false, List, [], ◌∷◌, ◌++◌, length, take, drop, min, max, get_or, nat_le, Option, None, Some, Ok, if◌then◌else◌, codes}
+use Rattle.std.specs.Prelude.{◌≡◌, ◌≤◌, ◌<◌, ◌+◌, ◌*◌, ◌&&◌, ◌||◌, ℕ, Bool, true, false, List, [], ◌∷◌, length, take, drop, min, max, get_or, nat_le, Option, None, Some, Ok, if◌then◌else◌}
 use Rattle.std.specs.List.{fold}
 use Rattle.std.specs.Option.{IfSome}
 use Rattle.std.proofs.Common.{refl, ap, sym, ◌∙◌, arith}
 use Rattle.std.proofs.lemmas.Bool.{le-leb, leb-true}
 use Rattle.std.proofs.lemmas.List.{take_min, drop_min}
 use Rattle.std.proofs.lemmas.List.Folds.{list_any-append}
-use Rattle.std.proofs.lemmas.Slice.Eq.{bytes_eq-Decides}
-use Rattle.std.proofs.Math.Bool.{and_assoc, or_assoc, or-true, or-false, and-false, and-or_distrib_left, and-or_distrib_right}
+use Rattle.std.proofs.Math.Bool.{or_assoc, or-true, or-false, and-false, and-or_distrib_left, and-or_distrib_right}
 use Rattle.net_base.specs.declared.diagnostic.Span.{Span}
 use Rattle.net_sets.specs.Limits.{arity_limit, tuples_limit}
 use Rattle.net_sets.specs.Operations.{AreLong, union, joined_to, product, widest, narrowest}
-use Rattle.net_sets.specs.Sets.{Tuple, same_member, same_tuple, has, added}
+use Rattle.net_sets.specs.Sets.{Tuple, same_tuple, has, added}
 use Rattle.net_sets.proofs.Crossing.{least, length_product}
 use Rattle.net_sets.proofs.Distinct.{put_last, stays}
 use Rattle.net_sets.proofs.Parts.{same_parts}
 use Rattle.net_sets.proofs.Sames.{tuple_decides}
 use Rattle.net_tree.specs.declared.expr.Link.{Link, out-Link}
 use Rattle.net_tree.specs.declared.operator.Words.{Words as Operator}
-use Rattle.net_tree.specs.declared.operator.Words.TheVariants as operators
 use Rattle.net_tree.specs.Spans.{span_of}
 use Rattle.net_tree.specs.Tree.{Tree, leaf, indexed, parens, tuple, negated, braced, signed, reduced, chain, choice, net, none, link}
 use Rattle.net_tree.specs.View.{tree, links_of}
@@ -27,7 +25,7 @@ use Rattle.net_tree.specs.declared.operator.BinOp.{BinOp}
 use Rattle.net_tree.specs.declared.operator.BinOp.TheVariants as op
 use Rattle.net_expr.specs.declared.value.Value.TheVariants.{Many}
 use Rattle.net_expr.specs.Items.{both}
-use Rattle.net_tree.specs.Operations.{operations, operation, operation_in}
+use Rattle.net_tree.specs.Operations.{operation}
 use Rattle.net_expr.specs.Sets.{counted, cross}
 use Rattle.net_expr.specs.Values.{value}
 use Rattle.net_expr.specs.Worlds.{World}

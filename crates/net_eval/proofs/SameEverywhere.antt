@@ -1,5 +1,5 @@
 -- A parameter without data to which a numeral gives its values: it has the same value at each key.
-use Rattle.std.specs.Prelude.{◌≡◌, ◌<◌, ◌≤◌, ℕ, suc, Bool, true, false, List, [], ◌∷◌, ◌++◌, length, map, nat_le, nat_lt, is_some, Option, None, Some, if◌then◌else◌, Ok, Err}
+use Rattle.std.specs.Prelude.{◌≡◌, ◌<◌, ◌≤◌, ℕ, suc, Bool, true, false, List, [], ◌∷◌, ◌++◌, length, nat_le, nat_lt, is_some, Option, None, Some, if◌then◌else◌, Ok, Err}
 use Rattle.std.specs.List.{AllByRecursion}
 use Rattle.std.proofs.Common.{refl, ap, sym, ◌∙◌, arith}
 use Rattle.std.proofs.lemmas.Bool.Decides.{nat_tests}
@@ -25,7 +25,6 @@ use Rattle.net_expr.specs.declared.world.Entry.{Entry}
 use Rattle.net_expr.specs.declared.world.Entry.TheVariants.{Parameter}
 use Rattle.net_expr.specs.Operators.{member}
 use Rattle.net_expr.specs.Rows.{keys_of}
-use Rattle.net_expr.specs.Values.{value}
 use Rattle.net_expr.specs.Worlds.{World, Scope}
 use Rattle.net_eval.specs.BoundParameters.{Source, source, some, from_source, source_text, source_at, insert_value, with_key, placed, index_list, valued_by, values, with_data}
 use Rattle.net_eval.specs.FromData.{are_constant, Fits, IsNumeral, IsGiven, IsSame}

@@ -1,14 +1,14 @@
 -- What declared sets are refused for stands at their phrases and in the data's rows.
-use Rattle.std.specs.Prelude.{ℕ, zero, suc, ◌+◌, Bool, true, false, ◌||◌, List, [], ◌∷◌, ◌++◌, length, map, take, drop, filter, nat_eq, nat_le, slice_get, unwrap_or, is_some, codes, if◌then◌else◌, Option, None, Some, Ok, Err, ℤ, ⊤}
+use Rattle.std.specs.Prelude.{ℕ, zero, suc, ◌+◌, Bool, true, false, ◌||◌, List, [], ◌∷◌, ◌++◌, length, map, take, drop, nat_eq, nat_le, unwrap_or, is_some, codes, if◌then◌else◌, Option, None, Some}
 use Rattle.std.specs.List.{AllByRecursion, fold}
 use Rattle.net_base.specs.declared.diagnostic.Span.{Span}
 use Rattle.net_base.specs.declared.diagnostic.Language.TheVariants.{Model, Data}
-use Rattle.net_base.specs.Outcomes.{Outcome, and_then, each}
+use Rattle.net_base.specs.Outcomes.{each}
 use Rattle.net_lex.specs.declared.token.Token.{Token}
 use Rattle.net_sets.specs.Limits.{tuples_limit}
 use Rattle.net_sets.specs.Sets.{Tuple, has, added}
 use Rattle.net_sets.specs.declared.member.Member.TheVariants.{Number, Name}
-use Rattle.net_data.specs.Rows.{points, groups, groups_from, first_item, begins_tuple, more_items, inside_len}
+use Rattle.net_data.specs.Rows.{points, groups, groups_from, first_item, more_items, inside_len}
 use Rattle.net_data.specs.Commas.{uncommaed}
 use Rattle.net_data.specs.Tests.{is_mark}
 use Rattle.net_tree.specs.Role.{role_of}
@@ -33,8 +33,8 @@ use Rattle.net_eval.specs.Cells.{tuple_in}
 use Rattle.net_eval.specs.BoundSets.{one_of, is_allowed, allowed, set_of, bound_set}
 use Rattle.net_base.specs.Places.{Places, Finds}
 use Rattle.net_tree.specs.Standing.{Stands, BodyHasSpans, PhrasesHaveSpans}
-use Rattle.net_base.proofs.Found.{finds_then, finds_if, finds_each, Gives, gives_then, gives_if, gives_after, finds_after, finds_each_of}
-use Rattle.net_base.proofs.Elements.{OfSome, all_take, all_drop, all_append, all_filter}
+use Rattle.net_base.proofs.Found.{finds_then, finds_if, Gives, gives_then, gives_after, finds_after, finds_each_of}
+use Rattle.net_base.proofs.Elements.{all_take, all_drop, all_append, all_filter}
 use Rattle.net_expr.proofs.ValueFaults.{whole_stands, finds_value}
 use Rattle.net_data.specs.Standing.{TokensHaveSpans}
 use Rattle.net_eval.proofs.NameFaults.{MentionStands, MentionsStand, SaidStands}

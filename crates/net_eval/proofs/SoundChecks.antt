@@ -1,12 +1,9 @@
 -- A check that the code accepts holds at each of its keys.
-use Rattle.std.specs.Prelude.{◌≡◌, Bool, true, false, List, [], ◌∷◌, map, Option, None, Some, if◌then◌else◌, Ok, Err}
+use Rattle.std.specs.Prelude.{◌≡◌, Bool, true, false, List, [], ◌∷◌, map, Option, None, Some, Ok}
 use Rattle.std.specs.List.{AllByRecursion}
 use Rattle.std.proofs.Common.{refl, ap, sym, ◌∙◌, subst}
-use Rattle.net_base.specs.declared.error_code.ErrorCode.TheVariants.{CheckFailed}
-use Rattle.net_base.specs.declared.diagnostic.Detail.TheVariants.{Nothing}
-use Rattle.net_base.specs.declared.diagnostic.Language.TheVariants.{Model}
 use Rattle.net_base.specs.declared.diagnostic.Span.{Span}
-use Rattle.net_base.specs.Outcomes.{Outcome, and_then, rejected_as}
+use Rattle.net_base.specs.Outcomes.{and_then}
 use Rattle.net_tree.specs.Spans.{span_of}
 use Rattle.net_tree.specs.Tree.{Tree, Braces}
 use Rattle.net_expr.specs.declared.indexing.Indexing.{Indexing}

@@ -1,26 +1,25 @@
 -- The rows of the data that the code accepts are whole.
-use Rattle.std.specs.Prelude.{◌≡◌, ◌<◌, ◌+◌, ◌||◌, ℕ, suc, Bool, true, false, List, [], ◌∷◌, ◌++◌, length, map, take, nat_eq, is_some, Option, None, Some, if◌then◌else◌, Ok, ⊤}
+use Rattle.std.specs.Prelude.{◌≡◌, ◌<◌, ◌+◌, ◌||◌, ℕ, Bool, true, false, List, [], ◌∷◌, ◌++◌, length, map, take, nat_eq, Option, None, Some, if◌then◌else◌, Ok, ⊤}
 use Rattle.std.specs.List.{AllByRecursion, list_any}
 use Rattle.std.specs.Str.{bytes_eq}
 use Rattle.std.proofs.Common.{refl, ap, sym, ◌∙◌, subst, arith}
 use Rattle.std.proofs.lemmas.Bool.{eqb-true}
 use Rattle.net_base.specs.declared.error_code.ErrorCode.TheVariants.{Arity}
 use Rattle.net_base.specs.declared.diagnostic.Span.{Span}
-use Rattle.net_base.specs.Outcomes.{Outcome, and_then, each, rejected_there}
+use Rattle.net_base.specs.Outcomes.{rejected_there}
 use Rattle.net_lex.specs.declared.token.Token.{Token}
 use Rattle.net_data.specs.declared.statement.Given.{Given as Cells}
 use Rattle.net_data.specs.declared.statement.NamedSet.{NamedSet}
 use Rattle.net_data.specs.declared.statement.Statement.{Statement}
 use Rattle.net_data.specs.declared.statement.Statement.TheVariants.{Set, List as Listed, Table, Columns}
-use Rattle.net_data.specs.Meaning.{heading_judged, judged, all_judged}
-use Rattle.net_data.specs.Rows.{groups}
+use Rattle.net_data.specs.Meaning.{heading_judged, judged}
 use Rattle.net_expr.specs.Worlds.{Name}
 use Rattle.net_meaning.specs.Values.{Whether}
 use Rattle.net_meaning.specs.World.{AreWhole, is_set_named, HasWholeRows}
 use Rattle.net_eval.specs.declared.given.Given.{Given}
 use Rattle.net_eval.specs.declared.given.Given.TheVariants as given
 use Rattle.net_eval.specs.declared.given.NamedData.{NamedData}
-use Rattle.net_eval.specs.DataByName.{default_word, given_cells, grouped, gridded, named}
+use Rattle.net_eval.specs.DataByName.{given_cells, grouped, named}
 use Rattle.net_eval.specs.DataFor.{leader, headed_for, set_for, data_in, data_for}
 use Rattle.net_eval.specs.DataValues.{NamesNoSet}
 use Rattle.net_eval.specs.Names.{Declared}

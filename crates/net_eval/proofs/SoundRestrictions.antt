@@ -1,12 +1,9 @@
 -- Restrictions of parameters that the code checks are those that are meant.
-use Rattle.std.specs.Prelude.{◌≡◌, Bool, true, false, not, List, [], ◌∷◌, Option, None, Some, if◌then◌else◌, Ok, Err, ℤ, int_lt, int_le}
-use Rattle.std.specs.List.{AllByRecursion}
-use Rattle.std.proofs.Common.{refl, ap, sym, ◌∙◌, subst}
-use Rattle.net_base.specs.declared.error_code.ErrorCode.TheVariants.{Restriction}
+use Rattle.std.specs.Prelude.{◌≡◌, Bool, true, false, not, [], ◌∷◌, Option, None, Some, Ok, Err, ℤ, int_lt, int_le}
+use Rattle.std.proofs.Common.{refl, ap, subst}
 use Rattle.net_base.specs.declared.diagnostic.Detail.{Detail}
-use Rattle.net_base.specs.declared.diagnostic.Language.TheVariants.{Model}
 use Rattle.net_base.specs.declared.diagnostic.Span.{Span}
-use Rattle.net_base.specs.Outcomes.{Outcome, and_then, rejected_as}
+use Rattle.net_base.specs.Outcomes.{Outcome, and_then}
 use Rattle.net_sets.specs.declared.member.Member.{Member}
 use Rattle.net_tree.specs.declared.operator.BinOp.{BinOp}
 use Rattle.net_tree.specs.declared.operator.BinOp.TheVariants as op
@@ -28,9 +25,8 @@ use Rattle.net_expr.specs.Values.{value}
 use Rattle.net_expr.specs.Worlds.{World, Scope}
 use Rattle.net_expr.proofs.Parting.{then_ok, is_ok}
 use Rattle.net_eval.specs.Soundness.{RestrictionsAreSound}
-use Rattle.net_eval.specs.Restrictions.{restricting, relation_as, related, holding, restricted_by, restricted_in, restricted}
+use Rattle.net_eval.specs.Restrictions.{relation_as, related, holding, restricted_by, restricted_in}
 use Rattle.net_expr.proofs.SetsGiven.{IsSetValue, Gives, gives}
-use Rattle.net_meaning.specs.OfTrees.{IsValue}
 use Rattle.net_meaning.specs.Laws.{meaning_of}
 use Rattle.net_meaning.specs.Operators.{One, Truth, IsResult}
 use Rattle.net_meaning.specs.Values.{env_of}

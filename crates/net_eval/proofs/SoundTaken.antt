@@ -1,25 +1,23 @@
 -- What binding accepts of a parameter's data: whole rows of members, at most one default, and no data next to `:=`.
-use Rattle.std.specs.Prelude.{◌≡◌, ◌⊎◌, ◌+◌, ◌≤◌, ◌||◌, ◌&&◌, ℕ, zero, suc, Bool, true, false, List, [], ◌∷◌, ◌++◌, length, take, slice_get, nat_eq, is_some, Option, None, Some, IfSome, if◌then◌else◌, Ok, Err}
-use Rattle.std.specs.List.{AllByRecursion, flat_map, filter_map, cons_option, zip, list_all}
+use Rattle.std.specs.Prelude.{◌≡◌, ◌⊎◌, ◌+◌, ◌≤◌, ◌||◌, ◌&&◌, ℕ, Bool, true, false, List, [], ◌∷◌, length, take, slice_get, nat_eq, is_some, Option, None, Some, IfSome, if◌then◌else◌, Ok}
+use Rattle.std.specs.List.{AllByRecursion, flat_map, cons_option, zip, list_all}
 use Rattle.std.specs.Str.{bytes_eq}
-use Rattle.std.proofs.Common.{refl, ap, sym, ◌∙◌, subst, arith, inl, inr}
+use Rattle.std.proofs.Common.{refl, ap, sym, subst, arith, inl, inr}
 use Rattle.std.proofs.lemmas.Bool.{eqb-true}
 use Rattle.std.proofs.lemmas.List.{length-take-le}
 use Rattle.net_lex.specs.declared.token.Kind.{Kind}
-use Rattle.net_lex.specs.declared.token.Kind.TheVariants.{Name as NameKind, Key, Num, Str, Mark, Dot}
+use Rattle.net_lex.specs.declared.token.Kind.TheVariants.{Dot}
 use Rattle.net_lex.specs.declared.token.Token.{Token}
 use Rattle.net_base.specs.declared.error_code.ErrorCode.TheVariants.{Arity}
 use Rattle.net_base.specs.declared.diagnostic.Span.{Span}
-use Rattle.net_base.specs.Outcomes.{Outcome, and_then, each, rejected_there}
+use Rattle.net_base.specs.Outcomes.{Outcome, each, rejected_there}
 use Rattle.net_data.specs.declared.statement.DefaultValue.{DefaultValue}
-use Rattle.net_data.specs.declared.statement.Given.{Given as Cells}
 use Rattle.net_data.specs.declared.statement.NamedSet.{NamedSet}
 use Rattle.net_data.specs.declared.statement.Statement.{Statement}
 use Rattle.net_data.specs.declared.statement.Statement.TheVariants.{Set, List as Listed, Table, Columns}
 use Rattle.net_data.specs.Meaning.{IsDefault, IsStatement}
 use Rattle.net_data.specs.Rows.{Row, points, row_of}
 use Rattle.net_data.specs.Tests.{is_member, stands_for_member}
-use Rattle.net_sets.specs.Sets.{Tuple}
 use Rattle.net_expr.specs.Worlds.{Name}
 use Rattle.net_expr.proofs.Walked.{all_join}
 use Rattle.net_eval.specs.declared.given.Given.{Given}
@@ -29,12 +27,12 @@ use Rattle.net_eval.specs.DataByName.{default_word, given_cells, grouped, gridde
 use Rattle.net_eval.specs.DataFor.{leader, headed_for, set_for, data_in, data_for}
 use Rattle.net_eval.specs.DataValues.{HasValue, HaveValues}
 use Rattle.net_eval.specs.Names.{Declared}
-use Rattle.net_eval.specs.ParameterValues.{rows_across, rows_given, default_given}
+use Rattle.net_eval.specs.ParameterValues.{rows_across, rows_given}
 use Rattle.net_eval.specs.Rows.{KeyedParameter, named_as, Taken, All, pair_of, has_two, shaped, with_rows, taken, either, with_statement}
 use Rattle.net_eval.specs.SetData.{begins_at, without_points, whole_group, whole_groups, cut, leading_size, agrees, doubled}
 use Rattle.net_eval.proofs.RowsTaken.{then_ok, is_ok}
 use Rattle.net_eval.proofs.SoundGroups.{IsWholeFor, shape_whole}
-use Rattle.net_eval.proofs.SoundRows.{IsMember, all_flat, all_both, all_take, all_at, all_cut, given_of, defaults_of}
+use Rattle.net_eval.proofs.SoundRows.{IsMember, all_flat, all_take, all_at, all_cut, given_of, defaults_of}
 
 -- ---- the tokens of the data
 

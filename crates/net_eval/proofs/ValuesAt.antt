@@ -31,7 +31,7 @@ use Rattle.net_eval.specs.declared.given.Given.TheVariants as given
 use Rattle.net_eval.specs.declared.given.NamedData.{NamedData}
 use Rattle.net_tree.specs.Phrases.{is_becomes}
 use Rattle.net_tree.specs.PhraseValues.{phrase_value}
-use Rattle.net_eval.specs.BoundParameters.{placed, keyed, source_in, span_or, index_list, Source, source, source_text, source_at, from_source, insert_value, with_key, fit_values, untaken, data_of, valued_by, values, fill_table, with_data, bound_parameter}
+use Rattle.net_eval.specs.BoundParameters.{placed, keyed, source_in, span_or, index_list, Source, source_text, source_at, from_source, insert_value, with_key, fit_values, untaken, data_of, valued_by, values, fill_table, with_data, bound_parameter}
 use Rattle.net_eval.specs.Cells.{member_in, tuple_in}
 use Rattle.net_base.specs.Outcomes.{Outcome, and_then, each}
 use Rattle.net_eval.specs.ParameterValues.{rows_across, rows_given, row_value, values_given, default_given, IsValue, IsValueAt, IsValued}

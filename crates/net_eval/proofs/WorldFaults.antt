@@ -1,8 +1,7 @@
 -- What a model and its data are refused for together stands at their parts.
-use Rattle.std.specs.Prelude.{ℕ, ◌+◌, Bool, true, false, List, [], ◌∷◌, length, slice_index_or, take, Option, None, Some, Ok, Err, ⊤}
-use Rattle.std.specs.List.{AllByRecursion}
+use Rattle.std.specs.Prelude.{ℕ, List, [], ◌∷◌, length, take, Option}
 use Rattle.net_base.specs.declared.diagnostic.Language.TheVariants.{Model, Data}
-use Rattle.net_base.specs.Outcomes.{Outcome, and_then, each}
+use Rattle.net_base.specs.Outcomes.{and_then, each}
 use Rattle.net_tree.specs.Spans.{span_of}
 use Rattle.net_tree.specs.Tree.{Tree, Braces, Declaration, set, param, check, node, arc, objective}
 use Rattle.net_data.specs.declared.statement.Statement.{Statement}
@@ -17,7 +16,7 @@ use Rattle.net_eval.specs.BoundParameters.{bound_parameter}
 use Rattle.net_eval.specs.Binding.{widths, next_data, declare, judged, hold, checked, check_one, after_checks, with_given, world}
 use Rattle.net_base.specs.Places.{Places, Finds}
 use Rattle.net_tree.specs.Standing.{Stands, IndexingHasSpans, DeclarationHasSpans, DeclarationsHaveSpans}
-use Rattle.net_base.proofs.Found.{finds_then, finds_if, Gives, finds_after}
+use Rattle.net_base.proofs.Found.{finds_then, finds_if, finds_after}
 use Rattle.net_base.proofs.Elements.{all_index}
 use Rattle.net_expr.proofs.OperatorFaults.{finds_truth}
 use Rattle.net_expr.proofs.ValueFaults.{whole_stands, finds_value}

@@ -1,9 +1,8 @@
 -- The rows that statements give: those of the data statements, for the number of keys or the
 -- dimension.
-use Rattle.std.specs.Prelude.{◌≡◌, ℕ, ◌+◌, ◌<◌, false, List, length, map, take, is_some, Option, codes}
+use Rattle.std.specs.Prelude.{◌≡◌, ℕ, ◌+◌, ◌<◌, false, List, length, map, take, is_some, codes}
 use Rattle.std.specs.List.{AllByRecursion}
 use Rattle.net_lex.specs.declared.token.Token.{Token}
-use Rattle.net_sets.specs.Sets.{Tuple}
 use Rattle.net_data.specs.declared.statement.ListStatement.{ListStatement}
 use Rattle.net_data.specs.declared.statement.TableStatement.{TableStatement}
 use Rattle.net_data.specs.declared.statement.ColumnsStatement.{ColumnsStatement}

@@ -1,5 +1,5 @@
 -- Parameters whose values all come from the data: nothing is evaluated at a key.
-use Rattle.std.specs.Prelude.{◌≡◌, Bool, true, false, ◌&&◌, ◌||◌, List, [], ◌∷◌, Option, None, Some, is_some, Result, Ok, Err, ℤ, ⊤}
+use Rattle.std.specs.Prelude.{◌≡◌, Bool, true, ◌&&◌, ◌||◌, List, [], ◌∷◌, Option, None, Some, is_some, Result, Ok, Err, ℤ, ⊤}
 use Rattle.net_base.specs.declared.diagnostic.Fault.{Fault}
 use Rattle.net_base.specs.declared.diagnostic.Fault.TheVariants.{OutOfMemory, At}
 use Rattle.net_base.specs.Outcomes.{Outcome, and_then}
@@ -9,7 +9,7 @@ use Rattle.net_tree.specs.Numerals.{number_of}
 use Rattle.net_tree.specs.Phrases.{is_becomes, is_default}
 use Rattle.net_tree.specs.PhraseValues.{phrase_value}
 use Rattle.net_tree.specs.Spans.{span_of}
-use Rattle.net_tree.specs.Tree.{Tree, leaf, Body, plain, valued, priced, Phrase}
+use Rattle.net_tree.specs.Tree.{Tree, leaf, Body, valued, Phrase}
 use Rattle.net_expr.specs.declared.world.Entry.{Entry}
 use Rattle.net_expr.specs.Operators.{member}
 use Rattle.net_expr.specs.Values.{value}

@@ -69,4 +69,12 @@ impl<'w, 's> StoredSet<'w, 's> {
     {
         self.set.get().get()
     }
+
+    /// Returns the set as an owned one. Copies it only if it is borrowed.
+    pub(crate) fn into_set(self, alloc: Global) -> Result<TupleSet<'s>, AllocError>
+        ensures { IfOk result (λ set. set ≡ self.entry) }
+    {
+        let StoredSet { set } = self;
+        unboxed(set).into_set(alloc)
+    }
 }

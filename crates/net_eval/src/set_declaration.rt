@@ -1,6 +1,6 @@
 //! Evaluating declared sets.
 
-ghost use Rattle.std.specs.Prelude.{◌≡◌, ◌||◌, [], IfOk, is_some, map};
+ghost use Rattle.std.specs.Prelude.{◌≡◌, ◌||◌, [], IfOk, Ok, is_some, map};
 ghost use Rattle.std.specs.Option.{option_copied};
 ghost use Rattle.net_expr.specs.declared.world.Entry.TheVariants.{Set as ASet};
 ghost use Rattle.net_base.specs.declared.diagnostic.Language.TheVariants.{Data as InData};
@@ -11,7 +11,8 @@ ghost use Rattle.net_eval.specs.declared.given.Given.TheVariants as given;
 ghost use Rattle.net_tree.specs.View.{phrase_of};
 ghost use Rattle.net_eval.specs.BoundSets as bound;
 ghost use Rattle.net_eval.specs.SetData as set_data;
-ghost use Rattle.net_base.specs.Outcomes.{Refines, Updates, each, diagnostic_at};
+ghost use Rattle.net_eval.specs.SetPhrases.{assigned as assigned_in};
+ghost use Rattle.net_base.specs.Outcomes.{Refines, Updates, and_then, each, diagnostic_at};
 
 use crate::bind_world::BindingEnv;
 use crate::boxed_values::{boxed, unboxed};
@@ -19,7 +20,7 @@ use crate::cell::tuple_in;
 use crate::cell_group::{all_of_size, begins_at, keys_of, whole_rows};
 use crate::data_item::{given_words, set_rows};
 use crate::given::{Given, Groups, Line, NamedData};
-use crate::set_phrase::{Claim, Claims, SetPhrase, assigned, set_phrases};
+use crate::set_phrase::{Claim, Claims, SetPhrase, assigned, into_assigned, set_phrases};
 use crate::world_calls::reject_name;
 use net_base::{Boxed, ErrorCode, Fault, Items, Language};
 use net_data::Members;
@@ -200,28 +201,6 @@ fn given_set<'s>(
     Ok(found)
 }
 
-/// Returns the set of `:=`, or else the set from the data.
-fn one_of<'s>(
-    alloc: Global,
-    name: &Token<'s>,
-    assigned: Option<&TupleSet<'s>>,
-    found: Option<Boxed<TupleSet<'s>>>,
-) -> Result<Boxed<TupleSet<'s>>, Fault>
-    ensures { Refines (bound.one_of name.now (option_copied assigned.entry) found.entry) result }
-{
-    match (assigned, found) {
-        (Some(set), _found) => Ok(boxed(alloc, set.copied(alloc)?)?),
-        (None, Some(set)) => Ok(set),
-        (None, None) => Err(reject_name(
-            alloc,
-            Language::Model,
-            ErrorCode::NoValue,
-            name.span,
-            &name.text,
-        )?),
-    }
-}
-
 fn is_allowed<'s>(set: &TupleSet<'s>, claim: &Claim<'_, 's>) -> bool
     ensures { result ≡ bound.is_allowed set.now claim.now }
 {
@@ -256,6 +235,34 @@ fn allowed<'s>(
     Ok(())
 }
 
+/// Returns the set of `:=`, or else the set from the data, if its phrases allow it.
+fn allowed_set<'s>(
+    alloc: Global,
+    name: &Token<'s>,
+    phrases: Items<SetPhrase<'_, 's>>,
+    found: Option<Boxed<TupleSet<'s>>>,
+) -> Result<Boxed<TupleSet<'s>>, Fault>
+    ensures { Refines (and_then (bound.one_of name.now (assigned_in phrases.entry) found.entry)
+        (λ ts. and_then (bound.allowed name.now ts phrases.entry) (λ _. Ok ts))) result }
+{
+    match (assigned(phrases.as_slice()), &found) {
+        (Some(set), _) => allowed(alloc, name, set, phrases.as_slice())?,
+        (None, Some(set)) => allowed(alloc, name, set.get(), phrases.as_slice())?,
+        (None, None) => {}
+    }
+    match (into_assigned(alloc, phrases)?, found) {
+        (Some(set), _) => Ok(set),
+        (None, Some(set)) => Ok(set),
+        (None, None) => Err(reject_name(
+            alloc,
+            Language::Model,
+            ErrorCode::NoValue,
+            name.span,
+            &name.text,
+        )?),
+    }
+}
+
 /// Builds the entry of a set, with an index by components if it is likely to be used. The
 /// representation of a set in a world is chosen only here.
 fn set_entry<'s>(
@@ -276,22 +283,20 @@ fn set_of<'s>(
     earlier: &BindingEnv<'_, 's>,
     name: &Token<'s>,
     named_data: &[NamedData<'_, '_, 's>],
-    claims: &Claims<'_, 's>,
+    claims: Claims<'_, 's>,
 ) -> Result<Boxed<Entry<'s>>, Fault>
-    ensures { Refines (bound.set_of earlier.now.widths.now name.now named_data.now claims.now) result }
+    ensures { Refines (bound.set_of earlier.now.widths.now name.now named_data.now claims.entry) result }
 {
-    let phrases = claims.phrases.as_slice();
-    let dimension = claims.dimension.unwrap_or(1);
-    let assigned = assigned(phrases);
+    let Claims { dimension, phrases } = claims;
+    let dimension = dimension.unwrap_or(1);
     let found = given_set(
         alloc,
         earlier,
         usize::from(dimension),
-        assigned.is_some(),
+        assigned(phrases.as_slice()).is_some(),
         named_data,
     )?;
-    let set = one_of(alloc, name, assigned, found)?;
-    allowed(alloc, name, set.get(), phrases)?;
+    let set = allowed_set(alloc, name, phrases, found)?;
     Ok(set_entry(alloc, is_iterated, dimension, set)?)
 }
 
@@ -307,5 +312,5 @@ pub(crate) fn bound_set<'s>(
     ensures { Refines (bound.bound_set earlier.now.env earlier.now.widths.now name.now (map phrase_of phrases.now) named_data.now) result }
 {
     let claims = set_phrases(alloc, &earlier.env, phrases)?;
-    set_of(alloc, is_iterated, earlier, name, named_data, &claims)
+    set_of(alloc, is_iterated, earlier, name, named_data, claims)
 }

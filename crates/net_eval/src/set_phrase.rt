@@ -1,6 +1,6 @@
 //! Phrases of a set declaration: `dimen 2`, `within S`, `:= {1, 2}`.
 
-ghost use Rattle.std.specs.Prelude.{◌≡◌, None, Ok, map};
+ghost use Rattle.std.specs.Prelude.{◌≡◌, IfOk, None, Ok, map};
 ghost use Rattle.std.specs.Option.{option_copied, IfSome};
 ghost use Rattle.net_tree.specs.Spans as trees;
 ghost use Rattle.net_tree.specs.View.{tree, body_of, phrase_of};
@@ -8,14 +8,14 @@ ghost use Rattle.net_base.specs.Outcomes.{Refines};
 ghost use Rattle.net_eval.specs.SetPhrases as phrases;
 ghost use Rattle.net_eval.specs.declared.set_phrase.SetWord.TheVariants as words;
 
-use crate::boxed_values::{StoredSet, unboxed, value_of};
+use crate::boxed_values::{StoredSet, boxed, unboxed, value_of};
 use crate::crossing::crossed;
 use crate::superset::Superset;
 use net_base::{Boxed, ErrorCode, Fault, Items, Span};
 use net_expr::{Env, Value};
 use net_sets::{ARITY_LIMIT, Member, TupleSet};
 use net_tree::{Begins, Body, Expr, Phrase, Relation, Role, span_of};
-use std::alloc::Global;
+use std::alloc::{AllocError, Global};
 
 /// The keyword of a phrase.
 #[derive(Clone, Copy)]
@@ -276,4 +276,19 @@ pub(crate) fn assigned<'c, 's>(all: &'c [SetPhrase<'_, 's>]) -> Option<&'c Tuple
         }
     }
     None
+}
+
+/// Returns the set of `:=`. Copies it only if it is that of another declaration.
+pub(crate) fn into_assigned<'s>(
+    alloc: Global,
+    all: Items<SetPhrase<'_, 's>>,
+) -> Result<Option<Boxed<TupleSet<'s>>>, AllocError>
+    ensures { IfOk result (λ set. set ≡ phrases.assigned all.entry) }
+{
+    for phrase in all.into_vec() {
+        if let Claim::Becomes(_, set) = phrase.claim {
+            return Ok(Some(boxed(alloc, set.into_set(alloc)?)?));
+        }
+    }
+    Ok(None)
 }

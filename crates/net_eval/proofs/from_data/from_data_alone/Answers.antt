@@ -1,9 +1,8 @@
-use Rattle.std.specs.Prelude.{◌≡◌, ◌∷◌, [], Option, None, Some, is_some, map, Ok}
-use Rattle.std.proofs.Common.{ap, sym, subst, ◌∙◌, arith}
+use Rattle.std.specs.Prelude.{◌≡◌, None, is_some, Ok}
+use Rattle.std.proofs.Common.{ap, sym, ◌∙◌, arith}
 use Rattle.net_base.specs.Outcomes.{Outcome, each}
 use Rattle.net_tree.specs.Phrases.{is_becomes, is_default}
 use Rattle.net_tree.specs.PhraseValues.{phrase_value}
-use Rattle.net_tree.specs.View.{phrase_of}
 use Rattle.net_expr.specs.declared.world.Entry.{Entry}
 use Rattle.net_expr.specs.declared.world.Entry.TheVariants.{Parameter}
 use Rattle.net_expr.specs.Worlds.{key_count}
