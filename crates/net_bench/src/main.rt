@@ -48,7 +48,7 @@ fn problem<R: AllocGlobal + CpuClock>(rt: &R, text: &[u8]) -> Option<Reported> {
     })
 }
 
-/// Splits a data file into tokens; returns their number, twice.
+/// Splits a data file into tokens; returns their number.
 fn data<R: AllocGlobal + CpuClock>(rt: &R, text: &[u8]) -> Option<Reported> {
     let start = now(rt);
     let Ok(tokens) = lex_data(rt.alloc(), text) else {
@@ -56,7 +56,7 @@ fn data<R: AllocGlobal + CpuClock>(rt: &R, text: &[u8]) -> Option<Reported> {
     };
     let lexed = now(rt);
     let count = tokens.words().len();
-    let counts = (count, 0, count);
+    let counts = (count, 0, 0);
     Some(Reported {
         counts,
         times: (lexed.saturating_sub(start), 0),
@@ -76,7 +76,7 @@ fn tables<R: AllocGlobal + CpuClock>(rt: &R, text: &[u8]) -> Option<Reported> {
     let parsed = now(rt);
     let statements = tables.statements.as_slice().len();
     let count = tokens.words().len();
-    let counts = (count, statements, count);
+    let counts = (count, statements, 0);
     Some(Reported {
         counts,
         times: (lexed.saturating_sub(start), parsed.saturating_sub(lexed)),

@@ -8,7 +8,7 @@ ghost use Rattle.net_data.specs.Spots.{spot_after, rests};
 
 use crate::cells::Cells;
 use crate::expected_token::{is_comma, is_mark, is_member};
-use crate::next_token::{behind_commas, front};
+use crate::next_token::{after_commas, front};
 use net_lex::{Word, Words};
 use std::marker::Model;
 
@@ -97,7 +97,7 @@ fn inside_len(tokens: &Words<'_, '_>) -> usize
 fn first_item<'t, 's>(tokens: &Words<'t, 's>) -> Option<Cells<'t, 's>>
     ensures { result ≡ first_item (bare in_set tokens.now) }
 {
-    let items = behind_commas(tokens);
+    let items = after_commas(tokens);
     match items.split_first() {
         None => None,
         Some((token, rest)) => {

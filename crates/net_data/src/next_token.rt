@@ -17,11 +17,11 @@ pub(crate) fn front<'t, 's>(tokens: &Words<'t, 's>) -> Option<Next<'t, 's>>
     ensures value { result ≡ front tokens.now }
     ensures shorter { IfSome result (λ x. length x.1 < length tokens.now) }
 {
-    behind_commas(tokens).split_first()
+    after_commas(tokens).split_first()
 }
 
 /// Returns the tokens after the leading commas.
-pub(crate) fn behind_commas<'t, 's>(tokens: &Words<'t, 's>) -> Words<'t, 's>
+pub(crate) fn after_commas<'t, 's>(tokens: &Words<'t, 's>) -> Words<'t, 's>
     ensures { result ≡ drop (prefix_len is_comma tokens.now) tokens.now }
 {
     let (_, rest) = tokens.split_at(commas_len(tokens));

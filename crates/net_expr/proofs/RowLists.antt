@@ -52,11 +52,6 @@ key_made names [] i key h = cc
 key_made names (k ∷ keys) zero key h = cc
 key_made names (k ∷ keys) (suc i) key h = key_made names keys i key h
 
-pub key_kept : (rows : List Row) (i : ℕ) (r : Row) → i < length rows → r ≡ get_or rows i r → r.key ≡ get_or (keys_of rows) i []
-key_kept [] i r h e = absurd (omega arith)
-key_kept (x ∷ rows) zero r h e = ap (λ (q : Row). q.key) e
-key_kept (x ∷ rows) (suc i) r h e = key_kept rows i r (omega arith) e
-
 -- a key is there for each row
 pub key_there : (names : List Name) (keys : List Tuple) (i : ℕ) → i < length (map (row_of names) keys) → None ≡ slice_get keys i → ⊥
 key_there names [] i h e = absurd (omega (arith, h))

@@ -1,4 +1,4 @@
--- A declaration more, with its nodes or arcs.
+-- One more declaration, with its nodes or arcs.
 use Rattle.std.proofs.Common.{◌≡◌, ℕ, suc, ◌+◌, List, [], ◌∷◌, ◌++◌, length, map, sym, ap, ◌∙◌, append_assoc, append-nil, arith}
 use Rattle.std.specs.Prelude.{Option, is_some}
 use Rattle.std.proofs.lemmas.List.{map-append, length-map}

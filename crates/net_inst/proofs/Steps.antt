@@ -1,8 +1,7 @@
 -- Steps of the definitions.
-use Rattle.std.specs.Prelude.{◌≡◌, ◌+◌, ◌<◌, ◌≤◌, ℕ, List, [], ◌∷◌, ◌++◌, length, get_or, drop, map, Bool, true, false, cond, Option, Some, Ok, Err}
+use Rattle.std.specs.Prelude.{◌≡◌, ◌+◌, ◌<◌, ◌≤◌, ℕ, List, [], ◌∷◌, length, get_or, drop, map, Bool, true, false, cond, Option, Some, Ok, Err}
 use Rattle.std.specs.List.{position_from}
-use Rattle.std.proofs.Common.{ap, sym, subst, ◌∙◌, add-one, append_assoc, arith}
-use Rattle.std.proofs.lemmas.List.{get_or_default}
+use Rattle.std.proofs.Common.{ap, sym, subst, ◌∙◌, add-one, arith}
 use Rattle.std.proofs.Math.Seq.{drop-cons}
 use Rattle.net_lex.specs.declared.token.Token.{Token}
 use Rattle.net_sets.specs.Sets.{Tuple, same_tuple, place_of}
@@ -12,9 +11,6 @@ use Rattle.net_tree.specs.View.{phrase_of, declaration_of}
 use Rattle.net_tree.specs.declared.declaration.Decl.{Decl}
 use Rattle.net_tree.proofs.Views.{next_phrase, next_declaration}
 use Rattle.net_expr.specs.declared.row.Row.{Row}
-use Rattle.net_expr.specs.Rows.{keys_of}
-use Rattle.net_expr.proofs.RowLists.{key_kept}
-use Rattle.net_inst.specs.Lists.{Key, keyed}
 use Rattle.net_expr.specs.Worlds.{Name, World, Scope}
 use Rattle.net_linear.specs.Forms.{Linear}
 use Rattle.net_linear.specs.declared.condition.Sides.{Sides}
@@ -48,16 +44,6 @@ step_up i a b h e = omega arith
 
 pub there : (rows : List Row) (i n : ℕ) → i < n → n ≡ length rows → i < length rows
 there rows i n h e = omega (arith, h, e)
-
--- the key of a row and those after it
-pub keys_left : (d : ℕ) (rows : List Row) (i : ℕ) (found : List Key) → i < length rows
-    → found ++ map (keyed d) (drop i rows) ≡ (found ++ (record { declaration = d; tuple = get_or (keys_of rows) i [] }) ∷ []) ++ map (keyed d) (drop (i + 1) rows)
-keys_left d rows i found h =
-    let r : Row = get_or rows i (record { key = []; scope = [] }) in
-    let is : r ≡ get_or rows i r = get_or_default rows i (record { key = []; scope = [] }) r h in
-    ap (λ (l : List Row). found ++ map (keyed d) l) (left_at rows i r h is)
-    ∙ sym (append_assoc found (keyed d r ∷ []) (map (keyed d) (drop (i + 1) rows)))
-    ∙ ap (λ (t : Tuple). (found ++ (record { declaration = d; tuple = t }) ∷ []) ++ map (keyed d) (drop (i + 1) rows)) (key_kept rows i r h is)
 
 -- a row that is referred to
 pub row_is : (rows : List Row) (i : ℕ) (row held : Row) → row ≡ held → held ≡ get_or rows i held → row ≡ get_or rows i row

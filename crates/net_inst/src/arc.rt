@@ -36,7 +36,7 @@ pub(crate) struct Built {
 }
 
 impl<'a, 's> ArcText<'a, 's> {
-    /// Creates the declaration of its parts.
+    /// Creates the declaration from its parts, and looks up the nodes that its ends name.
     pub(crate) fn new(
         visible: ArcEnv<'a, 's>,
         name: &'a Token<'s>,

@@ -19,8 +19,9 @@ pub(crate) struct ArcText<'a, 's> {
     pub(crate) name: &'a Token<'s>,
     pub(crate) parts: ArcParts<'a, 's>,
     pub(crate) phrases: &'a [Phrase<'s>],
-    /// The keys of the node declarations that the ends name.
+    /// The keys of the node declaration that the `from` end names, if any.
     pub(crate) tail_keys: Option<&'a KeyNumbers<'s>>,
+    /// The same for the `to` end.
     pub(crate) head_keys: Option<&'a KeyNumbers<'s>>,
     pub ghost tail_found: { option_copied tail_keys ≡ end_keys visible.nodes.now (option_map tree (option_copied parts.tail)) },
     pub ghost head_found: { option_copied head_keys ≡ end_keys visible.nodes.now (option_map tree (option_copied parts.head)) },

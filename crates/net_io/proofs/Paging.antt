@@ -18,7 +18,7 @@ passes_more a b c x s y t z p q =
       parts = sym (append_assoc x s t) ∙ ap (λ (l : List ℕ). l ++ t) p.parts ∙ append_assoc p.front y t ∙ ap (λ (l : List ℕ). p.front ++ l) q.parts ∙ sym (append_assoc p.front q.front z);
     }
 
--- a front of a front
+-- a prefix of a prefix
 front_more : (a c : Option (List ℕ)) (x s t : List ℕ) → WritesFront a c (x ++ s) → WritesFront a c (x ++ (s ++ t))
 front_more a c x s t w = (w.0, w.1 ++ t, sym (append_assoc x s t) ∙ ap (λ (l : List ℕ). l ++ t) w.2 ∙ append_assoc w.0 w.1 t, w.3)
 
@@ -84,7 +84,7 @@ text_fails a b c page x text (Err v) e gone w = (
   Appends-trans a b c x w.0 (subst (Appends a b) e gone) w.3,
 )
 
--- what was sent through an empty page, and then written from it, but for a write that failed
+-- a text is sent through an empty page, the page is finished, and a write fails: a prefix was written
 pub whole_fails : {A E S : Type 0} (taken : S → Option (List ℕ)) (failed : S → Bool) (a b c : S) (x y : Held) (text : List ℕ) (r : Result A E) → x ≡ empty
     → Sends (record { bytes = taken a; failed = failed a }) (record { bytes = taken b; failed = failed b }) x text y
     → OnErr r ((y.failed ≡ false → WritesFront (taken b) (taken c) y.bytes) × (y.failed ≡ true → c ≡ b)) → OnErr r (WritesFront (taken a) (taken c) text)
@@ -104,7 +104,16 @@ whole_fails {S = S} taken failed a b c x y text (Err v) none p w =
           ))
     ]
 
--- of the whole text the rest is yet to be sent
+-- the same if no write failed
+pub whole_passes : {A E S : Type 0} (taken : S → Option (List ℕ)) (failed : S → Bool) (a b c : S) (x y : Held) (text : List ℕ) (r : Result A E) → x ≡ empty
+    → Sends (record { bytes = taken a; failed = failed a }) (record { bytes = taken b; failed = failed b }) x text y
+    → OnOk r ((y.failed ≡ false) × Appends (taken b) (taken c) y.bytes) → OnOk r (Appends (taken a) (taken c) text)
+whole_passes taken failed a b c x y text (Err v) none p w = tt
+whole_passes taken failed a b c x y text (Ok v) none p w =
+    let passed = (p.passes (ap (λ (h : Held). h.failed) none) w.0).0 in
+    subst (Appends (taken a) (taken c)) (sym passed.parts ∙ ap (λ (h : Held). h.bytes ++ text) none) (Appends-trans (taken a) (taken b) (taken c) passed.front y.bytes passed.gone w.1)
+
+-- of the whole text, `rest` is still to be sent
 pub record Stands (a b : Taken) (x y : Held) (rest whole : List ℕ) : Type 0 where
   pub done : List ℕ
   pub sent : Sends a b x done y
@@ -112,6 +121,9 @@ pub record Stands (a b : Taken) (x y : Held) (rest whole : List ℕ) : Type 0 wh
 
 pub start : (a : Taken) (x : Held) (whole : List ℕ) → Stands a a x x whole whole
 start a x whole = record { done = []; sent = sends_nothing a x; left = refl }
+
+pub start_as : (a : Taken) (x : Held) (rest whole : List ℕ) → rest ≡ whole → Stands a a x x rest whole
+start_as a x rest whole e = record { done = []; sent = sends_nothing a x; left = e }
 
 pub step : {a b c : Taken} {x y z : Held} {rest whole : List ℕ} (piece more : List ℕ) → rest ≡ piece ++ more → Stands a b x y rest whole → Sends b c y piece z → Stands a c x z more whole
 step piece more is s p =
@@ -123,15 +135,3 @@ step piece more is s p =
 
 pub finish : {a b : Taken} {x y : Held} {rest whole : List ℕ} → rest ≡ [] → Stands a b x y rest whole → Sends a b x whole y
 finish is s = sends_as (sym (append-nil s.done) ∙ ap (λ (l : List ℕ). s.done ++ l) (sym is) ∙ s.left) s.sent
-
--- the same if no write failed
-pub whole_passes : {A E S : Type 0} (taken : S → Option (List ℕ)) (failed : S → Bool) (a b c : S) (x y : Held) (text : List ℕ) (r : Result A E) → x ≡ empty
-    → Sends (record { bytes = taken a; failed = failed a }) (record { bytes = taken b; failed = failed b }) x text y
-    → OnOk r ((y.failed ≡ false) × Appends (taken b) (taken c) y.bytes) → OnOk r (Appends (taken a) (taken c) text)
-whole_passes taken failed a b c x y text (Err v) none p w = tt
-whole_passes taken failed a b c x y text (Ok v) none p w =
-    let passed = (p.passes (ap (λ (h : Held). h.failed) none) w.0).0 in
-    subst (Appends (taken a) (taken c)) (sym passed.parts ∙ ap (λ (h : Held). h.bytes ++ text) none) (Appends-trans (taken a) (taken b) (taken c) passed.front y.bytes passed.gone w.1)
-
-pub start_as : (a : Taken) (x : Held) (rest whole : List ℕ) → rest ≡ whole → Stands a a x x rest whole
-start_as a x rest whole e = record { done = []; sent = sends_nothing a x; left = e }

@@ -2,7 +2,6 @@
 
 ghost use Rattle.std.specs.Prelude.{◌≡◌, ◌+◌, ◌≤◌, ◌||◌, ◌++◌, OnErr, OnOk, false, is_err, length, true};
 ghost use Rattle.std.specs.Io.KnownBytes.{Appends};
-ghost use Rattle.arrayvec.specs.ArrayVec.{array_vec_len};
 ghost use Rattle.net_io.specs.Ends.{WritesFront};
 ghost use Rattle.net_io.specs.Paging as paging;
 ghost use Rattle.net_io.specs.Paging.{SendsTo};
@@ -74,7 +73,7 @@ impl Page {
     }
 
     fn hold(&mut self, bytes: &[u8])
-        requires { length self.now.bytes + length bytes.now ≤ 4096 }
+        requires { length self.now.bytes + length bytes.now ≤ PAGE }
         ensures text { self.new.bytes ≡ self.old.bytes ++ bytes.now }
         ensures same { self.new.failed ≡ self.old.failed }
     {

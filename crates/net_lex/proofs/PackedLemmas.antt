@@ -1,4 +1,4 @@
--- The place of a token, as it is stored.
+-- The position of a token, as it is stored.
 use Rattle.std.proofs.Common.{◌≡◌, ℕ, ◌+◌, ◌-◌, ◌≤◌, List, ◌++◌, length, take, drop, sym, ap, ◌∙◌, arith, subst, refl, length-append, take_at, drop_at, IsUtf8}
 use Rattle.std.proofs.Math.Seq.{drop-drop}
 use Rattle.std.proofs.lemmas.Str.{IsUtf8-append, IsCharBoundary-from_drop}
@@ -15,9 +15,6 @@ place_of token = record { start = token.span.start; len = length token.text; kin
 -- what is known of the next token, if the rest of the text is what is left after `at` bytes
 module _ (language : Language) (text rest gap after : List ℕ) (at : ℕ) (token : Token) (here : rest ≡ drop at text) (room : at + length rest ≡ length text)
     (step : IsSoundNext limits language at rest token gap after) where
-  start : ℕ
-  start = token.span.start
-
   from_here : drop token.span.start text ≡ token.text ++ after
   from_here =
       ap (λ k. drop k text) step.next.start
@@ -25,8 +22,8 @@ module _ (language : Language) (text rest gap after : List ℕ) (at : ℕ) (toke
       ∙ ap (drop (length gap)) (sym here ∙ step.next.joined)
       ∙ drop_at gap (token.text ++ after) (length gap) refl
 
-  pub behind : drop (token.span.start + length token.text) text ≡ after
-  behind = sym (drop-drop (length token.text) token.span.start text) ∙ ap (drop (length token.text)) from_here ∙ drop_at token.text after (length token.text) refl
+  pub after_is : drop (token.span.start + length token.text) text ≡ after
+  after_is = sym (drop-drop (length token.text) token.span.start text) ∙ ap (drop (length token.text)) from_here ∙ drop_at token.text after (length token.text) refl
 
   pub end_is : token.span.end ≡ token.span.start + length token.text
   end_is = omega (arith, step.next.start, step.next.end)
@@ -45,5 +42,5 @@ module _ (language : Language) (text rest gap after : List ℕ) (at : ℕ) (toke
   pub is_in : IsUtf8 token.text → IsUtf8 after → IsIn text (place_of token)
   is_in utf8 utf8_after = record {
     from = IsCharBoundary-from_drop text token.span.start (omega (arith, within)) (subst IsUtf8 (sym from_here) (IsUtf8-append token.text after utf8 utf8_after));
-    to = IsCharBoundary-from_drop text (token.span.start + length token.text) within (subst IsUtf8 (sym behind) utf8_after);
+    to = IsCharBoundary-from_drop text (token.span.start + length token.text) within (subst IsUtf8 (sym after_is) utf8_after);
   }

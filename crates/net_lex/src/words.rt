@@ -1,4 +1,4 @@
-//! The tokens of a text, stored as their places in it.
+//! The tokens of a text, stored as their positions in it.
 
 ghost use Rattle.std.specs.Prelude.{◌≡◌, ◌-◌, ◌≤◌, ◌<◌, ◌^◌, ◌∷◌, [], drop, length, map, slice_get, take, All, IfErr, IfOk, MatchOption};
 ghost use Rattle.std.specs.Str.{IsUtf8};
@@ -9,7 +9,7 @@ use net_base::{Excerpt, Span};
 use std::alloc::{AllocError, Global};
 use std::marker::Model;
 
-/// The place of a token in its text, and its kind. A text has at most 2^24 bytes, a token 255.
+/// The position of a token in its text, and its kind. A text has at most 2^24 bytes, a token 255.
 #[derive(Clone, Copy)]
 pub struct PackedToken {
     pub(crate) start: u32,
@@ -20,7 +20,7 @@ pub struct PackedToken {
 const _: () = prove!(size_of::<PackedToken>() == 8);
 
 impl PackedToken {
-    /// The place of a token.
+    /// Returns the position and the kind of a token.
     pub(crate) fn of(token: &Token<'_>) -> PackedToken
         requires start { token.now.span.start < 2 ^ 32 }
         requires short { length token.now.text ≤ 255 }
@@ -45,7 +45,7 @@ fn text_at<'s>(text: &'s str, token: PackedToken) -> &'s str
     &text[start..start + usize::from(token.len)]
 }
 
-/// A token by its place in its text, which contracts see as the token.
+/// A token by its position in its text, which contracts see as the token.
 #[derive(Drop)]
 pub struct Word<'t, 's> {
     text: &'t &'s str,
@@ -183,9 +183,9 @@ impl<'t, 's> Words<'t, 's> {
     pub fn split_at(&self, count: usize) -> (Words<'t, 's>, Words<'t, 's>)
         requires { count ≤ length self.now }
         ensures front { result.0 ≡ take count self.now }
-        ensures behind { result.1 ≡ drop count self.now }
+        ensures back { result.1 ≡ drop count self.now }
     {
-        let (front, behind) = self.tokens.split_at(count);
+        let (front, back) = self.tokens.split_at(count);
         let front = Words {
             text: self.text,
             tokens: front,
@@ -194,7 +194,7 @@ impl<'t, 's> Words<'t, 's> {
             front,
             Words {
                 text: self.text,
-                tokens: behind,
+                tokens: back,
             },
         )
     }
@@ -236,7 +236,7 @@ impl<'s> Model for WordList<'s> {
 }
 
 impl<'s> WordList<'s> {
-    /// The tokens at these places of a text.
+    /// Creates the list of the tokens at these positions of a text.
     pub(crate) fn new(text: &'s str, tokens: Vec<PackedToken>) -> WordList<'s>
         requires { All (IsIn text.now) tokens.items }
         ensures { result ≡ map (unpacked text.entry.now) tokens.items }

@@ -1,6 +1,6 @@
 //! Writing a plan.
 
-ghost use Rattle.std.specs.Prelude.{◌≡◌, ◌≤◌, ◌++◌, IfOk, OnOk, length, nat_eq, ◌<◌};
+ghost use Rattle.std.specs.Prelude.{◌≡◌, ◌++◌, IfOk, OnOk, length, ◌<◌};
 ghost use Rattle.std.specs.List.{zip, flat_map};
 ghost use Rattle.net_expr.specs.Rows.{keys_of};
 ghost use Rattle.net_inst.specs.Lists.{AreInOrder};

@@ -2,7 +2,7 @@
 
 ghost use Rattle.std.specs.Prelude.{◌≡◌, ◌+◌, ◌^◌, ◌<◌, ◌≤◌, ◌||◌, ◌∷◌, ◌++◌, OnErr, OnOk, MatchOption, is_err, length, not, string_bytes, vec_len, ℕ, List};
 ghost use Rattle.std.specs.Io.KnownBytes.{Appends};
-ghost use Rattle.std.specs.List.{flat_map, prefix_len, AllByRecursion};
+ghost use Rattle.std.specs.List.{prefix_len, AllByRecursion};
 ghost use Rattle.std.specs.Str.{IsUtf8};
 ghost use Rattle.net_io.specs.Ends.{WritesFront};
 ghost use Rattle.net_io.specs.Paging.{SendsTo};
@@ -69,7 +69,7 @@ fn sign_line(sense: Sense) -> &'static [u8]
 fn send_nodes<W: Sink>(sink: &mut W, page: &mut Page, nodes: &NameList<'_>)
     ensures { SendsTo W.taken W.failed sink.old sink.new page.old (lines.node_lines 0 (names_in nodes.now)) page.new }
 {
-    // Several declarations can have more nodes than an `u64` counts.
+    // Several declarations can have more nodes than a `u64` counts.
     let mut count: u128 = 0;
     for declaration in nodes.declarations() {
         let own_count = declaration.rows.len();

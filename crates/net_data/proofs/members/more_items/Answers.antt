@@ -12,12 +12,12 @@ returns-in-None c = let none = first_none c.args.tokens.now (sym c.in-None.ensur
 pub returns-then-is_mark : goal.returns-then-is_mark
 returns-then-is_mark c =
     let reported = more_tuple c.args.tokens.now c.in-Some.rest c.in-Some.token (sym c.in-Some.ensures.value) (sym c.is_mark.ensures ∙ c.if-is_mark.true) in
-    cc (reported, c.new-then-is_mark.ensures, c.after_first.ensures, c.split_at-closed.ensures.behind, c.inside_len.ensures.value)
+    cc (reported, c.new-then-is_mark.ensures, c.after_first.ensures, c.split_at-closed.ensures.back, c.inside_len.ensures.value)
 
 pub returns-then-is_mark-2 : goal.returns-then-is_mark-2
 returns-then-is_mark-2 c =
     let reported = more_over c.args.tokens.now c.in-Some.rest c.in-Some.token (sym c.in-Some.ensures.value) (sym c.is_mark.ensures ∙ c.if-is_mark.false) (sym c.is_mark-in-Some.ensures ∙ c.if-is_mark-2.true) in
-    let none = c.split_at-none.ensures.behind ∙ ap (λ n. drop n c.in-Some.rest) c.len.ensures ∙ drop-length c.in-Some.rest in
+    let none = c.split_at-none.ensures.back ∙ ap (λ n. drop n c.in-Some.rest) c.len.ensures ∙ drop-length c.in-Some.rest in
     c.new-then-is_mark-2.ensures ∙ ap (bare in_set) none ∙ sym reported
 
 pub returns-else-is_mark-2 : goal.returns-else-is_mark-2

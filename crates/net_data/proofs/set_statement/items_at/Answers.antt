@@ -8,4 +8,4 @@ returns-in-Err-clause-value c = sym (items_rejected c.args.tokens.now c.in-Err.s
 pub returns-in-Ok-clause-value : goal.returns-in-Ok-clause-value
 returns-in-Ok-clause-value c =
     let h = items_counted c.args.tokens.now c.in-Ok.len c.in-Ok.ensures.value in
-    cc (h, c.new.ensures, c.split_at-items.ensures.front, c.split_at-items.ensures.behind)
+    cc (h, c.new.ensures, c.split_at-items.ensures.front, c.split_at-items.ensures.back)

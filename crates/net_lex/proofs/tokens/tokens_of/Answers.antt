@@ -7,7 +7,7 @@ use Rattle.net_lex.specs.Faults.{IsFault, StandSound}
 use Rattle.net_lex.specs.Limits.{limits}
 use Rattle.net_lex.specs.Packed.{unpacked, IsIn}
 use Rattle.net_lex.specs.Scanning.{IsStep}
-use Rattle.net_lex.proofs.PackedLemmas.{place_of, behind, end_is, unpacked_is, is_in}
+use Rattle.net_lex.proofs.PackedLemmas.{place_of, after_is, end_is, unpacked_is, is_in}
 use Rattle.net_lex.proofs.StandLemmas.{LeadsTo, stand_on, stand_ends, begins, next_room}
 use Rattle.net_lex.proofs.tokens.tokens_of.Goals as goal
 
@@ -44,7 +44,7 @@ tokens-preserved c =
       value = subst (StandSound limits c.args.language ends 0 text) (sym (ap (map (unpacked text)) items ∙ all)) more;
       places = subst (All (IsIn text)) (sym items) (All-push (IsIn text) c.tokens.tokens.items c.of.result c.tokens.invariant.places now_in);
       text = step.3;
-      here = sym (ap (λ k. drop k text) (end_is c.args.language text rest step.0 after c.tokens.at token here room step.1) ∙ behind c.args.language text rest step.0 after c.tokens.at token here room step.1);
+      here = sym (ap (λ k. drop k text) (end_is c.args.language text rest step.0 after c.tokens.at token here room step.1) ∙ after_is c.args.language text rest step.0 after c.tokens.at token here room step.1);
       room = omega (arith, next_room c.args.language c.tokens.at rest token step.0 after step.1.next, room);
     }
 
