@@ -5,7 +5,7 @@ use Rattle.std.specs.Io.KnownBytes.{Appends}
 use Rattle.std.proofs.KnownBytes.{Appends-nil, Appends-trans}
 use Rattle.std.proofs.lemmas.Bool.{cases_Bool}
 use Rattle.net_io.specs.Ends.{WritesFront}
-use Rattle.net_io.specs.Paging.{Held, Taken, Passes, Sends, empty}
+use Rattle.net_io.specs.Paging.{Held, Taken, Passes, Sends, SendsTo, empty}
 
 passes_nothing : (a : Option (List ℕ)) (x : List ℕ) → Passes a a x [] x
 passes_nothing a x = record { front = []; gone = Appends-nil a; parts = append-nil x }
@@ -86,7 +86,7 @@ text_fails a b c page x text (Err v) e gone w = (
 
 -- a text is sent through an empty page, the page is finished, and a write fails: a prefix was written
 pub whole_fails : {A E S : Type 0} (taken : S → Option (List ℕ)) (failed : S → Bool) (a b c : S) (x y : Held) (text : List ℕ) (r : Result A E) → x ≡ empty
-    → Sends (record { bytes = taken a; failed = failed a }) (record { bytes = taken b; failed = failed b }) x text y
+    → SendsTo taken failed a b x text y
     → OnErr r ((y.failed ≡ false → WritesFront (taken b) (taken c) y.bytes) × (y.failed ≡ true → c ≡ b)) → OnErr r (WritesFront (taken a) (taken c) text)
 whole_fails taken failed a b c x y text (Ok v) none p w = tt
 whole_fails {S = S} taken failed a b c x y text (Err v) none p w =
@@ -106,7 +106,7 @@ whole_fails {S = S} taken failed a b c x y text (Err v) none p w =
 
 -- the same if no write failed
 pub whole_passes : {A E S : Type 0} (taken : S → Option (List ℕ)) (failed : S → Bool) (a b c : S) (x y : Held) (text : List ℕ) (r : Result A E) → x ≡ empty
-    → Sends (record { bytes = taken a; failed = failed a }) (record { bytes = taken b; failed = failed b }) x text y
+    → SendsTo taken failed a b x text y
     → OnOk r ((y.failed ≡ false) × Appends (taken b) (taken c) y.bytes) → OnOk r (Appends (taken a) (taken c) text)
 whole_passes taken failed a b c x y text (Err v) none p w = tt
 whole_passes taken failed a b c x y text (Ok v) none p w =
@@ -114,18 +114,23 @@ whole_passes taken failed a b c x y text (Ok v) none p w =
     subst (Appends (taken a) (taken c)) (sym passed.parts ∙ ap (λ (h : Held). h.bytes ++ text) none) (Appends-trans (taken a) (taken b) (taken c) passed.front y.bytes passed.gone w.1)
 
 -- of the whole text, `rest` is still to be sent
-pub record Stands (a b : Taken) (x y : Held) (rest whole : List ℕ) : Type 0 where
+pub record IsPartlySent (a b : Taken) (x y : Held) (rest whole : List ℕ) : Type 0 where
   pub done : List ℕ
   pub sent : Sends a b x done y
   pub left : done ++ rest ≡ whole
 
-pub start : (a : Taken) (x : Held) (whole : List ℕ) → Stands a a x x whole whole
-start a x whole = record { done = []; sent = sends_nothing a x; left = refl }
+-- the same of a sink before and after: `taken` and `failed` are what is known of it
+abbrev pub IsPartlySentTo : {S : Type 0} (taken : S → Option (List ℕ)) (failed : S → Bool) (old new : S) (before after : Held) (rest whole : List ℕ) → Type 0
+IsPartlySentTo taken failed old new before after rest whole =
+    IsPartlySent (record { bytes = taken old; failed = failed old }) (record { bytes = taken new; failed = failed new }) before after rest whole
 
-pub start_as : (a : Taken) (x : Held) (rest whole : List ℕ) → rest ≡ whole → Stands a a x x rest whole
+pub start_as : (a : Taken) (x : Held) (rest whole : List ℕ) → rest ≡ whole → IsPartlySent a a x x rest whole
 start_as a x rest whole e = record { done = []; sent = sends_nothing a x; left = e }
 
-pub step : {a b c : Taken} {x y z : Held} {rest whole : List ℕ} (piece more : List ℕ) → rest ≡ piece ++ more → Stands a b x y rest whole → Sends b c y piece z → Stands a c x z more whole
+pub start : (a : Taken) (x : Held) (whole : List ℕ) → IsPartlySent a a x x whole whole
+start a x whole = start_as a x whole whole refl
+
+pub step : {a b c : Taken} {x y z : Held} {rest whole : List ℕ} (piece more : List ℕ) → rest ≡ piece ++ more → IsPartlySent a b x y rest whole → Sends b c y piece z → IsPartlySent a c x z more whole
 step piece more is s p =
     record {
       done = s.done ++ piece;
@@ -133,5 +138,5 @@ step piece more is s p =
       left = append_assoc s.done piece more ∙ ap (λ (l : List ℕ). s.done ++ l) (sym is) ∙ s.left;
     }
 
-pub finish : {a b : Taken} {x y : Held} {rest whole : List ℕ} → rest ≡ [] → Stands a b x y rest whole → Sends a b x whole y
+pub finish : {a b : Taken} {x y : Held} {rest whole : List ℕ} → rest ≡ [] → IsPartlySent a b x y rest whole → Sends a b x whole y
 finish is s = sends_as (sym (append-nil s.done) ∙ ap (λ (l : List ℕ). s.done ++ l) (sym is) ∙ s.left) s.sent
