@@ -14,6 +14,10 @@ use Rattle.net_report.specs.References.{declared_name, name_in, names_in, names_
 use Rattle.net_report.specs.Links as links
 use Rattle.net_report.specs.Cuts as cuts
 
+-- the items from the one with this index on
+pub left_at : {A : Type 0} (xs : List A) (i : ℕ) (x : A) → i < length xs → x ≡ get_or xs i x → drop i xs ≡ x ∷ drop (i + 1) xs
+left_at xs i x inside is = let a = drop-cons xs i x inside in let b = add-one i in cc
+
 abbrev Name : Type 0
 Name = List ℕ
 
@@ -107,7 +111,7 @@ none_next x k past = drop_all k (names_of x) (omega (arith, past, own_count x))
 
 pub declared_next : (xs : List DeclaredRows) (k : ℕ) (x : DeclaredRows) → k < length xs → x ≡ get_or xs k x → flat_map names_of (drop k xs) ≡ names_of x ++ flat_map names_of (drop (k + 1) xs)
 declared_next xs k x inside is =
-    ap (flat_map names_of) (drop-cons xs k x inside ∙ ap (λ (y : DeclaredRows). y ∷ drop (suc k) xs) (sym is) ∙ ap (λ (n : ℕ). x ∷ drop n xs) (sym (add-one k)))
+    ap (flat_map names_of) (left_at xs k x inside is)
 
 pub declared_end : (xs : List DeclaredRows) (k : ℕ) → length xs ≤ k → flat_map names_of (drop k xs) ≡ []
 declared_end xs k past = ap (flat_map names_of) (drop_all k xs past)

@@ -1,13 +1,14 @@
 -- Names within a line, written piece by piece.
-use Rattle.std.proofs.Common.{◌≡◌, ℕ, suc, ◌+◌, ◌<◌, Bool, true, false, List, [], ◌∷◌, ◌++◌, length, take, drop, get_or, refl, sym, ap, ◌∙◌, append_assoc, append-nil, arith, add-one, take_all, ◌≤◌, ◌-◌}
+use Rattle.std.proofs.Common.{◌≡◌, ℕ, ◌+◌, ◌<◌, Bool, true, false, List, [], ◌∷◌, ◌++◌, length, take, drop, get_or, refl, sym, ap, ◌∙◌, append_assoc, append-nil, arith, add-one, take_all, ◌≤◌, ◌-◌}
 use Rattle.std.specs.Prelude.{nat_eq}
 use Rattle.std.proofs.lemmas.List.{map-append, drop_all}
-use Rattle.std.proofs.Math.Seq.{drop-cons, take-suc}
+use Rattle.std.proofs.Math.Seq.{take-suc}
 use Rattle.net_lex.specs.LineEnds.{ends_line}
 use Rattle.net_sets.specs.Sets.{Tuple}
 use Rattle.net_sets.specs.declared.member.Member.{Member}
 use Rattle.net_expr.specs.References.{doubled, quoted, member_text, further_text, members_text}
 use Rattle.net_report.specs.Links.{within_line, in_line}
+use Rattle.net_report.proofs.ListedRows.{left_at}
 
 pub in_line_both : (xs ys : List ℕ) → in_line (xs ++ ys) ≡ in_line xs ++ in_line ys
 in_line_both xs ys = map-append within_line xs ys
@@ -30,7 +31,7 @@ plain_start bytes = record { text = refl; line = refl }
 
 pub plain_next : (bytes : List ℕ) (i b : ℕ) → i < length bytes → b ≡ get_or bytes i b → nat_eq b 39 ≡ false → ends_line b ≡ false → IsPlainTo bytes i → IsPlainTo bytes (i + 1)
 plain_next bytes i b inside is q e p =
-    let dropped : drop i bytes ≡ b ∷ drop (i + 1) bytes = drop-cons bytes i b inside ∙ ap (λ (c : ℕ). c ∷ drop (suc i) bytes) (sym is) ∙ ap (λ (k : ℕ). b ∷ drop k bytes) (sym (add-one i)) in
+    let dropped : drop i bytes ≡ b ∷ drop (i + 1) bytes = left_at bytes i b inside is in
     let taken : take (i + 1) bytes ≡ take i bytes ++ b ∷ [] = ap (λ (k : ℕ). take k bytes) (add-one i) ∙ take-suc bytes i b inside ∙ ap (λ (c : ℕ). take i bytes ++ c ∷ []) (sym is) in
     let moved : (rest : List ℕ) → take i bytes ++ (b ∷ rest) ≡ take (i + 1) bytes ++ rest = λ rest. sym (append_assoc (take i bytes) (b ∷ []) rest) ∙ ap (λ (l : List ℕ). l ++ rest) (sym taken) in
     record {
@@ -72,12 +73,11 @@ further_next m ms = ap (λ (l : List ℕ). 44 ∷ l) (in_line_both (member_text 
 pub further_at : (members : List Member) (i : ℕ) (m : Member) → i < length members → m ≡ get_or members i m
     → in_line (further_text (drop i members)) ≡ ((44 ∷ []) ++ in_line (member_text m)) ++ in_line (further_text (drop (i + 1) members))
 further_at members i m inside is =
-    ap (λ (l : List Member). in_line (further_text l)) (drop-cons members i m inside ∙ ap (λ (x : Member). x ∷ drop (suc i) members) (sym is) ∙ ap (λ (k : ℕ). m ∷ drop k members) (sym (add-one i)))
+    ap (λ (l : List Member). in_line (further_text l)) (left_at members i m inside is)
     ∙ further_next m (drop (i + 1) members)
 
 pub bytes_at : (bytes : List ℕ) (i b : ℕ) → i < length bytes → b ≡ get_or bytes i b → in_line (drop i bytes) ≡ (within_line b ∷ []) ++ in_line (drop (i + 1) bytes)
-bytes_at bytes i b inside is =
-    ap in_line (drop-cons bytes i b inside ∙ ap (λ (c : ℕ). c ∷ drop (suc i) bytes) (sym is) ∙ ap (λ (k : ℕ). b ∷ drop k bytes) (sym (add-one i)))
+bytes_at bytes i b inside is = ap in_line (left_at bytes i b inside is)
 
 pub none_left : {A : Type 0} (f : List A → List ℕ) (xs : List A) (i : ℕ) → f [] ≡ [] → length xs ≤ i → f (drop i xs) ≡ []
 none_left f xs i e past = ap f (drop_all i xs past) ∙ e
