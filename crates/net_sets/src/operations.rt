@@ -140,7 +140,7 @@ pub fn widest<'s>(set: &TupleSet<'s>) -> usize
 {
     let mut width = 0;
     for place in 0..set.len() {
-        width = width.max(set.tuple_at(place).len());
+        width = width.max(set.width_at(place));
     }
     width
 }
@@ -151,7 +151,7 @@ pub fn narrowest(set: &TupleSet<'_>) -> usize
 {
     let mut width = ARITY_LIMIT;
     for place in 0..set.len() {
-        width = width.min(set.tuple_at(place).len());
+        width = width.min(set.width_at(place));
     }
     width
 }

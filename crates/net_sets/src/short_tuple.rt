@@ -37,6 +37,14 @@ impl<'s> Single<'s> {
         }
     }
 
+    /// Returns the number of members.
+    pub(crate) fn len(&self) -> usize
+        ensures { result ≡ length self.now }
+    {
+        let _only = &self.member;
+        1
+    }
+
     /// Returns a copy as a tuple.
     pub(crate) fn tuple(&self) -> Tuple<'s>
         ensures { result ≡ self.now }
@@ -126,6 +134,14 @@ impl<'s> Pair<'s> {
             }),
             _ => None,
         }
+    }
+
+    /// Returns the number of members.
+    pub(crate) fn len(&self) -> usize
+        ensures { result ≡ length self.now }
+    {
+        let _first = &self.first;
+        2
     }
 
     /// Returns a copy as a tuple.

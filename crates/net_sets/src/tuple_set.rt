@@ -98,6 +98,14 @@ impl<'s> TupleSet<'s> {
         self.tuples.tuple_at(position)
     }
 
+    /// Returns the number of members of the tuple at a position, counted from 0; 0 if there is none.
+    pub(crate) fn width_at(&self, position: usize) -> usize
+        ensures value { result ≡ length (get_or self.now position []) }
+        ensures fits { result ≤ arity_limit }
+    {
+        self.tuples.width_at(position)
+    }
+
     /// Returns the member at a component of the tuple at a position, both counted from 0.
     pub(crate) fn member_at(&self, position: usize, component: usize) -> Option<&Member<'s>>
         ensures { option_copied result ≡ slice_get (get_or self.now position []) component }

@@ -1,8 +1,9 @@
 //! Storage of distinct tuples that takes no memory for members that they do not have.
 
-ghost use Rattle.std.specs.Prelude.{◌≡◌, ◌∷◌, [], not, nat_eq, false, get_or, length, slice_get, IfOk, OnOk, OnErr, MatchOption};
+ghost use Rattle.std.specs.Prelude.{◌≡◌, ◌≤◌, ◌∷◌, [], not, nat_eq, false, get_or, length, slice_get, IfOk, OnOk, OnErr, MatchOption};
 ghost use Rattle.std.specs.List.{IsDistinct, items_where_true};
 ghost use Rattle.std.specs.Option.{option_copied};
+ghost use Rattle.net_sets.specs.Limits.{arity_limit};
 ghost use Rattle.net_sets.specs.Sets.{added, has, place_of, same_tuple};
 ghost use Rattle.net_sets.specs.TupleSets.{is_at};
 ghost use Rattle.net_sets.specs.TupleStores.{AreKept, tuples_in};
@@ -166,6 +167,28 @@ impl<'s> TupleStore<'s> {
         match self.get(position) {
             None => Tuple::new(),
             Some(tuple) => tuple,
+        }
+    }
+
+    /// Returns the number of members of the tuple at a position, counted from 0; 0 if there is none.
+    pub(crate) fn width_at(&self, position: usize) -> usize
+        ensures value { result ≡ length (get_or self.now position []) }
+        ensures fits { result ≤ arity_limit }
+    {
+        match &self.kept {
+            Kept::Nothing => 0,
+            Kept::Singles(set) => match set.get_index(position) {
+                None => 0,
+                Some(single) => single.len(),
+            },
+            Kept::Pairs(set) => match set.get_index(position) {
+                None => 0,
+                Some(pair) => pair.len(),
+            },
+            Kept::Tuples(set) => match set.get_index(position) {
+                None => 0,
+                Some(tuple) => tuple.len(),
+            },
         }
     }
 
