@@ -297,7 +297,8 @@ def mutants_of(crate, source):
 
 def in_turn(work, proving, lanes):
     """Tries crates with their mutants and yields the results as they arrive. While `rt ci` runs (`proving`), a crate is tried after the
-    libraries below it are proved and when a processor is idle; after a failure of `rt ci` none is started."""
+    libraries below it are proved and when two processors are idle: with four threads on two cores, a check that shares its core takes
+    half as long again, and the proofs are the longest path. After a failure of `rt ci` none is started."""
     trying = {}
     with ThreadPoolExecutor(lanes) as pool:
         while work or trying:
@@ -305,7 +306,8 @@ def in_turn(work, proving, lanes):
                 work.clear()
             ready = [it for it in work if not proving or proving.has_built_below(it[0])]
             used = len(trying) + (proving.checks() if proving else 0)
-            for crate, mutants in ready[: max(0, lanes - used)]:
+            spare = 1 if proving and proving.status is None and lanes > 2 else 0
+            for crate, mutants in ready[: max(0, lanes - spare - used)]:
                 work.remove((crate, mutants))
                 trying[pool.submit(try_crate, crate, mutants)] = crate, mutants
             ended, _ = wait(trying, 2 if work else None, FIRST_COMPLETED) if trying else ([], None)
@@ -358,7 +360,7 @@ def run(names, libraries):
 def run_during_proofs(folder, words):
     wanted, sources = crates_with_edits([], folder)
     lanes = prover.lanes()
-    proving = Proving(["rt", "ci", *words], folder, lanes)
+    proving = Proving(["rt", "ci", *words], folder)
     try:
         # The proofs have priority: they are the longest path.
         os.nice(10)

@@ -254,7 +254,7 @@ def self_test():
         _, output, _ = tried(crates["sample"], beside, False)
         callee = [mutant.name for mutant in beside if refusal(output, mutant.functions)] == ["sample/none_more.edit"] and "which is not proved" in output
         complaints, count, _, _ = try_all(crates, crates)
-        failing = Proving([sys.executable, "-c", "print('rt: garbled proved'); raise SystemExit(3)"], folder, 1, io.StringIO())
+        failing = Proving([sys.executable, "-c", "print('rt: garbled proved'); raise SystemExit(3)"], folder, io.StringIO())
         is_reported = failing.wait() == 3 and failing.has_failed() and failing.proved == {"garbled"}
         behind = list(in_turn([(crates["garbled"], [])], failing, 1))
     found = {name: next((it.split(": ", 1)[1] for it in complaints if f"/{name}: " in it), None) for name in EXPECTED}

@@ -14,17 +14,15 @@ SPENT = 0.1
 
 
 class Proving:
-    """`rt ci` running in a folder. With this many lanes it uses one process per crate: more would finish a crate sooner and take
-    a fifth more processor time."""
+    """`rt ci` running in a folder. A crate gets the processors that no other crate waits for, because most crates are on one path."""
 
-    def __init__(self, command, folder, lanes, out=sys.stdout):
+    def __init__(self, command, folder, out=sys.stdout):
         self.out = out
         # Its status and processor seconds, after it has ended.
         self.status, self.seconds = None, 0.0
         self.proved = set()
         self.running = subprocess.Popen(
-            command, cwd=folder, env={"RT_JOBS": str(lanes), **os.environ},
-            stdin=subprocess.DEVNULL, stdout=subprocess.PIPE, stderr=subprocess.STDOUT, text=True, errors="replace",
+            command, cwd=folder, stdin=subprocess.DEVNULL, stdout=subprocess.PIPE, stderr=subprocess.STDOUT, text=True, errors="replace",
         )
         self.following = threading.Thread(target=self.follow)
         self.following.start()

@@ -7,10 +7,10 @@ use Rattle.net_lex.specs.declared.token.Token.{Token}
 use Rattle.net_lex.specs.declared.words.PackedToken.{PackedToken}
 use Rattle.net_lex.specs.Limits.{limits}
 use Rattle.net_lex.specs.Faults.{IsSoundNext}
-use Rattle.net_lex.specs.Packed.{unpacked, IsIn}
+use Rattle.net_lex.specs.Packed.{unpacked, IsIn, IsCodeOf}
 
-abbrev pub place_of : Token → PackedToken
-place_of token = record { start = token.span.start; len = length token.text; kind = token.kind }
+abbrev pub place_of : Token → ℕ → PackedToken
+place_of token code = record { start = token.span.start; len = length token.text; kind = token.kind; value_code = code }
 
 -- what is known of the next token, if the rest of the text is what is left after `at` bytes
 module _ (language : Language) (text rest gap after : List ℕ) (at : ℕ) (token : Token) (here : rest ≡ drop at text) (room : at + length rest ≡ length text)
@@ -31,16 +31,17 @@ module _ (language : Language) (text rest gap after : List ℕ) (at : ℕ) (toke
   pub within : token.span.start + length token.text ≤ length text
   within = omega (arith, step.next.start, room, ap length step.next.joined, length-append gap (token.text ++ after), length-append token.text after)
 
-  pub unpacked_is : unpacked text (place_of token) ≡ token
-  unpacked_is =
+  pub unpacked_is : (code : ℕ) → unpacked text (place_of token code) ≡ token
+  unpacked_is code =
       let with_text : List ℕ → Token = λ t. record { kind = token.kind; text = t; span = record { start = token.span.start; end = token.span.start + length token.text } } in
       let with_end : ℕ → Token = λ e. record { kind = token.kind; text = token.text; span = record { start = token.span.start; end = e } } in
       let len = token.span.start + length token.text - token.span.start in
       let slice : take len (drop token.span.start text) ≡ token.text = ap (take len) from_here ∙ take_at token.text after len (omega arith) in
       ap with_text slice ∙ ap with_end (sym end_is)
 
-  pub is_in : IsUtf8 token.text → IsUtf8 after → IsIn text (place_of token)
-  is_in utf8 utf8_after = record {
+  pub is_in : (code : ℕ) → IsCodeOf token.text code → IsUtf8 token.text → IsUtf8 after → IsIn text (place_of token code)
+  is_in code value utf8 utf8_after = record {
     from = IsCharBoundary-from_drop text token.span.start (omega (arith, within)) (subst IsUtf8 (sym from_here) (IsUtf8-append token.text after utf8 utf8_after));
     to = IsCharBoundary-from_drop text (token.span.start + length token.text) within (subst IsUtf8 (sym after_is) utf8_after);
+    value = subst (λ (t : Token). IsCodeOf t.text code) (sym (unpacked_is code)) value;
   }

@@ -7,6 +7,7 @@ use Rattle.net_lex.specs.declared.gap.Place.TheVariants.{Between}
 use Rattle.net_base.specs.declared.diagnostic.Language.{Language}
 use Rattle.net_lex.specs.declared.whole.NumFault.TheVariants as num
 use Rattle.net_base.specs.declared.diagnostic.Span.{Span}
+use Rattle.net_lex.specs.declared.scan.WordKind.{WordKind}
 use Rattle.net_lex.specs.declared.token.Kind.{Kind}
 use Rattle.net_lex.specs.declared.token.Kind.TheVariants.{Num}
 use Rattle.net_lex.specs.declared.token.Token.{Token}
@@ -17,6 +18,11 @@ use Rattle.net_lex.specs.Tokens.{Allows}
 use Rattle.net_lex.specs.Reading.{IsLongest, IsSound}
 use Rattle.net_lex.specs.Limits.{limits}
 use Rattle.net_lex.specs.Faults.{EndsWhole, IsErrorCode, IsSoundNext}
+
+-- the kind alone
+abbrev pub kind_in : Result WordKind ErrorCode → Result Kind ErrorCode
+kind_in (Ok found) = Ok found.kind
+kind_in (Err error_code) = Err error_code
 
 -- the text begins with neither a blank nor a comment
 abbrev pub BeginsNoGap : List ℕ → Type 0

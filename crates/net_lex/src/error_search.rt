@@ -28,8 +28,8 @@ fn first_error_in(language: Language, text: &str) -> Option<(ErrorCode, Span)>
         match step(language, rest, at) {
             Err(error) => return Some(error),
             Ok(None) => return None,
-            Ok(Some((token, after))) => {
-                at = token.span.end;
+            Ok(Some((found, after))) => {
+                at = found.token.span.end;
                 rest = after;
             }
         }

@@ -1,11 +1,12 @@
 //! Reading single tokens, for both languages.
-ghost use Rattle.std.specs.Prelude.{◌≡◌, ◌+◌, ◌<◌, ◌≤◌, ◌^◌, MatchResult, MatchOption, length};
+ghost use Rattle.std.specs.Prelude.{◌≡◌, ◌+◌, ◌<◌, ◌≤◌, ◌^◌, IfOk, IfSome, MatchResult, MatchOption, Ok, length};
 ghost use Rattle.net_lex.specs.Shapes.{front};
 ghost use Rattle.net_lex.specs.Tokens.{HasShape};
 ghost use Rattle.net_lex.specs.Gaps.{IsLastGap};
 ghost use Rattle.net_lex.specs.Faults.{IsFault};
 ghost use Rattle.net_lex.specs.Limits.{limits};
-ghost use Rattle.net_lex.specs.Scanning.{BeginsNoGap, IsNumeralKind, IsKindOf, IsTokenAt, IsErrorCodeAt, IsStep};
+ghost use Rattle.net_lex.specs.Packed.{IsCodeOf};
+ghost use Rattle.net_lex.specs.Scanning.{BeginsNoGap, IsNumeralKind, IsKindOf, IsTokenAt, IsErrorCodeAt, IsStep, kind_in};
 ghost use Rattle.net_lex.specs.declared.shape.Shape.TheVariants.{Word};
 
 use crate::data_text::data_front;
@@ -14,7 +15,7 @@ use crate::model_text::model_front;
 use crate::reserved_words::is_reserved;
 use crate::shape::{BadFront, Shape};
 use crate::token::{Kind, Token};
-use crate::whole::{NumFault, whole_of};
+use crate::whole::{NumFault, code_of, whole_of};
 use net_base::{ErrorCode, Excerpt, Language, Span};
 
 /// The maximum length of a token, in bytes.
@@ -31,42 +32,71 @@ fn front(language: Language, text: &str) -> Result<(Shape, usize), BadFront>
     }
 }
 
-/// Returns the kind of a numeral after checking its value, or `otherwise` for a word that is not a
-/// numeral.
-fn numeral_kind(word: &str, otherwise: Result<Kind, ErrorCode>) -> Result<Kind, ErrorCode>
-    ensures { IsNumeralKind word.now otherwise result }
+/// The kind of a word, and the code of its value.
+struct WordKind {
+    kind: Kind,
+    value_code: u16,
+}
+
+/// Returns the kind of a word without a value.
+fn without_value(kind: Kind) -> WordKind
+    ensures { result ≡ record { kind = kind; value_code = 0 } }
 {
-    match whole_of(word) {
-        Ok(_) => Ok(Kind::Num),
-        Err(NumFault::NotWhole) => Err(ErrorCode::NotWhole),
-        Err(NumFault::TooLarge) => Err(ErrorCode::NumeralTooLarge),
-        Err(NumFault::NotNumeral) => otherwise,
+    WordKind {
+        kind,
+        value_code: 0,
     }
 }
 
-/// Returns the kind of a word of this shape, after checking the value of a numeral.
-fn kind_of(language: Language, shape: Shape, word: &str) -> Result<Kind, ErrorCode>
+/// Returns the kind of a numeral and the code of its value, after checking the value, or `otherwise` for a word that is not a
+/// numeral.
+fn numeral_kind(word: &str, otherwise: Kind) -> Result<WordKind, ErrorCode>
+    ensures kind { IsNumeralKind word.now (Ok otherwise) (kind_in result) }
+    ensures value { IfOk result (λ found. IsCodeOf word.now found.value_code) }
+{
+    match whole_of(word) {
+        Ok(value) => Ok(WordKind {
+            kind: Kind::Num,
+            value_code: code_of(value),
+        }),
+        Err(NumFault::NotWhole) => Err(ErrorCode::NotWhole),
+        Err(NumFault::TooLarge) => Err(ErrorCode::NumeralTooLarge),
+        Err(NumFault::NotNumeral) => Ok(without_value(otherwise)),
+    }
+}
+
+/// Returns the kind of a word of this shape and the code of its value, after checking the value of a numeral.
+fn kind_of(language: Language, shape: Shape, word: &str) -> Result<WordKind, ErrorCode>
     requires { HasShape language shape word.now }
-    ensures { IsKindOf language word.now result }
+    ensures kind { IsKindOf language word.now (kind_in result) }
+    ensures value { IfOk result (λ found. IsCodeOf word.now found.value_code) }
 {
     match shape {
-        Shape::Quoted => Ok(Kind::Str),
-        Shape::Mark => Ok(Kind::Mark),
-        Shape::Numeral => numeral_kind(word, Ok(Kind::Num)),
+        Shape::Quoted => Ok(without_value(Kind::Str)),
+        Shape::Mark => Ok(without_value(Kind::Mark)),
+        Shape::Numeral => numeral_kind(word, Kind::Num),
         Shape::Word => word_kind(language, word),
     }
 }
 
-fn word_kind(language: Language, word: &str) -> Result<Kind, ErrorCode>
+fn word_kind(language: Language, word: &str) -> Result<WordKind, ErrorCode>
     requires { HasShape language Word word.now }
-    ensures { IsKindOf language word.now result }
+    ensures kind { IsKindOf language word.now (kind_in result) }
+    ensures value { IfOk result (λ found. IsCodeOf word.now found.value_code) }
 {
     match language {
-        Language::Model if is_reserved(word.as_bytes()) => Ok(Kind::Key),
-        Language::Model => Ok(Kind::Name),
-        Language::Data if word.as_bytes() == b".".as_slice() => Ok(Kind::Dot),
-        Language::Data => numeral_kind(word, Ok(Kind::Name)),
+        Language::Model if is_reserved(word.as_bytes()) => Ok(without_value(Kind::Key)),
+        Language::Model => Ok(without_value(Kind::Name)),
+        Language::Data if word.as_bytes() == b".".as_slice() => Ok(without_value(Kind::Dot)),
+        Language::Data => numeral_kind(word, Kind::Name),
     }
+}
+
+/// A token, and the code of its value.
+#[derive(Drop)]
+pub(crate) struct Scanned<'s> {
+    pub(crate) token: Token<'s>,
+    pub(crate) value_code: u16,
 }
 
 /// Builds the token of this shape and length at the beginning of the text; also returns the text
@@ -77,14 +107,15 @@ fn token_of<'s>(
     len: usize,
     text: &'s str,
     at: usize,
-) -> Result<(Token<'s>, &'s str), (ErrorCode, Span)>
+) -> Result<(Scanned<'s>, &'s str), (ErrorCode, Span)>
     requires room { at + length text.now + 4 < 2 ^ 64 }
     requires some { 0 < length text.now }
     requires found { front language text.now ≡ Ok (shape, len) }
     requires short { len ≤ TOKEN_LIMIT }
-    ensures { MatchResult result
-        (λ x. IsTokenAt language at text.entry.now x.0 x.1.now)
+    ensures token { MatchResult result
+        (λ x. IsTokenAt language at text.entry.now x.0.token x.1.now)
         (λ e. IsErrorCodeAt language at text.entry.now e.0 e.1) }
+    ensures value { IfOk result (λ x. IsCodeOf x.0.token.text x.0.value_code) }
 {
     let (word, after) = text.split_at(len);
     let span = Span {
@@ -92,9 +123,11 @@ fn token_of<'s>(
         end: at + len,
     };
     match kind_of(language, shape, word) {
-        Ok(kind) => {
+        Ok(found) => {
+            let WordKind { kind, value_code } = found;
             let text = Excerpt::new(word);
-            Ok((Token { kind, text, span }, after))
+            let token = Token { kind, text, span };
+            Ok((Scanned { token, value_code }, after))
         }
         Err(error_code) => Err((error_code, span)),
     }
@@ -119,13 +152,14 @@ fn token_at<'s>(
     language: Language,
     text: &'s str,
     at: usize,
-) -> Result<(Token<'s>, &'s str), (ErrorCode, Span)>
+) -> Result<(Scanned<'s>, &'s str), (ErrorCode, Span)>
     requires room { at + length text.now + 4 < 2 ^ 64 }
     requires some { 0 < length text.now }
     requires here { BeginsNoGap text.now }
-    ensures { MatchResult result
-        (λ x. IsTokenAt language at text.entry.now x.0 x.1.now)
+    ensures token { MatchResult result
+        (λ x. IsTokenAt language at text.entry.now x.0.token x.1.now)
         (λ e. IsErrorCodeAt language at text.entry.now e.0 e.1) }
+    ensures value { IfOk result (λ x. IsCodeOf x.0.token.text x.0.value_code) }
 {
     match front(language, text) {
         Err(stop) => Err(fault_at(stop, at)),
@@ -146,11 +180,12 @@ pub(crate) fn step<'s>(
     language: Language,
     rest: &'s str,
     at: usize,
-) -> Result<Option<(Token<'s>, &'s str)>, (ErrorCode, Span)>
+) -> Result<Option<(Scanned<'s>, &'s str)>, (ErrorCode, Span)>
     requires room { at + length rest.now + 4 < 2 ^ 64 }
-    ensures { MatchResult result
-        (λ o. MatchOption o (IsLastGap rest.entry.now) (λ x. IsStep language at rest.entry.now x.0 x.1.now))
+    ensures token { MatchResult result
+        (λ o. MatchOption o (IsLastGap rest.entry.now) (λ x. IsStep language at rest.entry.now x.0.token x.1.now))
         (λ e. IsFault limits language at rest.entry.now e.0 e.1) }
+    ensures value { IfOk result (λ o. IfSome o (λ x. IsCodeOf x.0.token.text x.0.value_code)) }
 {
     match gap_len(rest) {
         Err(n) => Err((

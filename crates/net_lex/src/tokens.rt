@@ -30,9 +30,9 @@ fn tokens_of<'s>(alloc: Global, language: Language, text: &'s str) -> Result<Wor
                 Detail::Nothing,
             )),
             Ok(None) => return Ok(WordList::new(text, tokens)),
-            Ok(Some((token, after))) => {
-                at = token.span.end;
-                let Ok(()) = tokens.push(PackedToken::of(&token)) else {
+            Ok(Some((found, after))) => {
+                at = found.token.span.end;
+                let Ok(()) = tokens.push(PackedToken::of(&found.token, found.value_code)) else {
                     return Err(Fault::OutOfMemory);
                 };
                 rest = after;

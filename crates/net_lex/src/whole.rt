@@ -1,6 +1,6 @@
 //! The integer value of a numeral.
 
-ghost use Rattle.std.specs.Prelude.{◌≡◌, ◌≤◌, min, IfSome, MatchResult};
+ghost use Rattle.std.specs.Prelude.{◌≡◌, ◌+◌, ◌<◌, ◌≤◌, ℕ, min, pos, IfSome, MatchResult};
 ghost use Rattle.net_lex.specs.Limits.{limits};
 ghost use Rattle.net_lex.specs.NumeralViews.{parts_view};
 ghost use Rattle.net_lex.specs.Numerals.{AllDigits, AreDigits, digits_value, mantissa, up, down, IsSized, signed, IsValue, IsNumFault};
@@ -148,6 +148,18 @@ fn plain_value(text: &[u8]) -> Option<u64>
         }
     }
     Some(value)
+}
+
+/// Returns the code of a value in two bytes: the value plus 1 if it is from 0 to 65,534, else 0.
+pub(crate) fn code_of(value: i64) -> u16
+    ensures value { (n : ℕ) → result ≡ 1 + n → value ≡ pos n }
+    ensures small { (n : ℕ) → value ≡ pos n → n < 65535 → result ≡ 1 + n }
+{
+    if 0 <= value && value < 65_535 {
+        value as u16 + 1
+    } else {
+        0
+    }
 }
 
 /// Returns the exact value of a numeral with an optional sign, if it is an integer of absolute

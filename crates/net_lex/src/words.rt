@@ -1,30 +1,35 @@
 //! The tokens of a text, stored as their positions in it.
 
-ghost use Rattle.std.specs.Prelude.{◌≡◌, ◌-◌, ◌≤◌, ◌<◌, ◌^◌, ◌∷◌, [], drop, length, map, slice_get, take, All, IfErr, IfOk, MatchOption};
+ghost use Rattle.std.specs.Prelude.{◌≡◌, ◌-◌, ◌≤◌, ◌<◌, ◌^◌, ◌∷◌, [], drop, length, map, slice_get, take, All, IfErr, IfOk, MatchOption, MatchResult};
 ghost use Rattle.std.specs.Str.{IsUtf8};
+ghost use Rattle.net_lex.specs.Limits.{limits};
+ghost use Rattle.net_lex.specs.Numerals.{IsNumFault, IsValue};
 ghost use Rattle.net_lex.specs.Packed.{IsIn, unpacked};
 
 use crate::token::{Kind, Token};
+use crate::whole::{NumFault, whole_of};
 use net_base::{Excerpt, Span};
 use std::alloc::{AllocError, Global};
 use std::marker::Model;
 
-/// The position of a token in its text, and its kind. A text has at most 2^24 bytes, a token 255.
+/// The position of a token in its text, its kind, and the code of its value: the value plus 1 if it is from 0 to 65,534, else 0, as
+/// for tokens that are not numerals. A text has at most 2^24 bytes, a token 255.
 #[derive(Clone, Copy)]
 pub struct PackedToken {
     pub(crate) start: u32,
     pub(crate) len: u8,
     pub(crate) kind: Kind,
+    pub(crate) value_code: u16,
 }
 
 const _: () = prove!(size_of::<PackedToken>() == 8);
 
 impl PackedToken {
-    /// Returns the position and the kind of a token.
-    pub(crate) fn of(token: &Token<'_>) -> PackedToken
+    /// Returns the position and the kind of a token, with the code of its value.
+    pub(crate) fn of(token: &Token<'_>, value_code: u16) -> PackedToken
         requires start { token.now.span.start < 2 ^ 32 }
         requires short { length token.now.text ≤ 255 }
-        ensures value { result ≡ record { start = token.now.span.start; len = length token.now.text; kind = token.now.kind } }
+        ensures value { result ≡ record { start = token.now.span.start; len = length token.now.text; kind = token.now.kind; value_code = value_code } }
         ensures utf8 { IsUtf8 token.now.text }
     {
         let text = token.text.as_str();
@@ -32,6 +37,7 @@ impl PackedToken {
             start: token.span.start as u32,
             len: text.len() as u8,
             kind: token.kind,
+            value_code,
         }
     }
 }
@@ -98,6 +104,16 @@ impl<'t, 's> Word<'t, 's> {
         Span {
             start,
             end: start + usize::from(token.len),
+        }
+    }
+
+    /// Returns the value of a numeral as `whole_of` does for its text, without reading it again if the value is from 0 to 65,534.
+    pub fn number(&self) -> Result<i64, NumFault>
+        ensures { MatchResult result (λ v. IsValue limits.value self.now.text v) (λ why. IsNumFault limits.value self.now.text why) }
+    {
+        match self.token.value_code {
+            0 => whole_of(self.text().as_str()),
+            code => Ok(i64::from(code) - 1),
         }
     }
 

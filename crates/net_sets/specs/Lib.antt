@@ -8,6 +8,7 @@ pub mod Hashes
 pub mod EqualHashes
 pub mod EqualTuples
 pub mod TupleSets
+pub mod Forms
 pub mod TupleStores
 pub mod Cow
 pub mod Positions
@@ -18,4 +19,5 @@ pub mod Components
 pub mod Filters
 pub mod Made
 pub mod Ranges
+pub mod Runs
 pub mod Laws

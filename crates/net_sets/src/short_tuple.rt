@@ -1,80 +1,89 @@
 //! Tuples of one and of two members, which take no memory for more.
 
-ghost use Rattle.std.specs.Prelude.{◌≡◌, nat_eq, false, length, slice_get, MatchOption};
-ghost use Rattle.std.specs.Option.{option_copied};
+ghost use Rattle.std.specs.Prelude.{◌≡◌, ◌∷◌, [], true, false, slice_get, MatchOption};
+ghost use Rattle.net_sets.specs.Forms.{has_form};
 ghost use Rattle.net_sets.specs.Sets.{same_tuple};
 
 use crate::member::Member;
+use crate::member_form::{MemberForm, MemberStorage};
 use crate::tuple::Tuple;
 use std::hash::{Hash, Hasher};
 use std::marker::Model;
 
 /// A tuple of one member, which contracts see as the list of it.
 #[derive(Drop)]
-pub(crate) struct Single<'s> {
-    member: Member<'s>,
+pub(crate) struct One<C: MemberStorage> {
+    stored: C,
 }
 
-impl<'s> Model for Single<'s> {
+impl<C: MemberStorage> Model for One<C> {
     ghost use Rattle.std.specs.Prelude.{List, [], ◌∷◌};
     ghost use Rattle.net_sets.specs.declared.member.Member.{Member};
 
     ghost Value = { List Member };
 
-    ghost view = { λ t. t.member ∷ [] };
+    ghost view = { λ t. C.seen t.stored ∷ [] };
 }
 
-impl<'s> Single<'s> {
-    /// Copies a tuple of one member; returns `None` for another one.
-    pub(crate) fn of(tuple: &Tuple<'s>) -> Option<Single<'s>>
-        ensures { MatchOption result (nat_eq (length tuple.now) 1 ≡ false) (λ single. single ≡ tuple.now) }
+impl<C: MemberStorage> One<C> {
+    /// Copies a tuple of one member; returns `None` if it does not have this form.
+    pub(crate) fn of<'s>(tuple: &Tuple<'s>) -> Option<One<C>>
+    where
+        C: MemberForm<'s>,
+        ensures { MatchOption result (has_form C.fits 1 tuple.now ≡ false) (λ one. (one ≡ tuple.now) × (has_form C.fits 1 tuple.now ≡ true)) }
     {
         match tuple.as_slice() {
-            [member] => Some(Single {
-                member: member.copied(),
-            }),
+            [member] => match C::of(member) {
+                None => None,
+                Some(stored) => Some(One::of_member(stored)),
+            },
             _ => None,
         }
     }
 
-    /// Returns the number of members.
-    pub(crate) fn len(&self) -> usize
-        ensures { result ≡ length self.now }
+    /// Creates the tuple of a stored member.
+    pub(crate) fn of_member(stored: C) -> One<C>
+        ensures { result ≡ C.seen stored ∷ [] }
     {
-        let _only = &self.member;
-        1
+        One { stored }
     }
 
     /// Returns a copy as a tuple.
-    pub(crate) fn tuple(&self) -> Tuple<'s>
+    pub(crate) fn tuple<'s>(&self) -> Tuple<'s>
+    where
+        C: MemberForm<'s>,
         ensures { result ≡ self.now }
     {
-        Tuple::single(self.member.copied())
+        Tuple::single(self.stored.member())
     }
 
     /// Returns the member at a component, counted from 0.
-    pub(crate) fn member(&self, component: usize) -> Option<&Member<'s>>
-        ensures { option_copied result ≡ slice_get self.now component }
+    pub(crate) fn member<'s>(&self, component: usize) -> Option<Member<'s>>
+    where
+        C: MemberForm<'s>,
+        ensures { result ≡ slice_get self.now component }
     {
         if component == 0 {
-            Some(&self.member)
+            Some(self.stored.member())
         } else {
             None
         }
     }
 
     /// Returns whether the tuple has these members.
-    pub(crate) fn consists_of(&self, members: &[Member<'s>]) -> bool
+    pub(crate) fn consists_of<'s>(&self, members: &[Member<'s>]) -> bool
+    where
+        C: MemberForm<'s>,
         ensures { result ≡ same_tuple members.now self.now }
     {
         match members {
-            [member] => *member == self.member,
+            [member] => *member == self.stored.member(),
             _ => false,
         }
     }
 }
 
-impl<'s> PartialEq for Single<'s> {
+impl<C: MemberStorage> PartialEq for One<C> {
     ghost use Rattle.net_sets.specs.Sets.{same_tuple};
     ghost use Rattle.net_sets.specs.EqualTuples.{same_partly};
 
@@ -82,18 +91,18 @@ impl<'s> PartialEq for Single<'s> {
 
     ghost laws = { same_partly };
 
-    fn eq(&self, other: &Single<'s>) -> bool {
-        self.member == other.member
+    fn eq(&self, other: &One<C>) -> bool {
+        self.stored.is_same(&other.stored)
     }
 }
 
-impl<'s> Eq for Single<'s> {
+impl<C: MemberStorage> Eq for One<C> {
     ghost use Rattle.net_sets.specs.EqualTuples.{same_equiv};
 
     ghost laws = { same_equiv };
 }
 
-impl<'s> Hash for Single<'s> {
+impl<C: MemberStorage> Hash for One<C> {
     ghost use Rattle.net_sets.specs.Hashes.{tuple_writes};
     ghost use Rattle.net_sets.specs.EqualHashes.{same_tuple_writes};
 
@@ -102,80 +111,80 @@ impl<'s> Hash for Single<'s> {
     ghost respects_eq = { same_tuple_writes };
 
     fn hash<H: Hasher>(&self, state: &mut H) {
-        self.member.hash(state);
+        self.stored.write_to(state);
     }
 }
 
 /// A tuple of two members, which contracts see as their list.
 #[derive(Drop)]
-pub(crate) struct Pair<'s> {
-    first: Member<'s>,
-    second: Member<'s>,
+pub(crate) struct Two<C: MemberStorage> {
+    first: C,
+    second: C,
 }
 
-impl<'s> Model for Pair<'s> {
+impl<C: MemberStorage> Model for Two<C> {
     ghost use Rattle.std.specs.Prelude.{List, [], ◌∷◌};
     ghost use Rattle.net_sets.specs.declared.member.Member.{Member};
 
     ghost Value = { List Member };
 
-    ghost view = { λ t. t.first ∷ t.second ∷ [] };
+    ghost view = { λ t. C.seen t.first ∷ C.seen t.second ∷ [] };
 }
 
-impl<'s> Pair<'s> {
-    /// Copies a tuple of two members; returns `None` for another one.
-    pub(crate) fn of(tuple: &Tuple<'s>) -> Option<Pair<'s>>
-        ensures { MatchOption result (nat_eq (length tuple.now) 2 ≡ false) (λ pair. pair ≡ tuple.now) }
+impl<C: MemberStorage> Two<C> {
+    /// Copies a tuple of two members; returns `None` if it does not have this form.
+    pub(crate) fn of<'s>(tuple: &Tuple<'s>) -> Option<Two<C>>
+    where
+        C: MemberForm<'s>,
+        ensures { MatchOption result (has_form C.fits 2 tuple.now ≡ false) (λ two. (two ≡ tuple.now) × (has_form C.fits 2 tuple.now ≡ true)) }
     {
         match tuple.as_slice() {
-            [first, second] => Some(Pair {
-                first: first.copied(),
-                second: second.copied(),
-            }),
+            [first, second] => match (C::of(first), C::of(second)) {
+                (Some(first), Some(second)) => Some(Two { first, second }),
+                _ => None,
+            },
             _ => None,
         }
     }
 
-    /// Returns the number of members.
-    pub(crate) fn len(&self) -> usize
-        ensures { result ≡ length self.now }
-    {
-        let _first = &self.first;
-        2
-    }
-
     /// Returns a copy as a tuple.
-    pub(crate) fn tuple(&self) -> Tuple<'s>
+    pub(crate) fn tuple<'s>(&self) -> Tuple<'s>
+    where
+        C: MemberForm<'s>,
         ensures { result ≡ self.now }
     {
-        let mut tuple = Tuple::single(self.first.copied());
-        tuple.add(self.second.copied());
+        let mut tuple = Tuple::single(self.first.member());
+        tuple.add(self.second.member());
         tuple
     }
 
     /// Returns the member at a component, counted from 0.
-    pub(crate) fn member(&self, component: usize) -> Option<&Member<'s>>
-        ensures { option_copied result ≡ slice_get self.now component }
+    pub(crate) fn member<'s>(&self, component: usize) -> Option<Member<'s>>
+    where
+        C: MemberForm<'s>,
+        ensures { result ≡ slice_get self.now component }
     {
         match component {
-            0 => Some(&self.first),
-            1 => Some(&self.second),
+            0 => Some(self.first.member()),
+            1 => Some(self.second.member()),
             _ => None,
         }
     }
 
     /// Returns whether the tuple has these members.
-    pub(crate) fn consists_of(&self, members: &[Member<'s>]) -> bool
+    pub(crate) fn consists_of<'s>(&self, members: &[Member<'s>]) -> bool
+    where
+        C: MemberForm<'s>,
         ensures { result ≡ same_tuple members.now self.now }
     {
         match members {
-            [first, second] => *first == self.first && *second == self.second,
+            [first, second] => *first == self.first.member() && *second == self.second.member(),
             _ => false,
         }
     }
 }
 
-impl<'s> PartialEq for Pair<'s> {
+impl<C: MemberStorage> PartialEq for Two<C> {
     ghost use Rattle.net_sets.specs.Sets.{same_tuple};
     ghost use Rattle.net_sets.specs.EqualTuples.{same_partly};
 
@@ -183,18 +192,18 @@ impl<'s> PartialEq for Pair<'s> {
 
     ghost laws = { same_partly };
 
-    fn eq(&self, other: &Pair<'s>) -> bool {
-        self.first == other.first && self.second == other.second
+    fn eq(&self, other: &Two<C>) -> bool {
+        self.first.is_same(&other.first) && self.second.is_same(&other.second)
     }
 }
 
-impl<'s> Eq for Pair<'s> {
+impl<C: MemberStorage> Eq for Two<C> {
     ghost use Rattle.net_sets.specs.EqualTuples.{same_equiv};
 
     ghost laws = { same_equiv };
 }
 
-impl<'s> Hash for Pair<'s> {
+impl<C: MemberStorage> Hash for Two<C> {
     ghost use Rattle.net_sets.specs.Hashes.{tuple_writes};
     ghost use Rattle.net_sets.specs.EqualHashes.{same_tuple_writes};
 
@@ -203,7 +212,7 @@ impl<'s> Hash for Pair<'s> {
     ghost respects_eq = { same_tuple_writes };
 
     fn hash<H: Hasher>(&self, state: &mut H) {
-        self.first.hash(state);
-        self.second.hash(state);
+        self.first.write_to(state);
+        self.second.write_to(state);
     }
 }

@@ -1,7 +1,6 @@
 //! Sets of tuples in the order of their first appearance.
 
 ghost use Rattle.std.specs.Prelude.{◌≡◌, ◌<◌, ◌≤◌, ◌++◌, ◌∷◌, [], false, get_or, length, slice_get, not, IfOk, OnOk, OnErr, IsErrOf};
-ghost use Rattle.std.specs.Option.{option_copied};
 ghost use Rattle.std.specs.List.{IsDistinct, items_where_true};
 ghost use Rattle.net_sets.specs.Limits.{arity_limit, tuples_limit};
 ghost use Rattle.net_sets.specs.Made.{IsMade, with_set};
@@ -47,7 +46,7 @@ impl<'s> TupleSet<'s> {
         }
     }
 
-    /// Creates an empty set that reserves memory for `count` tuples with its first one; a set that grows is copied again and
+    /// Creates an empty set that reserves memory for `count` tuples when its hash table is made; a set that grows is copied again and
     /// again. The key has to be that of the run.
     pub fn with_room(alloc: Global, key: HashKey, count: usize) -> TupleSet<'s>
         ensures { result ≡ [] }
@@ -107,8 +106,8 @@ impl<'s> TupleSet<'s> {
     }
 
     /// Returns the member at a component of the tuple at a position, both counted from 0.
-    pub(crate) fn member_at(&self, position: usize, component: usize) -> Option<&Member<'s>>
-        ensures { option_copied result ≡ slice_get (get_or self.now position []) component }
+    pub(crate) fn member_at(&self, position: usize, component: usize) -> Option<Member<'s>>
+        ensures { result ≡ slice_get (get_or self.now position []) component }
     {
         self.tuples.member_at(position, component)
     }
@@ -216,11 +215,13 @@ impl<'s> TupleSet<'s> {
     }
 
     /// Keeps the tuples at the positions where `answers` is true, in their order.
-    pub(crate) fn retain_at(&mut self, answers: &[bool])
+    pub(crate) fn retain_at(&mut self, answers: &[bool]) -> Result<(), AllocError>
         requires { length answers.now ≡ length self.old }
-        ensures { self.new ≡ items_where_true answers.now self.old }
+        ensures ok { OnOk result (self.new ≡ items_where_true answers.now self.old) }
+        ensures err { OnErr result (self.new ≡ self.old) }
     {
-        self.tuples.retain_at(answers);
+        self.tuples.retain_at(answers)?;
+        Ok(())
     }
 
     /// Frees the memory that is reserved for more tuples.

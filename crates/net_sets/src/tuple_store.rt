@@ -1,39 +1,33 @@
-//! Storage of distinct tuples that takes no memory for members that they do not have.
+//! Storage of distinct tuples: consecutive numbers by the first one and their count; single members and pairs without room for more,
+//! and without tags if all members are of one kind.
 
-ghost use Rattle.std.specs.Prelude.{◌≡◌, ◌≤◌, ◌∷◌, [], not, nat_eq, false, get_or, length, slice_get, IfOk, OnOk, OnErr, MatchOption};
+ghost use Rattle.std.specs.Prelude.{◌≡◌, ◌≤◌, [], ◌∷◌, not, get_or, length, slice_get, IfOk, IfSome, MatchOption, OnOk, OnErr};
 ghost use Rattle.std.specs.List.{IsDistinct, items_where_true};
-ghost use Rattle.std.specs.Option.{option_copied};
+ghost use Rattle.net_sets.specs.Forms.{AreFormed, is_number};
 ghost use Rattle.net_sets.specs.Limits.{arity_limit};
 ghost use Rattle.net_sets.specs.Sets.{added, has, place_of, same_tuple};
 ghost use Rattle.net_sets.specs.TupleSets.{is_at};
-ghost use Rattle.net_sets.specs.TupleStores.{AreKept, tuples_in};
+ghost use Rattle.net_sets.specs.TupleStores.{IsStore, tuples_in};
 
+mod widened;
+
+use crate::kept::{Kept, add, are_all_true, keep_at, width_below};
 use crate::key::HashKey;
 use crate::member::Member;
-use crate::short_tuple::{Pair, Single};
+use crate::short_sets::{
+    insert_one, insert_two, is_one_at, is_two_at, member_of_one, member_of_two, one_at,
+    position_of_one, position_of_two, two_at,
+};
 use crate::tuple::Tuple;
-use indexmap::IndexSet;
 use std::alloc::{AllocError, Global};
-use std::hash::Hash;
 use std::marker::Model;
 
-/// Distinct tuples by their number of members.
-#[derive(Drop)]
-pub(crate) enum Kept<'s> {
-    Nothing,
-    Singles(IndexSet<Single<'s>, HashKey>),
-    Pairs(IndexSet<Pair<'s>, HashKey>),
-    /// Tuples of any length.
-    Tuples(IndexSet<Tuple<'s>, HashKey>),
-}
-
-/// Distinct tuples in the order in which they were added; contracts see their list. If all of them have one member, or two, they
-/// take no memory for more.
+/// Distinct tuples in the order in which they were added; contracts see their list.
 #[derive(Drop)]
 pub(crate) struct TupleStore<'s> {
     alloc: Global,
     key: HashKey,
-    /// The number of tuples for which memory is reserved at the first one.
+    /// The number of tuples for which a hash table reserves memory when it is made.
     room: usize,
     kept: Kept<'s>,
 }
@@ -50,66 +44,8 @@ impl<'s> Model for TupleStore<'s> {
     ghost invariant = { λ s. IsStore s.kept };
 }
 
-/// Creates a set of one value, with memory for `room` values.
-fn set_of<T: Eq + Hash + Drop>(
-    alloc: Global,
-    key: HashKey,
-    room: usize,
-    first: T,
-) -> Result<IndexSet<T, HashKey>, AllocError>
-    ensures { IfOk result (λ set. set.keys ≡ first ∷ []) }
-{
-    let mut set = IndexSet::with_hasher(alloc, key);
-    set.reserve_exact(room)?;
-    set.insert(first)?;
-    Ok(set)
-}
-
-/// Keeps the values at the positions where `answers` is true, in their order.
-fn keep_at<T: Eq + Hash + Drop>(set: &mut IndexSet<T, HashKey>, answers: &[bool])
-    requires { length answers.now ≡ length set.old.keys }
-    ensures { set.new.keys ≡ items_where_true answers.now set.old.keys }
-{
-    let mut rest = answers.iter();
-    set.retain(move |_| match rest.next() {
-        None => false,
-        Some(answer) => *answer,
-    });
-}
-
-/// Appends a tuple unless it is there, and returns whether it was new.
-fn add<'s>(set: &mut IndexSet<Tuple<'s>, HashKey>, tuple: Tuple<'s>) -> Result<bool, AllocError>
-    ensures new { IfOk result (λ is_new. is_new ≡ not (has set.old.keys tuple.entry)) }
-    ensures ok { OnOk result (set.new.keys ≡ added set.old.keys tuple.entry) }
-    ensures err { OnErr result (set.new.keys ≡ set.old.keys) }
-    ensures distinct { IsDistinct same_tuple set.new.keys }
-{
-    Ok(set.insert(tuple)?)
-}
-
-impl<'s> Kept<'s> {
-    /// Stores one tuple, with memory for `room` tuples of its length.
-    fn of_first(
-        alloc: Global,
-        key: HashKey,
-        room: usize,
-        first: Tuple<'s>,
-    ) -> Result<Kept<'s>, AllocError>
-        ensures value { IfOk result (λ kept. tuples_in kept ≡ first.entry ∷ []) }
-        ensures shape { IfOk result AreKept }
-    {
-        if let Some(single) = Single::of(&first) {
-            return Ok(Kept::Singles(set_of(alloc, key, room, single)?));
-        }
-        if let Some(pair) = Pair::of(&first) {
-            return Ok(Kept::Pairs(set_of(alloc, key, room, pair)?));
-        }
-        Ok(Kept::Tuples(set_of(alloc, key, room, first)?))
-    }
-}
-
 impl<'s> TupleStore<'s> {
-    /// Creates an empty store. Memory for `room` tuples is reserved at the first one.
+    /// Creates an empty store, whose hash table reserves memory for `room` tuples when it is made; consecutive numbers need none.
     pub(crate) fn new(alloc: Global, key: HashKey, room: usize) -> TupleStore<'s>
         ensures { result ≡ [] }
     {
@@ -133,7 +69,12 @@ impl<'s> TupleStore<'s> {
     {
         match &self.kept {
             Kept::Nothing => 0,
+            Kept::Run(run) => run.len(),
+            Kept::Numbers(set) => set.len(),
+            Kept::Names(set) => set.len(),
             Kept::Singles(set) => set.len(),
+            Kept::NumberPairs(set) => set.len(),
+            Kept::NamePairs(set) => set.len(),
             Kept::Pairs(set) => set.len(),
             Kept::Tuples(set) => set.len(),
         }
@@ -145,14 +86,13 @@ impl<'s> TupleStore<'s> {
     {
         match &self.kept {
             Kept::Nothing => None,
-            Kept::Singles(set) => match set.get_index(position) {
-                None => None,
-                Some(single) => Some(single.tuple()),
-            },
-            Kept::Pairs(set) => match set.get_index(position) {
-                None => None,
-                Some(pair) => Some(pair.tuple()),
-            },
+            Kept::Run(run) => run.tuple(position),
+            Kept::Numbers(set) => one_at(set, position),
+            Kept::Names(set) => one_at(set, position),
+            Kept::Singles(set) => one_at(set, position),
+            Kept::NumberPairs(set) => two_at(set, position),
+            Kept::NamePairs(set) => two_at(set, position),
+            Kept::Pairs(set) => two_at(set, position),
             Kept::Tuples(set) => match set.get_index(position) {
                 None => None,
                 Some(tuple) => Some(tuple.copied()),
@@ -177,14 +117,13 @@ impl<'s> TupleStore<'s> {
     {
         match &self.kept {
             Kept::Nothing => 0,
-            Kept::Singles(set) => match set.get_index(position) {
-                None => 0,
-                Some(single) => single.len(),
-            },
-            Kept::Pairs(set) => match set.get_index(position) {
-                None => 0,
-                Some(pair) => pair.len(),
-            },
+            Kept::Run(run) => width_below(position, run.len(), 1),
+            Kept::Numbers(set) => width_below(position, set.len(), 1),
+            Kept::Names(set) => width_below(position, set.len(), 1),
+            Kept::Singles(set) => width_below(position, set.len(), 1),
+            Kept::NumberPairs(set) => width_below(position, set.len(), 2),
+            Kept::NamePairs(set) => width_below(position, set.len(), 2),
+            Kept::Pairs(set) => width_below(position, set.len(), 2),
             Kept::Tuples(set) => match set.get_index(position) {
                 None => 0,
                 Some(tuple) => tuple.len(),
@@ -193,22 +132,21 @@ impl<'s> TupleStore<'s> {
     }
 
     /// Returns the member at a component of the tuple at a position, both counted from 0.
-    pub(crate) fn member_at(&self, position: usize, component: usize) -> Option<&Member<'s>>
-        ensures { option_copied result ≡ slice_get (get_or self.now position []) component }
+    pub(crate) fn member_at(&self, position: usize, component: usize) -> Option<Member<'s>>
+        ensures { result ≡ slice_get (get_or self.now position []) component }
     {
         match &self.kept {
             Kept::Nothing => None,
-            Kept::Singles(set) => match set.get_index(position) {
-                None => None,
-                Some(single) => single.member(component),
-            },
-            Kept::Pairs(set) => match set.get_index(position) {
-                None => None,
-                Some(pair) => pair.member(component),
-            },
+            Kept::Run(run) => run.member_at(position, component),
+            Kept::Numbers(set) => member_of_one(set, position, component),
+            Kept::Names(set) => member_of_one(set, position, component),
+            Kept::Singles(set) => member_of_one(set, position, component),
+            Kept::NumberPairs(set) => member_of_two(set, position, component),
+            Kept::NamePairs(set) => member_of_two(set, position, component),
+            Kept::Pairs(set) => member_of_two(set, position, component),
             Kept::Tuples(set) => match set.get_index(position) {
                 None => None,
-                Some(tuple) => tuple.as_slice().get(component),
+                Some(tuple) => tuple.member(component),
             },
         }
     }
@@ -219,14 +157,13 @@ impl<'s> TupleStore<'s> {
     {
         match &self.kept {
             Kept::Nothing => false,
-            Kept::Singles(set) => match set.get_index(position) {
-                None => false,
-                Some(single) => single.consists_of(members),
-            },
-            Kept::Pairs(set) => match set.get_index(position) {
-                None => false,
-                Some(pair) => pair.consists_of(members),
-            },
+            Kept::Run(run) => run.is_at(position, members),
+            Kept::Numbers(set) => is_one_at(set, position, members),
+            Kept::Names(set) => is_one_at(set, position, members),
+            Kept::Singles(set) => is_one_at(set, position, members),
+            Kept::NumberPairs(set) => is_two_at(set, position, members),
+            Kept::NamePairs(set) => is_two_at(set, position, members),
+            Kept::Pairs(set) => is_two_at(set, position, members),
             Kept::Tuples(set) => match set.get_index(position) {
                 None => false,
                 Some(tuple) => tuple.consists_of(members),
@@ -240,27 +177,15 @@ impl<'s> TupleStore<'s> {
     {
         match &self.kept {
             Kept::Nothing => None,
-            Kept::Singles(set) => match Single::of(tuple) {
-                None => None,
-                Some(single) => set.get_index_of(&single),
-            },
-            Kept::Pairs(set) => match Pair::of(tuple) {
-                None => None,
-                Some(pair) => set.get_index_of(&pair),
-            },
+            Kept::Run(run) => run.position_of(tuple),
+            Kept::Numbers(set) => position_of_one(set, tuple),
+            Kept::Names(set) => position_of_one(set, tuple),
+            Kept::Singles(set) => position_of_one(set, tuple),
+            Kept::NumberPairs(set) => position_of_two(set, tuple),
+            Kept::NamePairs(set) => position_of_two(set, tuple),
+            Kept::Pairs(set) => position_of_two(set, tuple),
             Kept::Tuples(set) => set.get_index_of(tuple),
         }
-    }
-
-    /// Copies the tuples into a set of tuples of any length.
-    fn tuples(&self) -> Result<IndexSet<Tuple<'s>, HashKey>, AllocError>
-        ensures { IfOk result (λ all. all.keys ≡ self.now) }
-    {
-        let mut all = IndexSet::with_hasher(self.alloc, self.key);
-        for position in 0..self.len() {
-            add(&mut all, self.tuple_at(position))?;
-        }
-        Ok(all)
     }
 
     /// Appends a tuple unless it is there, and returns whether it was new.
@@ -270,21 +195,119 @@ impl<'s> TupleStore<'s> {
         ensures err { OnErr result (self.new ≡ self.old) }
         ensures distinct { IsDistinct same_tuple self.new }
     {
-        match &mut self.kept {
-            Kept::Nothing => {}
-            Kept::Singles(set) => {
-                if let Some(single) = Single::of(&tuple) {
-                    return Ok(set.insert(single)?);
-                }
-            }
-            Kept::Pairs(set) => {
-                if let Some(pair) = Pair::of(&tuple) {
-                    return Ok(set.insert(pair)?);
-                }
-            }
-            Kept::Tuples(set) => return add(set, tuple),
+        if let Kept::Tuples(set) = &mut self.kept {
+            return add(set, tuple);
         }
-        self.insert_anew(tuple)
+        match self.insert_short(&tuple)? {
+            Some(is_new) => Ok(is_new),
+            None => self.insert_anew(tuple),
+        }
+    }
+
+    /// Appends a tuple of the form that is stored unless it is there, and returns whether it was new; returns `None` for a tuple of
+    /// another form and if tuples of any length are stored.
+    fn insert_short(&mut self, tuple: &Tuple<'s>) -> Result<Option<bool>, AllocError>
+        ensures new { IfOk result (λ known. IfSome known (λ is_new. is_new ≡ not (has self.old tuple.now))) }
+        ensures ok { IfOk result (λ known. MatchOption known (self.new ≡ self.old) (λ _. self.new ≡ added self.old tuple.now)) }
+        ensures err { OnErr result (self.new ≡ self.old) }
+        ensures distinct { IsDistinct same_tuple self.new }
+    {
+        match &mut self.kept {
+            Kept::Nothing | Kept::Tuples(_) => Ok(None),
+            Kept::Run(run) => Ok(run.insert(tuple)),
+            Kept::Numbers(set) => insert_one(set, tuple),
+            Kept::Names(set) => insert_one(set, tuple),
+            Kept::Singles(set) => insert_one(set, tuple),
+            Kept::NumberPairs(set) => insert_two(set, tuple),
+            Kept::NamePairs(set) => insert_two(set, tuple),
+            Kept::Pairs(set) => insert_two(set, tuple),
+        }
+    }
+
+    /// Replaces the tuples.
+    fn put(&mut self, kept: Kept<'s>)
+        requires { IsStore kept }
+        ensures value { self.new ≡ tuples_in kept.entry }
+        ensures distinct { IsDistinct same_tuple self.new }
+    {
+        self.kept = kept;
+    }
+
+    /// Appends a tuple unless it is there, after copying all numbers into a hash table, and returns whether it was new. Returns `None` if
+    /// one of them is not a number.
+    fn insert_as_number(&mut self, tuple: &Tuple<'s>) -> Result<Option<bool>, AllocError>
+        ensures new { IfOk result (λ known. IfSome known (λ is_new. is_new ≡ not (has self.old tuple.now))) }
+        ensures ok { IfOk result (λ known. MatchOption known (self.new ≡ self.old) (λ _. self.new ≡ added self.old tuple.now)) }
+        ensures err { OnErr result (self.new ≡ self.old) }
+        ensures distinct { IfOk result (λ known. IfSome known (λ _. IsDistinct same_tuple self.new)) }
+    {
+        match self.with_one::<i64>(tuple)? {
+            None => Ok(None),
+            Some((set, is_new)) => {
+                self.put(Kept::Numbers(set));
+                Ok(Some(is_new))
+            }
+        }
+    }
+
+    /// Appends a tuple unless it is there, after copying all members into a hash table, and returns whether it was new. Returns `None`
+    /// if one of the tuples does not have one member.
+    fn insert_as_single(&mut self, tuple: &Tuple<'s>) -> Result<Option<bool>, AllocError>
+        ensures new { IfOk result (λ known. IfSome known (λ is_new. is_new ≡ not (has self.old tuple.now))) }
+        ensures ok { IfOk result (λ known. MatchOption known (self.new ≡ self.old) (λ _. self.new ≡ added self.old tuple.now)) }
+        ensures err { OnErr result (self.new ≡ self.old) }
+        ensures distinct { IfOk result (λ known. IfSome known (λ _. IsDistinct same_tuple self.new)) }
+    {
+        match self.with_one::<Member<'s>>(tuple)? {
+            None => Ok(None),
+            Some((set, is_new)) => {
+                self.put(Kept::Singles(set));
+                Ok(Some(is_new))
+            }
+        }
+    }
+
+    /// Appends a tuple unless it is there, after copying all pairs into a hash table, and returns whether it was new. Returns `None` if
+    /// one of the tuples is not a pair.
+    fn insert_as_pair(&mut self, tuple: &Tuple<'s>) -> Result<Option<bool>, AllocError>
+        ensures new { IfOk result (λ known. IfSome known (λ is_new. is_new ≡ not (has self.old tuple.now))) }
+        ensures ok { IfOk result (λ known. MatchOption known (self.new ≡ self.old) (λ _. self.new ≡ added self.old tuple.now)) }
+        ensures err { OnErr result (self.new ≡ self.old) }
+        ensures distinct { IfOk result (λ known. IfSome known (λ _. IsDistinct same_tuple self.new)) }
+    {
+        match self.with_two::<Member<'s>>(tuple)? {
+            None => Ok(None),
+            Some((set, is_new)) => {
+                self.put(Kept::Pairs(set));
+                Ok(Some(is_new))
+            }
+        }
+    }
+
+    /// Stores the first tuple.
+    fn insert_first(&mut self, tuple: Tuple<'s>) -> Result<(), AllocError>
+        requires { self.old ≡ [] }
+        ensures ok { OnOk result (self.new ≡ tuple.entry ∷ []) }
+        ensures err { OnErr result (self.new ≡ self.old) }
+        ensures distinct { OnOk result (IsDistinct same_tuple self.new) }
+    {
+        let kept = Kept::of_first(self.alloc, self.key, self.room, tuple)?;
+        self.put(kept);
+        Ok(())
+    }
+
+    /// Appends a tuple unless it is there, after copying all tuples into a hash table for tuples of any length; returns whether it
+    /// was new.
+    fn insert_as_any(&mut self, tuple: Tuple<'s>) -> Result<bool, AllocError>
+        ensures new { IfOk result (λ is_new. is_new ≡ not (has self.old tuple.entry)) }
+        ensures ok { OnOk result (self.new ≡ added self.old tuple.entry) }
+        ensures err { OnErr result (self.new ≡ self.old) }
+        ensures distinct { OnOk result (IsDistinct same_tuple self.new) }
+    {
+        let mut all = self.tuples()?;
+        let is_new = add(&mut all, tuple)?;
+        self.put(Kept::Tuples(all));
+        Ok(is_new)
     }
 
     /// Appends a tuple unless it is there, after making a set in which it fits; returns whether it was new.
@@ -295,26 +318,58 @@ impl<'s> TupleStore<'s> {
         ensures distinct { IsDistinct same_tuple self.new }
     {
         if self.len() == 0 {
-            self.kept = Kept::of_first(self.alloc, self.key, self.room, tuple)?;
+            self.insert_first(tuple)?;
             return Ok(true);
         }
-        let mut all = self.tuples()?;
-        let is_new = add(&mut all, tuple)?;
-        self.kept = Kept::Tuples(all);
-        Ok(is_new)
+        if let Some(is_new) = self.insert_as_number(&tuple)? {
+            return Ok(is_new);
+        }
+        if let Some(is_new) = self.insert_as_single(&tuple)? {
+            return Ok(is_new);
+        }
+        if let Some(is_new) = self.insert_as_pair(&tuple)? {
+            return Ok(is_new);
+        }
+        self.insert_as_any(tuple)
     }
 
     /// Keeps the tuples at the positions where `answers` is true, in their order.
-    pub(crate) fn retain_at(&mut self, answers: &[bool])
+    pub(crate) fn retain_at(&mut self, answers: &[bool]) -> Result<(), AllocError>
         requires { length answers.now ≡ length self.old }
-        ensures { self.new ≡ items_where_true answers.now self.old }
+        ensures ok { OnOk result (self.new ≡ items_where_true answers.now self.old) }
+        ensures err { OnErr result (self.new ≡ self.old) }
     {
         match &mut self.kept {
             Kept::Nothing => {}
+            Kept::Run(_) => return self.retain_run(answers),
+            Kept::Numbers(set) => keep_at(set, answers),
+            Kept::Names(set) => keep_at(set, answers),
             Kept::Singles(set) => keep_at(set, answers),
+            Kept::NumberPairs(set) => keep_at(set, answers),
+            Kept::NamePairs(set) => keep_at(set, answers),
             Kept::Pairs(set) => keep_at(set, answers),
             Kept::Tuples(set) => keep_at(set, answers),
         }
+        Ok(())
+    }
+
+    /// Keeps the numbers at the positions where `answers` is true, in their order. If these are not all, the numbers are first copied
+    /// into a hash table.
+    fn retain_run(&mut self, answers: &[bool]) -> Result<(), AllocError>
+        requires size { length answers.now ≡ length self.old }
+        requires numbers { AreFormed is_number 1 self.old }
+        ensures ok { OnOk result (self.new ≡ items_where_true answers.now self.old) }
+        ensures err { OnErr result (self.new ≡ self.old) }
+    {
+        if are_all_true(answers) {
+            return Ok(());
+        }
+        let _distinct = self.len();
+        if let Some(mut set) = self.ones()? {
+            keep_at(&mut set, answers);
+            self.put(Kept::Numbers(set));
+        }
+        Ok(())
     }
 
     /// Frees the memory that is reserved for more tuples.
@@ -322,8 +377,12 @@ impl<'s> TupleStore<'s> {
         ensures { self.new ≡ self.old }
     {
         match &mut self.kept {
-            Kept::Nothing => {}
+            Kept::Nothing | Kept::Run(_) => {}
+            Kept::Numbers(set) => set.shrink_to_fit(),
+            Kept::Names(set) => set.shrink_to_fit(),
             Kept::Singles(set) => set.shrink_to_fit(),
+            Kept::NumberPairs(set) => set.shrink_to_fit(),
+            Kept::NamePairs(set) => set.shrink_to_fit(),
             Kept::Pairs(set) => set.shrink_to_fit(),
             Kept::Tuples(set) => set.shrink_to_fit(),
         }

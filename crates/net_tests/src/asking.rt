@@ -33,13 +33,13 @@ pub enum Call {
 
 /// A call, the number of the dummy `i`, if it is in scope, and a check that has the expression.
 #[derive(Clone, Copy)]
-pub struct Question {
+pub struct Question<'s> {
     pub call: Call,
     pub dummy: Option<i64>,
-    pub check: &'static str,
+    pub check: &'s str,
 }
 
-fn scope_of(alloc: Global, dummy: Option<i64>) -> Result<Scope<'static>, AllocError> {
+fn scope_of<'s>(alloc: Global, dummy: Option<i64>) -> Result<Scope<'s>, AllocError> {
     match dummy {
         Some(number) => { Scope::new(alloc).with(alloc, Excerpt::new("i"), Member::Number(number)) }
         None => Ok(Scope::new(alloc)),
@@ -80,7 +80,7 @@ fn parts_of<'a, 's>(declaration: &'a Decl<'s>) -> Option<(&'a Option<Braces<'s>>
 /// What a question comes to.
 fn of_check<'s>(
     alloc: Global,
-    question: Question,
+    question: Question<'s>,
     world: &World<'s>,
     declaration: &Decl<'s>,
 ) -> Result<String, AllocError> {
@@ -94,7 +94,7 @@ fn of_check<'s>(
 
 fn of_first<'s>(
     alloc: Global,
-    question: Question,
+    question: Question<'s>,
     world: &World<'s>,
     model: &Model<'s>,
 ) -> Result<String, AllocError> {
@@ -105,11 +105,11 @@ fn of_first<'s>(
 }
 
 /// Evaluates a question with a single check, whose names are those of the world.
-fn of_tokens(
+fn of_tokens<'s>(
     alloc: Global,
-    question: Question,
-    world: &World<'static>,
-    tokens: &[Token<'static>],
+    question: Question<'s>,
+    world: &World<'s>,
+    tokens: &[Token<'s>],
 ) -> Result<String, AllocError> {
     match parse_declarations(alloc, tokens) {
         Ok(model) => {
@@ -121,10 +121,10 @@ fn of_tokens(
     }
 }
 
-fn answered(
+fn answered<'s>(
     alloc: Global,
-    question: Question,
-    world: &World<'static>,
+    question: Question<'s>,
+    world: &World<'s>,
 ) -> Result<String, AllocError> {
     match lex_model(alloc, question.check.as_bytes()) {
         Ok(tokens) => of_tokens(alloc, question, world, tokens.as_slice()),
@@ -132,39 +132,30 @@ fn answered(
     }
 }
 
-/// What is asked of a world: a question, or with none the network of the model.
-fn of_world(
+/// What is asked of the world of a model and its tables: a question, or with none the network of the model.
+fn of_tables<'s>(
     alloc: Global,
-    question: Option<Question>,
-    model: &Model<'static>,
-    world: &World<'static>,
-) -> Result<String, AllocError> {
-    match question {
-        Some(question) => answered(alloc, question, world),
-        None => network_shown(alloc, model, world),
-    }
-}
-
-fn of_tables(
-    alloc: Global,
-    question: Option<Question>,
-    model: &Model<'static>,
-    hints: &Hints<'static>,
-    tables: &Tables<'_, 'static>,
+    question: Option<Question<'s>>,
+    model: &Model<'s>,
+    hints: &Hints<'s>,
+    tables: &Tables<'_, 's>,
 ) -> Result<String, AllocError>
     requires { AreNew [] (view.model model.now) }
 {
     match bind(alloc, model, hints, tables) {
-        Ok(world) => of_world(alloc, question, model, &world),
+        Ok(world) => match question {
+            Some(question) => answered(alloc, question, &world),
+            None => network_shown(alloc, model, &world),
+        },
         Err(fault) => line_of(alloc, &fault),
     }
 }
 
-fn of_data_tokens(
+fn of_data_tokens<'s>(
     alloc: Global,
-    question: Option<Question>,
-    model: &CheckedModel<'static>,
-    tokens: &Words<'_, 'static>,
+    question: Option<Question<'s>>,
+    model: &CheckedModel<'s>,
+    tokens: &Words<'_, 's>,
 ) -> Result<String, AllocError>
     requires { AreNew [] (view.model model.now) }
 {
@@ -174,11 +165,11 @@ fn of_data_tokens(
     }
 }
 
-fn of_model(
+fn of_model<'s>(
     alloc: Global,
-    question: Option<Question>,
-    model: &CheckedModel<'static>,
-    data: &'static str,
+    question: Option<Question<'s>>,
+    model: &CheckedModel<'s>,
+    data: &'s str,
 ) -> Result<String, AllocError>
     requires { AreNew [] (view.model model.now) }
 {
@@ -188,11 +179,11 @@ fn of_model(
     }
 }
 
-fn of_model_tokens(
+fn of_model_tokens<'s>(
     alloc: Global,
-    question: Option<Question>,
-    tokens: &[Token<'static>],
-    data: &'static str,
+    question: Option<Question<'s>>,
+    tokens: &[Token<'s>],
+    data: &'s str,
 ) -> Result<String, AllocError> {
     match parse_model(alloc, HashKey::of_texts(&[], data.as_bytes()), tokens) {
         Ok(model) => {
@@ -207,11 +198,11 @@ fn of_model_tokens(
 }
 
 /// What is asked of the world of a model with its data, or the first error of the two.
-pub fn asked(
+pub fn asked<'s>(
     alloc: Global,
-    question: Option<Question>,
-    model: &'static str,
-    data: &'static str,
+    question: Option<Question<'s>>,
+    model: &'s str,
+    data: &'s str,
 ) -> Result<String, AllocError> {
     match lex_model(alloc, model.as_bytes()) {
         Ok(tokens) => of_model_tokens(alloc, question, tokens.as_slice(), data),

@@ -14,11 +14,11 @@ mod comparison;
 #[cfg(test)]
 mod ends;
 #[cfg(test)]
-#[cfg(test)]
 mod guesses;
 #[cfg(test)]
-mod instances;
+mod hashes;
 #[cfg(test)]
+mod instances;
 #[cfg(test)]
 mod pieces;
 #[cfg(test)]

@@ -16,4 +16,4 @@ pub use item::{sides_of, single_name};
 pub use operator::{BinOp, Operator, Reducer, Reduction, Sign};
 pub use role::{Begins, Declares, Relation, Role, role_of};
 pub use span::{braces_span, condition_span, span_between, span_of};
-pub use terminal::{Leaf, NetWord, Terminal, number_in, numerals_have_numbers};
+pub use terminal::{Leaf, NetWord, Terminal, number_in_word, numerals_have_numbers};

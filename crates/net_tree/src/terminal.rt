@@ -6,7 +6,7 @@ ghost use Rattle.net_tree.specs.Numerals.{NumeralsHaveNumbers, number_in, number
 ghost use Rattle.net_tree.specs.Role.{role_of};
 
 use crate::role::{Role, role_of};
-use net_lex::{Token, whole_of};
+use net_lex::{Token, Word, whole_of};
 use std::marker::Model;
 
 /// A token with its grammatical role.
@@ -67,10 +67,21 @@ impl<'s> Model for NetWord<'s> {
 }
 
 /// Returns the value of a numeral, if it is an integer of absolute value at most 10^12.
-pub fn number_in(numeral: &str) -> Option<i64>
+fn number_in(numeral: &str) -> Option<i64>
     ensures { result ≡ number_in numeral.now }
 {
     match whole_of(numeral) {
+        Ok(number) => Some(number),
+        Err(_) => None,
+    }
+}
+
+/// Returns the value of a token of data, if it is a numeral whose value is an integer of absolute value at most 10^12. Does not
+/// read the numeral again if its token has the value.
+pub fn number_in_word(word: &Word<'_, '_>) -> Option<i64>
+    ensures { result ≡ number_in word.now.text }
+{
+    match word.number() {
         Ok(number) => Some(number),
         Err(_) => None,
     }

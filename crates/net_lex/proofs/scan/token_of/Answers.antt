@@ -15,16 +15,23 @@ pub returns-in-Ok : goal.returns-in-Ok
 returns-in-Ok c =
     let text = c.args.text.now in
     let found = front_found c.args.language text c.args.shape c.args.len c.utf8.text c.requires.some c.requires.found in
-    let kind : IsKindOf c.args.language (take c.args.len text) (Ok c.in-Ok.kind) = rw (← c.split_at.ensures.front) c.in-Ok.ensures in
-    rw (c.new-text.ensures, c.split_at.ensures.front, c.split_at.ensures.back) (found_token c.args.language c.args.at text c.args.shape c.args.len c.in-Ok.kind c.utf8.text found c.requires.short kind)
+    let kind : IsKindOf c.args.language (take c.args.len text) (Ok c.in-Ok.found.kind) = rw (← c.split_at.ensures.front) c.in-Ok.ensures.kind in
+    record {
+      token = rw (c.new-text.ensures, c.split_at.ensures.front, c.split_at.ensures.back) (found_token c.args.language c.args.at text c.args.shape c.args.len c.in-Ok.found.kind c.utf8.text found c.requires.short kind);
+      value = rw c.new-text.ensures c.in-Ok.ensures.value;
+    }
 
 pub returns-in-Err : goal.returns-in-Err
 returns-in-Err c =
     let text = c.args.text.now in
     let found = front_found c.args.language text c.args.shape c.args.len c.utf8.text c.requires.some c.requires.found in
-    let kind : IsKindOf c.args.language (take c.args.len text) (Err c.in-Err.error_code) = subst (λ w. IsKindOf c.args.language w (Err c.in-Err.error_code)) c.split_at.ensures.front c.in-Err.ensures in (
-      0,
-      c.args.len,
-      numeral_error_code c.args.language text c.args.shape c.args.len c.in-Err.error_code found c.requires.short kind,
-      ap (λ (k : ℕ). let s : Span = record { start = k; end = c.args.at + c.args.len } in s) (omega arith),
-    )
+    let kind : IsKindOf c.args.language (take c.args.len text) (Err c.in-Err.error_code) = subst (λ w. IsKindOf c.args.language w (Err c.in-Err.error_code)) c.split_at.ensures.front c.in-Err.ensures.kind in
+    record {
+      token = (
+        0,
+        c.args.len,
+        numeral_error_code c.args.language text c.args.shape c.args.len c.in-Err.error_code found c.requires.short kind,
+        ap (λ (k : ℕ). let s : Span = record { start = k; end = c.args.at + c.args.len } in s) (omega arith),
+      );
+      value = tt;
+    }

@@ -5,9 +5,9 @@ use Rattle.net_lex.specs.declared.token.Token.{Token}
 use Rattle.net_lex.specs.Reading.{EndsInGap}
 use Rattle.net_lex.specs.Faults.{IsFault, StandSound}
 use Rattle.net_lex.specs.Limits.{limits}
-use Rattle.net_lex.specs.Packed.{unpacked, IsIn}
+use Rattle.net_lex.specs.Packed.{unpacked, IsIn, IsCodeOf}
 use Rattle.net_lex.specs.Scanning.{IsStep}
-use Rattle.net_lex.proofs.PackedLemmas.{place_of, after_is, end_is, unpacked_is, is_in}
+use Rattle.net_lex.proofs.PackedLemmas.{after_is, end_is, unpacked_is, is_in}
 use Rattle.net_lex.proofs.StandLemmas.{LeadsTo, stand_on, stand_ends, begins, next_room}
 use Rattle.net_lex.proofs.tokens.tokens_of.Goals as goal
 
@@ -15,19 +15,19 @@ pub returns-in-Err : goal.returns-in-Err
 returns-in-Err c =
     let faults = λ (at : ℕ) (rest : List ℕ). IsFault limits c.args.language at rest c.in-Err.error_code c.in-Err.span in
     let tokens = map (unpacked c.args.text.now) c.tokens.tokens.items in
-    rw c.of_text.ensures (refl, tokens, stand_ends limits c.args.language faults 0 c.tokens.at c.args.text.now c.tokens.rest.now tokens c.tokens.invariant.value c.in-Err.ensures)
+    rw c.of_text.ensures (refl, tokens, stand_ends limits c.args.language faults 0 c.tokens.at c.args.text.now c.tokens.rest.now tokens c.tokens.invariant.value c.in-Err.ensures.token)
 
 pub returns-in-Ok-None : goal.returns-in-Ok-None
 returns-in-Ok-None c =
     let tokens = map (unpacked c.args.text.now) c.tokens.tokens.items in
-    rw c.new.ensures (stand_ends limits c.args.language EndsInGap 0 c.tokens.at c.args.text.now c.tokens.rest.now tokens c.tokens.invariant.value (rw c.in-Ok-None.field-0-is at c.in-Ok-None.ensures))
+    rw c.new.ensures (stand_ends limits c.args.language EndsInGap 0 c.tokens.at c.args.text.now c.tokens.rest.now tokens c.tokens.invariant.value (rw c.in-Ok-None.field-0-is at c.in-Ok-None.ensures.token))
 
 pub tokens-preserved : goal.tokens-preserved
 tokens-preserved c =
-    let token = c.in-Ok-Some.token in
+    let token = c.in-Ok-Some.found.token in
     let after = c.in-Ok-Some.after.now in
     let text = c.args.text.now in
-    let step : IsStep c.args.language c.tokens.at c.tokens.rest.now token after = rw c.in-Ok-Some.field-0-is at c.in-Ok-Some.ensures in
+    let step : IsStep c.args.language c.tokens.at c.tokens.rest.now token after = rw c.in-Ok-Some.field-0-is at c.in-Ok-Some.ensures.token in
     let old = map (unpacked text) c.tokens.tokens.items in
     let ends = LeadsTo token.span.end after in
     let more : StandSound limits c.args.language ends 0 text (old ++ token ∷ []) =
@@ -35,11 +35,12 @@ tokens-preserved c =
     let here = c.tokens.invariant.here in
     let room = c.tokens.invariant.room in
     let rest = c.tokens.rest.now in
-    let place = place_of token in
-    let token_is : unpacked text c.of.result ≡ token = ap (unpacked text) c.of.ensures.value ∙ unpacked_is c.args.language text rest step.0 after c.tokens.at token here room step.1 in
+    let code = c.in-Ok-Some.found.value_code in
+    let value : IsCodeOf token.text code = rw c.in-Ok-Some.field-0-is at c.in-Ok-Some.ensures.value in
+    let token_is : unpacked text c.of.result ≡ token = ap (unpacked text) c.of.ensures.value ∙ unpacked_is c.args.language text rest step.0 after c.tokens.at token here room step.1 code in
     let items = c.in-Ok.ensures.items in
     let all : map (unpacked text) (c.tokens.tokens.items ++ c.of.result ∷ []) ≡ old ++ token ∷ [] = map-append (unpacked text) c.tokens.tokens.items (c.of.result ∷ []) ∙ ap (λ (t : Token). old ++ t ∷ []) token_is in
-    let now_in : IsIn text c.of.result = subst (IsIn text) (sym c.of.ensures.value) (is_in c.args.language text rest step.0 after c.tokens.at token here room step.1 c.of.ensures.utf8 step.3) in
+    let now_in : IsIn text c.of.result = subst (IsIn text) (sym c.of.ensures.value) (is_in c.args.language text rest step.0 after c.tokens.at token here room step.1 code value c.of.ensures.utf8 step.3) in
     record {
       value = subst (StandSound limits c.args.language ends 0 text) (sym (ap (map (unpacked text)) items ∙ all)) more;
       places = subst (All (IsIn text)) (sym items) (All-push (IsIn text) c.tokens.tokens.items c.of.result c.tokens.invariant.places now_in);
@@ -50,7 +51,7 @@ tokens-preserved c =
 
 pub returns-in_default : goal.returns-in_default
 returns-in_default c =
-    let token = c.in-Ok-Some.token in
+    let token = c.in-Ok-Some.found.token in
     let after = c.in-Ok-Some.after.now in
-    let step : IsStep c.args.language c.tokens.at c.tokens.rest.now token after = rw c.in-Ok-Some.field-0-is at c.in-Ok-Some.ensures in
+    let step : IsStep c.args.language c.tokens.at c.tokens.rest.now token after = rw c.in-Ok-Some.field-0-is at c.in-Ok-Some.ensures.token in
     begins c.args.language c.args.text.now c.tokens.at c.tokens.rest.now (map (unpacked c.args.text.now) c.tokens.tokens.items) token step.0 after c.tokens.invariant.value step.1

@@ -2,8 +2,8 @@ use Rattle.std.specs.Prelude.{◌≡◌, length}
 use Rattle.std.specs.List.{items_where_true}
 use Rattle.std.proofs.Common.{◌∙◌, ap, rules}
 use Rattle.net_sets.proofs.Choosing.{kept_in_turn}
-use Rattle.net_sets.specs.contracts.tuple_store.fn.keep_at.retain as closure
-use Rattle.net_sets.proofs.tuple_store.keep_at.Goals as goal
+use Rattle.net_sets.specs.contracts.kept.fn.keep_at.retain as closure
+use Rattle.net_sets.proofs.kept.keep_at.Goals as goal
 
 pub returns : goal.returns
 returns g c =

@@ -1,0 +1,140 @@
+//! Distinct tuples by the number and the kind of their members.
+
+ghost use Rattle.std.specs.Prelude.{◌≡◌, nat_lt, if◌then◌else◌, ◌∷◌, [], not, length, IfOk, OnOk, OnErr};
+ghost use Rattle.std.specs.List.{IsDistinct, items_where_true, list_all};
+ghost use Rattle.net_sets.specs.declared.member.Member.TheVariants.{Number};
+ghost use Rattle.net_sets.specs.Sets.{added, has, same_tuple};
+ghost use Rattle.net_sets.specs.TupleStores.{AreKept, tuples_in};
+
+use crate::key::HashKey;
+use crate::member::Member;
+use crate::number_run::{NumberRun, number_of};
+use crate::short_tuple::{One, Two};
+use crate::text::Text;
+use crate::tuple::Tuple;
+use indexmap::IndexSet;
+use std::alloc::{AllocError, Global};
+use std::hash::Hash;
+
+/// Distinct tuples.
+#[derive(Drop)]
+pub(crate) enum Kept<'s> {
+    Nothing,
+    /// Consecutive numbers.
+    Run(NumberRun),
+    Numbers(IndexSet<One<i64>, HashKey>),
+    Names(IndexSet<One<Text<'s>>, HashKey>),
+    /// Numbers and names.
+    Singles(IndexSet<One<Member<'s>>, HashKey>),
+    NumberPairs(IndexSet<Two<i64>, HashKey>),
+    NamePairs(IndexSet<Two<Text<'s>>, HashKey>),
+    /// Pairs of numbers and names.
+    Pairs(IndexSet<Two<Member<'s>>, HashKey>),
+    /// Tuples of any length.
+    Tuples(IndexSet<Tuple<'s>, HashKey>),
+}
+
+/// Creates a set of one value, with memory for `room` values.
+pub(crate) fn set_of<T: Eq + Hash + Drop>(
+    alloc: Global,
+    key: HashKey,
+    room: usize,
+    first: T,
+) -> Result<IndexSet<T, HashKey>, AllocError>
+    ensures { IfOk result (λ set. set.keys ≡ first ∷ []) }
+{
+    let mut set = IndexSet::with_hasher(alloc, key);
+    set.reserve_exact(room)?;
+    set.insert(first)?;
+    Ok(set)
+}
+
+/// Returns whether all answers are true.
+pub(crate) fn are_all_true(answers: &[bool]) -> bool
+    ensures { result ≡ list_all (λ answer. answer) answers.now }
+{
+    for answer in answers {
+        if !*answer {
+            return false;
+        }
+    }
+    true
+}
+
+/// Keeps the values at the positions where `answers` is true, in their order.
+pub(crate) fn keep_at<T: Eq + Hash + Drop>(set: &mut IndexSet<T, HashKey>, answers: &[bool])
+    requires { length answers.now ≡ length set.old.keys }
+    ensures { set.new.keys ≡ items_where_true answers.now set.old.keys }
+{
+    let mut rest = answers.iter();
+    set.retain(move |_| match rest.next() {
+        None => false,
+        Some(answer) => *answer,
+    });
+}
+
+/// Appends a tuple unless it is there, and returns whether it was new.
+pub(crate) fn add<'s>(
+    set: &mut IndexSet<Tuple<'s>, HashKey>,
+    tuple: Tuple<'s>,
+) -> Result<bool, AllocError>
+    ensures new { IfOk result (λ is_new. is_new ≡ not (has set.old.keys tuple.entry)) }
+    ensures ok { OnOk result (set.new.keys ≡ added set.old.keys tuple.entry) }
+    ensures err { OnErr result (set.new.keys ≡ set.old.keys) }
+    ensures distinct { IsDistinct same_tuple set.new.keys }
+{
+    Ok(set.insert(tuple)?)
+}
+
+/// Returns the number of members of each tuple if there is one at the position, else 0.
+pub(crate) fn width_below(position: usize, count: usize, width: usize) -> usize
+    ensures { result ≡ if nat_lt position count then width else 0 }
+{
+    if position < count { width } else { 0 }
+}
+
+impl<'s> Kept<'s> {
+    /// Stores a number.
+    fn of_number(
+        alloc: Global,
+        key: HashKey,
+        room: usize,
+        number: i64,
+    ) -> Result<Kept<'s>, AllocError>
+        ensures value { IfOk result (λ kept. tuples_in kept ≡ (Number number ∷ []) ∷ []) }
+        ensures shape { IfOk result AreKept }
+    {
+        match NumberRun::of(number) {
+            Some(run) => Ok(Kept::Run(run)),
+            None => Ok(Kept::Numbers(set_of(alloc, key, room, One::of_member(number))?)),
+        }
+    }
+
+    /// Stores one tuple, with memory for `room` tuples of its form.
+    pub(crate) fn of_first(
+        alloc: Global,
+        key: HashKey,
+        room: usize,
+        first: Tuple<'s>,
+    ) -> Result<Kept<'s>, AllocError>
+        ensures value { IfOk result (λ kept. tuples_in kept ≡ first.entry ∷ []) }
+        ensures shape { IfOk result AreKept }
+    {
+        if let Some(number) = number_of(&first) {
+            return Kept::of_number(alloc, key, room, number);
+        }
+        if let Some(name) = One::<Text<'s>>::of(&first) {
+            return Ok(Kept::Names(set_of(alloc, key, room, name)?));
+        }
+        if let Some(numbers) = Two::<i64>::of(&first) {
+            return Ok(Kept::NumberPairs(set_of(alloc, key, room, numbers)?));
+        }
+        if let Some(names) = Two::<Text<'s>>::of(&first) {
+            return Ok(Kept::NamePairs(set_of(alloc, key, room, names)?));
+        }
+        if let Some(pair) = Two::<Member<'s>>::of(&first) {
+            return Ok(Kept::Pairs(set_of(alloc, key, room, pair)?));
+        }
+        Ok(Kept::Tuples(set_of(alloc, key, room, first)?))
+    }
+}
