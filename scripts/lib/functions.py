@@ -64,10 +64,14 @@ class Function:
             line = re.search(rf"(?m)^{self.margin}\{{\n", whole)
         return whole[:line.end()] if line and line[0] != ";\n" else None
 
+    def owner(self):
+        """Returns the prover's name for the impl that it is in: the type, with a capital letter also if it is primitive, and the trait."""
+        return f"{self.impl[2][0].upper()}{self.impl[2][1:]}{(self.impl[1] or '').split('::')[-1]}"
+
     def qualified(self, name):
-        """Returns the prover's name for a function of this name next to this one: a method by its type and its trait."""
+        """Returns the prover's name for a function of this name next to this one: a method by its impl."""
         if self.impl:
-            return f"{self.impl[2]}{(self.impl[1] or '').split('::')[-1]}::{name}"
+            return f"{self.owner()}::{name}"
         return "::".join([*self.path, name])
 
     def folder(self, room, name):
@@ -120,7 +124,7 @@ class Function:
             return [*self.path, self.name]
         if re.match(rf"(?m)^impl(?:<[^{{]*?>)?\s+{re.escape(self.impl[1])}<", self.impl[0]):
             return None
-        return [*self.path[:-1], f"{self.impl[2]}{self.impl[1].split('::')[-1]}", self.name]
+        return [*self.path[:-1], self.owner(), self.name]
 
     def stub(self):
         """Returns its text with a stub as its body, outside any cycle."""

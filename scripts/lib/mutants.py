@@ -24,6 +24,8 @@ REMOVED = re.compile(r"has no field|is not in scope|has no `|was not admitted")
 COMPILER = re.compile(r"(\./)?src/\S+:\d+:\d+: error\[")
 # An error of the prover about an answer to a goal that does not exist.
 LOST = r"(?m)^(?:\./)?proofs/(?:\S*/)?(?:{})/Answers\.antt:\d+:\d+: error: .*Goals` has no `([^`]+)`"
+# The error of the prover about a function to be checked whose name it does not know. It then checks nothing.
+UNKNOWN = re.compile(r"(?m)^rattle: error: `\w+` has no function `([^`]+)`")
 # The complaints about mutants that the prover accepts.
 STILL_PROVED = "NOT REJECTED: the function is still proved"
 ALL_PROVED = "NOT REJECTED: everything that was checked is still proved"
@@ -184,6 +186,12 @@ def spoiled(fitting, output):
     return unread(output, {file for mutant in fitting for file, _, _ in mutant.changes}) is not None and "\nfn " not in output
 
 
+def unknown(fitting, output):
+    """Returns the mutants that change a function whose name the prover does not know, each with a complaint."""
+    names = set(UNKNOWN.findall(output))
+    return {mutant: f"the prover knows no function {', '.join(functions & names)}" for mutant, functions in fitting.items() if functions & names}
+
+
 def misread_alone(crate, mutants):
     """Returns the mutants that cannot be read, each with a complaint: by halves, until each is found alone."""
     said = misread(crate, mutants)
@@ -258,8 +266,8 @@ def has_lost(mutant, functions, output):
 def try_crate(crate, mutants):
     """Tries the mutants of a crate; returns a complaint for each (or None), the number of checks, and processor seconds. Mutants that
     do not fit together, or that remove goals with answers, are tried in further checks; those that are neither rejected nor proved
-    over stubs are tried again over everything they call, then without the rejected ones, and finally alone. One that cannot be read,
-    so that the check of all says nothing, is left out."""
+    over stubs are tried again over everything they call, then without the rejected ones, and finally alone. One that cannot be read
+    or whose function is unknown, so that the check of all says nothing, is left out."""
     verdicts, checks, total = {}, 0, 0
     for mutant in filter(Mutant.is_of_definitions, mutants):
         verdicts[mutant], seconds = try_definitions(crate, mutant)
@@ -269,7 +277,9 @@ def try_crate(crate, mutants):
     while waiting:
         together, stubs = waiting.pop()
         fitting, output, seconds = tried(crate, together, stubs)
-        spoilers = misread_alone(crate, together) if stubs and len(together) > 1 and spoiled(fitting, output) else {}
+        spoilers = unknown(fitting, output)
+        if not spoilers and stubs and len(together) > 1 and spoiled(fitting, output):
+            spoilers = misread_alone(crate, together)
         if spoilers:
             verdicts.update(spoilers)
             checks, total = checks + 1, total + seconds

@@ -9,7 +9,7 @@ import tempfile
 import time
 
 from lib import prover
-from lib.mutants import in_turn, mutants_of, refusal, tried, try_all
+from lib.mutants import in_turn, mutants_of, refusal, tried, try_all, unknown
 from lib.prover import TOP
 from lib.proving import Proving, at_work
 
@@ -138,6 +138,21 @@ impl Count {
     }
 }
 
+/// What follows another value.
+pub trait Follow {
+    /// The next one.
+    fn following(&self) -> u8;
+}
+
+impl Follow for u8 {
+    fn following(&self) -> u8
+        requires { self.now < 200 }
+        ensures value { result ≡ self.now + 1 }
+    {
+        *self + 1
+    }
+}
+
 /// Nothing, by the other one.
 #[cycle(down)]
 pub fn down(n: u8) -> u8
@@ -194,6 +209,7 @@ returns c = search rules
     "crates/sample/must-fail/one_more_all_the_same.edit": "file: src/lib.rt\nold:     n + 1\nnew:     1 + n\n",
     "crates/sample/must-fail/count_stays.edit": "file: src/lib.rt\nold:         self.number + 1\nnew:         self.number\n",
     "crates/sample/must-fail/count_by_two.edit": "file: src/lib.rt\nold:         self.number + 1\nnew:         self.number + 2\n",
+    "crates/sample/must-fail/number_follows_itself.edit": "file: src/lib.rt\nold:         *self + 1\nnew:         *self\n",
     "crates/sample/must-fail/same_but_once.edit": "file: src/lib.rt\nold:     even_and_odd(same(first))\nnew:     even_and_odd(same(0))\n",
     "crates/sample/must-fail/same_all_the_same.edit": "file: src/lib.rt\nold:     even_and_odd(same(first))\nnew:     even_and_odd(same(n))\n",
     "crates/sample/must-fail/stands_twice.edit": "file: src/lib.rt\nold: one_more(n\nnew: one_more(1\n",
@@ -212,6 +228,8 @@ EXPECTED = {
     "one_more_all_the_same.edit": "NOT REJECTED",
     "count_stays.edit": None,
     "count_by_two.edit": None,
+    # A method of a primitive type.
+    "number_follows_itself.edit": None,
     # The copy of this one includes the invariant of its loop.
     "counted_by_two.edit": None,
     "counted_from_the_end.edit": "NOT REJECTED",
@@ -253,6 +271,9 @@ def self_test():
         beside = [mutant for mutant in mutants if os.path.basename(mutant.path) in ("none_more.edit", "nothing_changed.edit")]
         _, output, _ = tried(crates["sample"], beside, False)
         callee = [mutant.name for mutant in beside if refusal(output, mutant.functions)] == ["sample/none_more.edit"] and "which is not proved" in output
+        beside[0].functions = {"nowhere"}
+        _, output, _ = tried(crates["sample"], beside, False)
+        is_unknown = list(unknown({mutant: mutant.functions for mutant in beside}, output)) == beside[:1]
         complaints, count, _, _ = try_all(crates, crates)
         failing = Proving([sys.executable, "-c", "print('rt: garbled proved'); raise SystemExit(3)"], folder, io.StringIO())
         is_reported = failing.wait() == 3 and failing.has_failed() and failing.proved == {"garbled"}
@@ -261,6 +282,8 @@ def self_test():
     wrong = [f"{name}: wanted {want}, got {found[name]}" for name, want in EXPECTED.items() if (want is None) != (found[name] is None) or want and want not in found[name]]
     if not callee:
         wrong.append("a mutant next to a broken callee was counted as rejected")
+    if not is_unknown:
+        wrong.append("a mutant of a function that the prover does not know was not told from the others")
     if not is_reported or behind:
         wrong.append("a failure of the proofs was not reported, or more was tried after it")
     if not is_work_counted():
