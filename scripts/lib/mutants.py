@@ -26,6 +26,9 @@ COMPILER = re.compile(r"(\./)?src/\S+:\d+:\d+: error\[")
 LOST = r"(?m)^(?:\./)?proofs/(?:\S*/)?(?:{})/Answers\.antt:\d+:\d+: error: .*Goals` has no `([^`]+)`"
 # The error of the prover about a function to be checked whose name it does not know. It then checks nothing.
 UNKNOWN = re.compile(r"(?m)^rattle: error: `\w+` has no function `([^`]+)`")
+# The most mutants in a batch, which one check tries. A check of 100 takes longer than four of 25, because the prover reads more
+# functions for each.
+TOGETHER = 25
 # The complaints about mutants that the prover accepts.
 STILL_PROVED = "NOT REJECTED: the function is still proved"
 ALL_PROVED = "NOT REJECTED: everything that was checked is still proved"
@@ -263,8 +266,8 @@ def has_lost(mutant, functions, output):
     return bool(found)
 
 
-def try_crate(crate, mutants):
-    """Tries the mutants of a crate; returns a complaint for each (or None), the number of checks, and processor seconds. Mutants that
+def try_batch(crate, mutants):
+    """Tries a batch of mutants of a crate; returns a complaint for each (or None), the number of checks, and processor seconds. Mutants that
     do not fit together, or that remove goals with answers, are tried in further checks; those that are neither rejected nor proved
     over stubs are tried again over everything they call, then without the rejected ones, and finally alone. One that cannot be read
     or whose function is unknown, so that the check of all says nothing, is left out."""
@@ -299,6 +302,13 @@ def try_crate(crate, mutants):
     return verdicts, checks, total
 
 
+def batches(mutants):
+    """Splits the mutants of a crate into batches of about the same size, those of a file side by side."""
+    in_order = sorted(mutants, key=lambda it: (it.changes[0][0], it.name))
+    count = -(-len(in_order) // TOGETHER)
+    return [in_order[len(in_order) * it // count:len(in_order) * (it + 1) // count] for it in range(count)]
+
+
 def mutants_of(crate, source):
     """Returns the crate's mutants in the source checkout, and complaints about files that are not mutants."""
     good, bad = RT.edits_of(source)
@@ -306,9 +316,9 @@ def mutants_of(crate, source):
 
 
 def in_turn(work, proving, lanes):
-    """Tries crates with their mutants and yields the results as they arrive. While `rt ci` runs (`proving`), a crate is tried after the
-    libraries below it are proved and when two processors are idle: with four threads on two cores, a check that shares its core takes
-    half as long again, and the proofs are the longest path. After a failure of `rt ci` none is started."""
+    """Tries batches of mutants, each with its crate, and yields the results as they arrive. While `rt ci` runs (`proving`), a batch is
+    tried after the libraries below its crate are proved and when two processors are idle: with four threads on two cores, a check that
+    shares its core takes half as long again, and the proofs are the longest path. After a failure of `rt ci` none is started."""
     trying = {}
     with ThreadPoolExecutor(lanes) as pool:
         while work or trying:
@@ -319,7 +329,7 @@ def in_turn(work, proving, lanes):
             spare = 1 if proving and proving.status is None and lanes > 2 else 0
             for crate, mutants in ready[: max(0, lanes - spare - used)]:
                 work.remove((crate, mutants))
-                trying[pool.submit(try_crate, crate, mutants)] = crate, mutants
+                trying[pool.submit(try_batch, crate, mutants)] = crate, mutants
             ended, _ = wait(trying, 2 if work else None, FIRST_COMPLETED) if trying else ([], None)
             for it in ended:
                 yield *trying.pop(it), *it.result()
@@ -331,8 +341,8 @@ def try_all(crates, sources, proving=None, lanes=None):
     for name, crate in crates.items():
         mutants, bad = mutants_of(crate, sources[name])
         complaints += bad + [f"{mutant.name}: BAD MUTANT: {mutant.bad}" for mutant in mutants if mutant.bad]
-        work.append((crate, [mutant for mutant in mutants if not mutant.bad]))
-    # Largest crates first, so that none is left alone at the end.
+        work += [(crate, batch) for batch in batches([mutant for mutant in mutants if not mutant.bad])]
+    # Those of the largest crates first, so that none is left alone at the end.
     work.sort(key=lambda it: -it[0].count(rb"\n"))
     count = sum(len(mutants) for _, mutants in work)
     for crate, mutants, verdicts, rounds, seconds in in_turn(work, proving, lanes or prover.lanes()):
