@@ -29,6 +29,8 @@ UNKNOWN = re.compile(r"(?m)^rattle: error: `\w+` has no function `([^`]+)`")
 # The most mutants in a batch, which one check tries. A check of 100 takes longer than four of 25, because the prover reads more
 # functions for each.
 TOGETHER = 25
+# The most mutants of definitions in a batch. Each has a check of its own.
+IN_TURN = 5
 # The complaints about mutants that the prover accepts.
 STILL_PROVED = "NOT REJECTED: the function is still proved"
 ALL_PROVED = "NOT REJECTED: everything that was checked is still proved"
@@ -302,11 +304,17 @@ def try_batch(crate, mutants):
     return verdicts, checks, total
 
 
+def parts(items, size):
+    """Splits a list into parts of about the same size, of at most `size` items."""
+    count = -(-len(items) // size)
+    return [items[len(items) * it // count:len(items) * (it + 1) // count] for it in range(count)]
+
+
 def batches(mutants):
-    """Splits the mutants of a crate into batches of about the same size, those of a file side by side."""
+    """Splits the mutants of a crate into batches: those of functions, those of a file side by side, and those of definitions."""
     in_order = sorted(mutants, key=lambda it: (it.changes[0][0], it.name))
-    count = -(-len(in_order) // TOGETHER)
-    return [in_order[len(in_order) * it // count:len(in_order) * (it + 1) // count] for it in range(count)]
+    of_definitions = [it for it in in_order if it.is_of_definitions()]
+    return parts([it for it in in_order if it not in of_definitions], TOGETHER) + parts(of_definitions, IN_TURN)
 
 
 def mutants_of(crate, source):
