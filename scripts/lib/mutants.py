@@ -26,8 +26,7 @@ COMPILER = re.compile(r"(\./)?src/\S+:\d+:\d+: error\[")
 LOST = r"(?m)^(?:\./)?proofs/(?:\S*/)?(?:{})/Answers\.antt:\d+:\d+: error: .*Goals` has no `([^`]+)`"
 # The error of the prover about a function to be checked whose name it does not know. It then checks nothing.
 UNKNOWN = re.compile(r"(?m)^rattle: error: `\w+` has no function `([^`]+)`")
-# The most mutants in a batch, which one check tries. A check of 100 takes longer than four of 25, because the prover reads more
-# functions for each.
+# The most mutants that one check tries. A check of 100 takes longer than four of 25.
 TOGETHER = 25
 # The most mutants of definitions in a batch. Each has a check of its own.
 IN_TURN = 5
@@ -269,8 +268,8 @@ def has_lost(mutant, functions, output):
 
 
 def try_batch(crate, mutants):
-    """Tries a batch of mutants of a crate; returns a complaint for each (or None), the number of checks, and processor seconds. Mutants that
-    do not fit together, or that remove goals with answers, are tried in further checks; those that are neither rejected nor proved
+    """Tries a batch of mutants of a crate; returns a complaint for each (or None), the number of checks, and processor seconds. Mutants
+    that do not fit together, or that remove goals with answers, are tried in further checks; those that are neither rejected nor proved
     over stubs are tried again over everything they call, then without the rejected ones, and finally alone. One that cannot be read
     or whose function is unknown, so that the check of all says nothing, is left out."""
     verdicts, checks, total = {}, 0, 0

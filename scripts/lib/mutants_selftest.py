@@ -9,7 +9,7 @@ import tempfile
 import time
 
 from lib import prover
-from lib.mutants import in_turn, mutants_of, refusal, tried, try_all, unknown
+from lib.mutants import in_turn, mutants_of, parts, refusal, tried, try_all, unknown
 from lib.prover import TOP
 from lib.proving import Proving, at_work
 
@@ -282,6 +282,8 @@ def self_test():
     wrong = [f"{name}: wanted {want}, got {found[name]}" for name, want in EXPECTED.items() if (want is None) != (found[name] is None) or want and want not in found[name]]
     if not callee:
         wrong.append("a mutant next to a broken callee was counted as rejected")
+    if [it for part in parts(list(range(101)), 25) for it in part] != list(range(101)) or max(map(len, parts(list(range(101)), 25))) > 25:
+        wrong.append("parts of a list are not the list, or too large")
     if not is_unknown:
         wrong.append("a mutant of a function that the prover does not know was not told from the others")
     if not is_reported or behind:
