@@ -27,7 +27,7 @@ LOST = r"(?m)^(?:\./)?proofs/(?:\S*/)?(?:{})/Answers\.antt:\d+:\d+: error: .*Goa
 # The error of the prover about a function to be checked whose name it does not know. It then checks nothing.
 UNKNOWN = re.compile(r"(?m)^rattle: error: `\w+` has no function `([^`]+)`")
 # The most mutants that one check tries. A check of 100 takes longer than four of 25.
-TOGETHER = 25
+TOGETHER = 30
 # The most mutants of definitions in a batch. Each has a check of its own.
 IN_TURN = 5
 # The complaints about mutants that the prover accepts.
