@@ -29,7 +29,7 @@ UNKNOWN = re.compile(r"(?m)^rattle: error: `\w+` has no function `([^`]+)`")
 # The most mutants that one check tries. A check of 100 takes longer than four of 25.
 TOGETHER = 30
 # The most mutants of definitions in a batch. Each has a check of its own.
-IN_TURN = 5
+DEFINITIONS_IN_A_BATCH = 5
 # The complaints about mutants that the prover accepts.
 STILL_PROVED = "NOT REJECTED: the function is still proved"
 ALL_PROVED = "NOT REJECTED: everything that was checked is still proved"
@@ -313,7 +313,7 @@ def batches(mutants):
     """Splits the mutants of a crate into batches: those of functions, those of a file side by side, and those of definitions."""
     in_order = sorted(mutants, key=lambda it: (it.changes[0][0], it.name))
     of_definitions = [it for it in in_order if it.is_of_definitions()]
-    return parts([it for it in in_order if it not in of_definitions], TOGETHER) + parts(of_definitions, IN_TURN)
+    return parts([it for it in in_order if it not in of_definitions], TOGETHER) + parts(of_definitions, DEFINITIONS_IN_A_BATCH)
 
 
 def mutants_of(crate, source):
