@@ -17,7 +17,6 @@ use std::alloc::{AllocError, Global};
 use std::hash::Hash;
 
 /// Distinct tuples.
-#[derive(Drop)]
 pub(crate) enum Kept<'s> {
     Nothing,
     /// Consecutive numbers.
@@ -32,6 +31,23 @@ pub(crate) enum Kept<'s> {
     Pairs(IndexSet<Two<Member<'s>>, HashKey>),
     /// Tuples of any length.
     Tuples(IndexSet<Tuple<'s>, HashKey>),
+}
+
+/// Their drop is one call, to keep the proofs of functions with many exits small.
+impl<'s> Drop for Kept<'s> {
+    fn drop(self) {
+        match self {
+            Kept::Nothing => {}
+            Kept::Run(_run) => {}
+            Kept::Numbers(_set) => {}
+            Kept::Names(_set) => {}
+            Kept::Singles(_set) => {}
+            Kept::NumberPairs(_set) => {}
+            Kept::NamePairs(_set) => {}
+            Kept::Pairs(_set) => {}
+            Kept::Tuples(_set) => {}
+        }
+    }
 }
 
 /// Creates a set of one value, with memory for `room` values.
