@@ -33,7 +33,7 @@ pub(crate) enum Kept<'s> {
     Tuples(IndexSet<Tuple<'s>, HashKey>),
 }
 
-/// Their drop is one call, to keep the proofs of functions with many exits small.
+/// To the prover, a `drop` of its own is one call; a derived one is nine cases at each drop of a set.
 impl<'s> Drop for Kept<'s> {
     fn drop(self) {
         match self {
