@@ -9,14 +9,11 @@ that its proof cites.
 import os
 import pathlib
 import re
-import sys
 import tempfile
-from concurrent.futures import FIRST_COMPLETED, ThreadPoolExecutor, wait
 
 from lib import prover
 from lib.functions import Function, stub_all_but, without_main
-from lib.prover import RT, TOP
-from lib.proving import Proving
+from lib.prover import RT
 
 # An error of a proof file that names something the mutant removed says nothing about the contract.
 REMOVED = re.compile(r"has no field|is not in scope|has no `|was not admitted")
@@ -26,10 +23,6 @@ COMPILER = re.compile(r"(\./)?src/\S+:\d+:\d+: error\[")
 LOST = r"(?m)^(?:\./)?proofs/(?:\S*/)?(?:{})/Answers\.antt:\d+:\d+: error: .*Goals` has no `([^`]+)`"
 # The error of the prover about a function to be checked whose name it does not know. It then checks nothing.
 UNKNOWN = re.compile(r"(?m)^rattle: error: `\w+` has no function `([^`]+)`")
-# The most mutants that one check tries. A check of 100 takes longer than four of 25.
-TOGETHER = 30
-# The most mutants of definitions in a batch. Each has a check of its own.
-DEFINITIONS_IN_A_BATCH = 5
 # The complaints about mutants that the prover accepts.
 STILL_PROVED = "NOT REJECTED: the function is still proved"
 ALL_PROVED = "NOT REJECTED: everything that was checked is still proved"
@@ -301,99 +294,3 @@ def try_batch(crate, mutants):
         elif len(together) > 1:
             waiting += [([mutant], False) for mutant in left]
     return verdicts, checks, total
-
-
-def parts(items, size):
-    """Splits a list into parts of about the same size, of at most `size` items."""
-    count = -(-len(items) // size)
-    return [items[len(items) * it // count:len(items) * (it + 1) // count] for it in range(count)]
-
-
-def batches(mutants):
-    """Splits the mutants of a crate into batches: those of functions, those of a file side by side, and those of definitions."""
-    in_order = sorted(mutants, key=lambda it: (it.changes[0][0], it.name))
-    of_definitions = [it for it in in_order if it.is_of_definitions()]
-    return parts([it for it in in_order if it not in of_definitions], TOGETHER) + parts(of_definitions, DEFINITIONS_IN_A_BATCH)
-
-
-def mutants_of(crate, source):
-    """Returns the crate's mutants in the source checkout, and complaints about files that are not mutants."""
-    good, bad = RT.edits_of(source)
-    return [Mutant(crate, path) for path in good], [f"{crate.name}/{os.path.basename(it)}: BAD MUTANT: not a NAME.edit directly in must-fail/" for it in bad]
-
-
-def in_turn(work, proving, lanes):
-    """Tries batches of mutants, each with its crate, and yields the results as they arrive. While `rt ci` runs (`proving`), a batch is
-    tried after the libraries below its crate are proved and when two processors are idle: with four threads on two cores, a check that
-    shares its core takes half as long again, and the proofs are the longest path. After a failure of `rt ci` none is started."""
-    trying = {}
-    with ThreadPoolExecutor(lanes) as pool:
-        while work or trying:
-            if proving and proving.has_failed():
-                work.clear()
-            ready = [it for it in work if not proving or proving.has_built_below(it[0])]
-            used = len(trying) + (proving.checks() if proving else 0)
-            spare = 1 if proving and proving.status is None and lanes > 2 else 0
-            for crate, mutants in ready[: max(0, lanes - spare - used)]:
-                work.remove((crate, mutants))
-                trying[pool.submit(try_batch, crate, mutants)] = crate, mutants
-            ended, _ = wait(trying, 2 if work else None, FIRST_COMPLETED) if trying else ([], None)
-            for it in ended:
-                yield *trying.pop(it), *it.result()
-
-
-def try_all(crates, sources, proving=None, lanes=None):
-    """Tries the mutants of these crates; returns complaints, the numbers of mutants and checks, and processor seconds."""
-    complaints, work, checks, total = [], [], 0, 0
-    for name, crate in crates.items():
-        mutants, bad = mutants_of(crate, sources[name])
-        complaints += bad + [f"{mutant.name}: BAD MUTANT: {mutant.bad}" for mutant in mutants if mutant.bad]
-        work += [(crate, batch) for batch in batches([mutant for mutant in mutants if not mutant.bad])]
-    # Those of the largest crates first, so that none is left alone at the end.
-    work.sort(key=lambda it: -it[0].count(rb"\n"))
-    count = sum(len(mutants) for _, mutants in work)
-    for crate, mutants, verdicts, rounds, seconds in in_turn(work, proving, lanes or prover.lanes()):
-        checks, total = checks + rounds, total + seconds
-        wrong = [f"{mutant.name}: {complaint}" for mutant, complaint in verdicts.items() if complaint]
-        complaints += wrong
-        print(f"{crate.name}: {len(mutants)} mutants in {rounds} checks, {len(mutants) - len(wrong)} rejected, {seconds:.0f} s", flush=True)
-    return complaints, count, checks, total
-
-
-def crates_with_edits(names, libraries):
-    """Returns the crates of these names (or all) that have mutants, over the libraries in this folder; and the crates of this checkout."""
-    crates, sources = prover.crates_of(libraries), prover.crates_of(TOP)
-    unknown = [name for name in names if name not in sources]
-    if unknown:
-        sys.exit(f"check_mutants: no crate is named {unknown[0]}")
-    return {name: crates[name] for name in sources if name in (names or sources) and RT.edits_of(sources[name]) != ([], [])}, sources
-
-
-def report(complaints, count, checks, seconds):
-    print("\n".join(complaints + [f"{count} mutants in {checks} checks, {seconds:.0f} processor seconds, {len(complaints)} complaints"]))
-    return 1 if complaints else 0
-
-
-def run(names, libraries):
-    wanted, sources = crates_with_edits(names, libraries)
-    for crate in wanted.values():
-        missing = prover.unbuilt(crate)
-        if missing:
-            print(f"check_mutants: the library {missing[0]} below {crate.name} is not built; run `rt lib` in its folder", file=sys.stderr)
-            return 2
-    return report(*try_all(wanted, sources))
-
-
-def run_during_proofs(folder, words):
-    wanted, sources = crates_with_edits([], folder)
-    lanes = prover.lanes()
-    proving = Proving(["rt", "ci", *words], folder)
-    try:
-        # The proofs have priority: they are the longest path.
-        os.nice(10)
-        found = try_all(wanted, sources, proving, lanes)
-        status = proving.wait()
-    finally:
-        proving.stop()
-    print(f"rt ci: {proving.seconds:.0f} processor seconds")
-    return report(*found) if status == 0 else status

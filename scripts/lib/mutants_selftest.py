@@ -1,4 +1,5 @@
 """The self-test of scripts/check_mutants: two small crates, their mutants, and the verdict that each must get."""
+import contextlib
 import io
 import os
 import pathlib
@@ -8,8 +9,9 @@ import sys
 import tempfile
 import time
 
-from lib import prover
-from lib.mutants import in_turn, mutants_of, parts, refusal, tried, try_all, unknown
+from lib import prover, tried_selftest
+from lib.mutant_runs import Report, in_turn, mutants_of, parts, read_all, try_all
+from lib.mutants import refusal, tried, unknown
 from lib.prover import TOP
 from lib.proving import Proving, at_work
 
@@ -260,35 +262,61 @@ def is_work_counted():
     return count == 1
 
 
+def wrong_verdicts(complaints):
+    """Yields the mutants that got another verdict than expected."""
+    for name, want in EXPECTED.items():
+        found = next((it.split(": ", 1)[1] for it in complaints if f"/{name}: " in it), None)
+        if (want is None) != (found is None) or want and want not in found:
+            yield f"{name}: wanted {want}, got {found}"
+
+
+def wrong_judgements(crate):
+    """Yields what is wrong with the judgement of two mutants of a crate in one check."""
+    mutants, _ = mutants_of(crate, crate)
+    pair = [mutant for mutant in mutants if os.path.basename(mutant.path) in ("none_more.edit", "nothing_changed.edit")]
+    _, output, _ = tried(crate, pair, False)
+    if [mutant.name for mutant in pair if refusal(output, mutant.functions)] != ["sample/none_more.edit"] or "which is not proved" not in output:
+        yield "a mutant next to a broken callee was counted as rejected"
+    pair[0].functions = {"nowhere"}
+    _, output, _ = tried(crate, pair, False)
+    if list(unknown({mutant: mutant.functions for mutant in pair}, output)) != pair[:1]:
+        yield "a mutant of a function that the prover does not know was not told from the others"
+
+
+def wrong_ends(crate, folder):
+    """Yields what is wrong with the end of a run in which `rt ci` fails: before its own end, and at it."""
+    went_on = "print('rt: garbled NOT PROVED', flush=True); import time; time.sleep(60); print('rt: sample proved')"
+    for code in ("print('rt: garbled proved'); raise SystemExit(3)", went_on):
+        failing = Proving([sys.executable, "-c", code], folder, io.StringIO())
+        status = failing.wait()
+        if not status or not failing.has_failed() or "sample" in failing.proved or list(in_turn([(crate, [])], failing, 1)):
+            yield "a failure of the proofs was not reported, or more was tried after it"
+    prover.Checks.are_over.clear()
+
+
+def wrong_in(folder):
+    """Returns what goes otherwise than expected with the crates in this folder."""
+    crates, report = prover.crates_of(folder), Report()
+    wrong = list(wrong_judgements(crates["sample"]))
+    by_crate = read_all(crates, crates, report)
+    try_all(by_crate, report)
+    wrong += wrong_verdicts(report.complaints)
+    wrong += wrong_ends(crates["garbled"], folder)
+    return wrong + [*tried_selftest.wrong_choices(folder), *tried_selftest.wrong_samples(by_crate, crates)]
+
+
 def self_test():
     with tempfile.TemporaryDirectory(prefix="mutants-") as folder:
         for path, text in CRATES.items():
             file = pathlib.Path(folder, path)
             file.parent.mkdir(parents=True, exist_ok=True)
             file.write_text(text, encoding="utf-8")
-        crates = prover.crates_of(folder)
-        mutants, _ = mutants_of(crates["sample"], crates["sample"])
-        beside = [mutant for mutant in mutants if os.path.basename(mutant.path) in ("none_more.edit", "nothing_changed.edit")]
-        _, output, _ = tried(crates["sample"], beside, False)
-        callee = [mutant.name for mutant in beside if refusal(output, mutant.functions)] == ["sample/none_more.edit"] and "which is not proved" in output
-        beside[0].functions = {"nowhere"}
-        _, output, _ = tried(crates["sample"], beside, False)
-        is_unknown = list(unknown({mutant: mutant.functions for mutant in beside}, output)) == beside[:1]
-        complaints, count, _, _ = try_all(crates, crates)
-        failing = Proving([sys.executable, "-c", "print('rt: garbled proved'); raise SystemExit(3)"], folder, io.StringIO())
-        is_reported = failing.wait() == 3 and failing.has_failed() and failing.proved == {"garbled"}
-        behind = list(in_turn([(crates["garbled"], [])], failing, 1))
-    found = {name: next((it.split(": ", 1)[1] for it in complaints if f"/{name}: " in it), None) for name in EXPECTED}
-    wrong = [f"{name}: wanted {want}, got {found[name]}" for name, want in EXPECTED.items() if (want is None) != (found[name] is None) or want and want not in found[name]]
-    if not callee:
-        wrong.append("a mutant next to a broken callee was counted as rejected")
+        # The reports of these runs are full of complaints, as they should be.
+        with contextlib.redirect_stdout(io.StringIO()):
+            wrong = wrong_in(folder)
     if [it for part in parts(list(range(101)), 25) for it in part] != list(range(101)) or max(map(len, parts(list(range(101)), 25))) > 25:
         wrong.append("parts of a list are not the list, or too large")
-    if not is_unknown:
-        wrong.append("a mutant of a function that the prover does not know was not told from the others")
-    if not is_reported or behind:
-        wrong.append("a failure of the proofs was not reported, or more was tried after it")
     if not is_work_counted():
         wrong.append("of a busy and a waiting process, not exactly one was counted")
-    print("\n".join(wrong) or f"self-test: the {len(EXPECTED)} mutants are judged as expected, and a broken callee is no reason")
+    print("\n".join(wrong) or f"self-test: the {len(EXPECTED)} mutants are judged as expected, a broken callee is no reason, and changed crates are stale")
     return 1 if wrong else 0

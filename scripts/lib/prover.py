@@ -11,9 +11,12 @@ import shutil
 import subprocess
 import sys
 import tempfile
+import threading
 
 sys.dont_write_bytecode = True
 TOP = pathlib.Path(__file__).resolve().parent.parent.parent
+sys.path.insert(0, str(TOP / "scripts"))
+from lib import processes  # noqa: E402
 
 
 def toolchain():
@@ -59,12 +62,34 @@ def copy_of(folder, room):
             shutil.copytree(f"{folder}/{part}", f"{room}/{part}")
 
 
+class Stopped(Exception):
+    """A check was ended, or not begun, because the run has failed."""
+
+
+class Checks:
+    """The running checks, which end together when the run fails."""
+
+    running, are_over = set(), threading.Event()
+
+    @classmethod
+    def stop(cls):
+        cls.are_over.set()
+        for pid in list(cls.running):
+            processes.kill(pid)
+
+
 def check(crate, folder, *more):
     """Checks a copy of the crate with one job and from nothing; returns status, processor seconds and output."""
     words = [RT.rtlib.RATTLE, "check", *crate.words(["--jobs", "1"], keeps=False), *more]
+    if Checks.are_over.is_set():
+        raise Stopped
     with tempfile.TemporaryFile("w+", errors="replace") as output:
         running = subprocess.Popen(words, cwd=folder, stdin=subprocess.DEVNULL, stdout=output, stderr=subprocess.STDOUT)
+        Checks.running.add(running.pid)
         _, status, usage = os.wait4(running.pid, 0)
+        Checks.running.discard(running.pid)
+        if Checks.are_over.is_set():
+            raise Stopped
         running.returncode = os.waitstatus_to_exitcode(status)
         output.seek(0)
         return running.returncode, usage.ru_utime + usage.ru_stime, output.read()
