@@ -48,7 +48,7 @@ def record_line(name, raw):
 
 def write(folder, program, version, glibc, notices, seconds):
     """Writes the wheel into the folder, and returns its path; `seconds` is the time that its files get."""
-    if package_version() != version:
+    if package_version() != version.partition("+")[0]:
         raise SystemExit(f"release: python/netflow/__init__.py has the version {package_version()}, and CHANGELOG.md {version}")
     platform = f"manylinux_{glibc.replace('.', '_')}_x86_64"
     files = contents(program, notices)
