@@ -44,16 +44,21 @@ def git(*words):
     return None if done.returncode else done.stdout.strip()
 
 
-def version_of_commit():
-    """Returns the version of the commit that is checked out: `1.2.3` for the release itself, `1.2.3+12.gabc1234` for a later commit."""
-    number = version()
+def release_commit(number):
+    """Returns the commit of a release."""
     release = git("rev-parse", "--verify", "--quiet", f"refs/tags/v{number}^{{commit}}")
     if not release:
         changes = git("log", "--format=%H", f"-S## [{number}] - ", "--", "CHANGELOG.md")
         if not changes:
-            raise SystemExit(f"release: no commit of this clone has the release {number}; does it have the whole history?")
+            raise SystemExit(f"no commit of this clone has the release {number}; does it have the whole history?")
         release = changes.splitlines()[-1]
-    count = int(git("rev-list", "--count", f"{release}..HEAD"))
+    return release
+
+
+def version_of_commit():
+    """Returns the version of the commit that is checked out: `1.2.3` for the release itself, `1.2.3+12.gabc1234` for a later commit."""
+    number = version()
+    count = int(git("rev-list", "--count", f"{release_commit(number)}..HEAD"))
     return f"{number}+{count}.g{git('rev-parse', '--short=7', 'HEAD')}" if count else number
 
 
