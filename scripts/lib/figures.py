@@ -66,7 +66,15 @@ def recipes():
     return len(re.findall(r"(?m)^### \d+\. ", page))
 
 
+def length_limits():
+    """Returns the limits of scripts/check_sizes as CONTRIBUTING.md has them."""
+    script = (TOP / "scripts/check_sizes").read_text(encoding="utf-8")
+    function, file = (re.search(rf"{name}_WARNS, {name}_FAILS = (\d+), (\d+)", script) for name in ("FUNCTION", "FILE"))
+    return f"{function[1]} lines or a file more than {file[1]}, and fails above {function[2]} and {file[2]}"
+
+
 DECISIONS, VERIFICATION = "docs/decisions/README.md", "docs/verification.md"
+LENGTHS = r"if a function has more than (\d+ lines or a file more than \d+, and fails above \d+ and \d+)"
 # A page, a sentence in it with the figure as its group, and the value of the figure.
 FIGURES = (
     (DECISIONS, r"reads the relations alone, ([\d,]+) lines with their comments", lambda: f"{lines_for_means():,}"),
@@ -78,6 +86,8 @@ FIGURES = (
     (VERIFICATION, r"ports of (\w+) Rust crates", lambda: NUMBERS[len(libraries())]),
     (VERIFICATION, r"Rust crates \(([^)]*)\)", lambda: ", ".join(f"`{it}`" for it in sorted(libraries()))),
     (VERIFICATION, r"`proofs/Examples\.antt` of (\w+) crates", lambda: NUMBERS[len(list(CRATES.glob("*/proofs/Examples.antt")))]),
+    ("CONTRIBUTING.md", LENGTHS, length_limits),
+    ("docs/contributing/proofs.md", LENGTHS, length_limits),
     ("README.md", r"with (\w+) recipes", lambda: NUMBERS[recipes()]),
 )
 
