@@ -1,5 +1,6 @@
-use Rattle.std.proofs.Common.{length}
+use Rattle.std.proofs.Common.{length, arith}
 use Rattle.net_solve.proofs.Reducing.{scaled-cost, scaled-sized, sum-fits, difference-fits, reduced-value, reduced-sized}
+use Rattle.std.proofs.lemmas.Grind.{common_steps}
 use Rattle.net_solve.proofs.rounding.reduced.Goals as goal
 
 pub overflow_add-result : goal.overflow_add-result
@@ -13,3 +14,6 @@ returns-clause-value c = reduced-value _ _ _ _ (scaled-cost (length c.args.poten
 
 pub returns-clause-size : goal.returns-clause-size
 returns-clause-size c = reduced-sized _ _ _ _ (returns-clause-value c) (scaled-sized (length c.args.potentials.now) c.args.arc.now.cost c.requires.few c.requires.arc.cost) (c.requires.deep.each c.args.arc.now.src c.requires.arc.src) (c.requires.deep.each c.args.arc.now.dst c.requires.arc.dst)
+
+pub overflow_mul-result : goal.overflow_mul-result
+overflow_mul-result c = grind (arith, common_steps)

@@ -2,6 +2,7 @@ use Rattle.std.proofs.Common.{ℕ, ◌<◌, ◌≤◌, List, length, get_or, sub
 use Rattle.net_solve.specs.declared.rows.Entry.{Entry}
 use Rattle.net_solve.specs.Rows.{entry_at, IsEntry}
 use Rattle.net_solve.proofs.Scans.{both-listed}
+use Rattle.std.proofs.lemmas.Grind.{common_steps}
 use Rattle.net_solve.proofs.row_tests.are_rows.Goals as goal
 
 pub returns : goal.returns
@@ -17,3 +18,9 @@ returns c = λ t.
       entries_are = subst (λ (es : List Entry). (p : ℕ) → p < length es → IsEntry problem (entry_at es p)) c.deref-2.ensures.value each;
       listed = both-listed problem starts.items entries.items (c.are_listed.ensures c.if-not-are_listed.false) (c.are_listed-2.ensures t);
     }
+
+pub returns-then-not-are_entries : goal.returns-then-not-are_entries
+returns-then-not-are_entries c = grind (arith, common_steps)
+
+pub returns-then-not-are_listed : goal.returns-then-not-are_listed
+returns-then-not-are_listed c = grind (arith, common_steps)

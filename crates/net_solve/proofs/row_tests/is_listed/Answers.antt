@@ -26,3 +26,15 @@ returns c = λ t.
       last = omega (arith, c.if-place-index-2.false, last, ap (λ (v : ℕ). get_or starts (v + 1) 0) tail);
       is = sym entry ∙ c.are_same.ensures t ∙ c.entry_of-entry.ensures;
     }
+
+pub index-requires-3 : goal.index-requires-3
+index-requires-3 c = grind (arith)
+
+pub returns-then-place-index : goal.returns-then-place-index
+returns-then-place-index c = grind (arith)
+
+pub returns-then-place-index-2 : goal.returns-then-place-index-2
+returns-then-place-index-2 c = grind (arith)
+
+pub returns-then-place-len : goal.returns-then-place-len
+returns-then-place-len c = grind (arith)

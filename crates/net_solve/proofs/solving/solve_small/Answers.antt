@@ -1,4 +1,4 @@
-use Rattle.std.proofs.Common.{rules}
+use Rattle.std.proofs.Common.{rules, arith}
 use Rattle.net_solve.proofs.Certified.{certificate-bounds, certificate-leaves}
 use Rattle.net_solve.proofs.solving.solve_small.Goals as goal
 
@@ -7,3 +7,6 @@ returns-in-Some-clause-optimal c = certificate-bounds c.args.problem.now c.in-So
 
 pub returns-in-Some-clause-cut : goal.returns-in-Some-clause-cut
 returns-in-Some-clause-cut c = certificate-leaves c.args.problem.now c.in-Some.certificate (search rules)
+
+pub returns-in-Some-clause-certificate : goal.returns-in-Some-clause-certificate
+returns-in-Some-clause-certificate c = grind (arith)

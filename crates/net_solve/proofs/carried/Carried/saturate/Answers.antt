@@ -1,7 +1,7 @@
 use Rattle.std.proofs.Common.{◌≡◌, ℕ, ◌+◌, List, get_or, ℤ, pos, ◌+ℤ◌, ◌-ℤ◌, to_z, of_z, w64, refl, sym, ◌∙◌, ap, subst, arith, vec_len}
 use Rattle.std.proofs.lemmas.Int.{ints}
 use Rattle.std.proofs.lemmas.List.{get_or_read}
-use Rattle.std.proofs.lemmas.Grind.{get_or-set_at}
+use Rattle.std.proofs.lemmas.Grind.{get_or-set_at, common_steps}
 use Rattle.net_normal.specs.Limits.{IsSized, flow_limit}
 use Rattle.net_normal.specs.Flows.{IsWithinCapacity}
 use Rattle.net_normal.specs.declared.problem.FlowArc.{FlowArc}
@@ -105,3 +105,27 @@ returns-then-target-flow-clause-here c =
     let new : get_or c.shift.new.self.flows.items c.args.index (pos 0) ≡ c.target_of-target.result =
     ap (λ (xs : List ℤ). get_or xs c.args.index (pos 0)) c.shift.ensures.flows ∙ get_or-set_at flows c.args.index c.args.index _ (pos 0) refl k.flow ∙ ap (λ (x : ℤ). y +ℤ x) (amount_is d) ∙ sym (back c.target_of-target.result y) in
     subst (Saturates (reduced (factor problem) c.args.potentials.now (arc_at problem c.args.index)) (arc_at problem c.args.index) y) (sym new) (saturates d)
+
+pub reduced-cost-requires-clause-arc : goal.reduced-cost-requires-clause-arc
+reduced-cost-requires-clause-arc c = grind (arith)
+
+pub reduced-cost-requires-clause-deep : goal.reduced-cost-requires-clause-deep
+reduced-cost-requires-clause-deep c = grind (arith)
+
+pub returns-else-target-flow-clause-carried : goal.returns-else-target-flow-clause-carried
+returns-else-target-flow-clause-carried c = grind (arith)
+
+pub returns-then-target-flow-clause-carried : goal.returns-then-target-flow-clause-carried
+returns-then-target-flow-clause-carried c = grind (arith)
+
+pub shift-requires-clause-carried : goal.shift-requires-clause-carried
+shift-requires-clause-carried c = grind (arith)
+
+pub target_of-target-requires-clause-arc : goal.target_of-target-requires-clause-arc
+target_of-target-requires-clause-arc c = grind (arith)
+
+pub returns-else-target-flow-clause-here : goal.returns-else-target-flow-clause-here
+returns-else-target-flow-clause-here c = grind (arith, common_steps)
+
+pub returns-then-target-flow-clause-others : goal.returns-then-target-flow-clause-others
+returns-then-target-flow-clause-others c = grind (arith, common_steps)

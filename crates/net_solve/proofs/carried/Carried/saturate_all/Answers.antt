@@ -17,3 +17,6 @@ loop-index-preserved c =
           (subst (λ (y : ℤ). P i y (get_or now i (pos 0))) (h.left i (omega arith)) c.saturate.ensures.here);
       left = λ k l. c.saturate.ensures.others k (omega (arith, l)) ∙ h.left k (omega (arith, l));
     }
+
+pub loop-index-init : goal.loop-index-init
+loop-index-init c = grind (arith)

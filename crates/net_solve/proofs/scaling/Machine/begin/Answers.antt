@@ -22,3 +22,9 @@ returns-clause-running c =
     running-begun problem c.args.self.now c.saturate_all.new.self _ c.requires.standing c.requires.may c.saturate_all.ensures.carried
     (subst (λ (ps : List ℤ). Begins problem (record { flows = c.args.self.now.carried.flows.items; potentials = ps }) (record { flows = c.saturate_all.new.self.flows.items; potentials = ps })) c.deref.ensures.value c.saturate_all.ensures.begins)
     (plain c.epsilon_of-self.result f ∙ c.epsilon_of-self.ensures ∙ ap (λ (n : ℕ). pos (max 1 (n / 2 ^ (c.args.self.now.phases + 1)))) c.requires.scale)
+
+pub saturate_all-requires-clause-carried : goal.saturate_all-requires-clause-carried
+saturate_all-requires-clause-carried c = grind (arith)
+
+pub saturate_all-requires-clause-deep : goal.saturate_all-requires-clause-deep
+saturate_all-requires-clause-deep c = grind (arith)

@@ -1,4 +1,4 @@
-use Rattle.std.proofs.Common.{◌≡◌, ℤ, List, FitsSigned, to_z, of_z, rules, ◌∙◌, ap, sym, subst}
+use Rattle.std.proofs.Common.{◌≡◌, ℤ, List, FitsSigned, to_z, of_z, rules, ◌∙◌, ap, sym, subst, arith}
 use Rattle.std.specs.Int.{w128}
 use Rattle.std.specs.List.{AllZip}
 use Rattle.std.proofs.lemmas.Int.{to_z-of_z}
@@ -21,3 +21,12 @@ returns-clause-certificate c = λ x e.
     let same : Optimal (to_z w128 (of_z w128 c.cost-value.result)) c.args.self.carried.flows c.in-Some.potentials ≡ x = cc in
     let r : IsRounded c.args.self.potentials.items c.in-Some.potentials.items = subst (λ (ps : List ℤ). IsRounded ps c.in-Some.potentials.items) c.deref.ensures.value (search rules) in
     subst (IsCertificate problem) same (optimal-end problem c.args.self c.in-Some.potentials.items _ c.requires r value)
+
+pub returns-clause-from_zero : goal.returns-clause-from_zero
+returns-clause-from_zero c = grind (arith)
+
+pub returns-in_default-clause-certificate : goal.returns-in_default-clause-certificate
+returns-in_default-clause-certificate c = grind (arith)
+
+pub whole_potentials-requires-clause-deep : goal.whole_potentials-requires-clause-deep
+whole_potentials-requires-clause-deep c = grind (arith)

@@ -49,3 +49,6 @@ returns-clause-running c =
     let s = sent (goal.at.returns-clause-running c).After-sendable-amount c.if-amount-le0.false in
     running-pushed problem c.args.self.now c.shift.new.self c.args.index c.args.forwards _ c.requires.running c.requires.index s c.if-self.false c.shift.ensures.carried
     (c.shift.ensures.flows ∙ ap (changed c.args.self.now.carried.flows.items c.args.index) (plain c.change_of.result f ∙ c.change_of.ensures))
+
+pub shift-requires-clause-carried : goal.shift-requires-clause-carried
+shift-requires-clause-carried c = grind (arith)

@@ -8,6 +8,7 @@ use Rattle.net_solve.specs.Pseudoflows.{no_arc, arc_at}
 use Rattle.net_solve.specs.Runs.{tail_of}
 use Rattle.net_solve.proofs.Carrying.{known, excess-sized}
 use Rattle.net_solve.proofs.Stepping.{plain, cost-plain, sendable, tail-inside}
+use Rattle.std.proofs.lemmas.Grind.{common_steps}
 use Rattle.net_solve.proofs.scaling.Machine.sendable.Goals as goal
 
 pub residual_of-room-requires-clause-within : goal.residual_of-room-requires-clause-within
@@ -37,3 +38,21 @@ returns c = λ some.
     let wide : to_z w128 (of_z w128 c.index-2.result.now) ≡ c.index-2.result.now = omega (arith, ints, excess, small.above, small.below) in
     sendable problem m c.args.index c.tail_of-tail.result c.args.forwards (to_z w64 (of_z w64 c.reduced-cost.result)) c.index-2.result.now c.index-3.result.now c.residual_of-room.result _ c.index.result.now c.deref.result.now
     arc c.deref.ensures.value (ap length c.deref.ensures.value ∙ h.deep.count) (cost-plain c.reduced-cost.result c.reduced-cost.ensures.size ∙ c.reduced-cost.ensures.value) (c.saves.ensures c.if-not-saves.false) c.tail_of-tail.ensures excess flow c.residual_of-room.ensures (omega (arith, ints, p, q, c.amount_of.ensures.room)) (omega (arith, ints, p, wide, c.amount_of.ensures.excess)) some
+
+pub index-requires-2 : goal.index-requires-2
+index-requires-2 c = grind (arith)
+
+pub reduced-cost-requires-clause-arc : goal.reduced-cost-requires-clause-arc
+reduced-cost-requires-clause-arc c = grind (arith)
+
+pub reduced-cost-requires-clause-deep : goal.reduced-cost-requires-clause-deep
+reduced-cost-requires-clause-deep c = grind (arith)
+
+pub residual_of-room-requires-clause-arc : goal.residual_of-room-requires-clause-arc
+residual_of-room-requires-clause-arc c = grind (arith)
+
+pub saves-requires : goal.saves-requires
+saves-requires c = grind (arith)
+
+pub amount_of-requires : goal.amount_of-requires
+amount_of-requires c = grind (arith, common_steps)
