@@ -78,12 +78,12 @@ class Infeasible(NetflowError):
         """The text of `netflow-why`, with the least change that gives a plan."""
         if self.network is None:
             return str(self)
-        from .why import infeasible_lines
+        from .tools.why import infeasible_lines
         return "\n".join(infeasible_lines(self.network, self.reasons, 20))
 
     def to_dict(self) -> dict:
         """Returns the documented JSON object."""
-        from .outputs import cut_json
+        from .tools.json_objects import cut_json
         return cut_json(self.side, self.cut, self.reasons, self.network)
 
 

@@ -14,7 +14,7 @@ from typing import Any, Iterable, Sequence
 from .errors import DataError, Infeasible, ProgramError, ScaleError, Unbounded
 from .exact import LARGEST, as_fraction, common_factor, divided
 from .program import call, problem_text
-from .texts import Network
+from .reading.output import Network
 
 # The limits of `netflow min`.
 NODES, ARCS, LARGEST_FLOW = 20_000, 200_000, 10**18

@@ -7,16 +7,16 @@ from typing import Any, Iterator, Mapping, Union
 
 from .errors import DataError, Infeasible, ModelError, ProgramError
 from .exact import Number
-from .hints import Diagnostic
-from .model_text import Unparsed
-from .outputs import arc_rows, dumps, plan_json
+from .hints.engine import Diagnostic
+from .reading.model import Unparsed
+from .tools.json_objects import arc_rows, dumps, plan_json
 from .program import REJECTED, UNREADABLE_FILE, call
-from .python_data import override
-from .question import Input, Question
-from .reasons import reasons
-from .sensitivity import Marginal
-from .texts import Network, read_prices
-from .thousands import lines_of_question
+from .inputs.python_data import override
+from .inputs.instance import Input, Question
+from .analysis.reasons import reasons
+from .analysis.sensitivity import Marginal
+from .reading.output import Network, read_prices
+from .inputs.grouped_digits import lines_of_question
 
 Text = Union[str, "os.PathLike[str]"]
 
@@ -145,7 +145,7 @@ class Solution:
 
     def report(self) -> str:
         """Returns the page of `netflow-report` as HTML."""
-        from .report import Report
+        from .report.report import Report
         return Report(self.question, self.title).html()
 
     def _repr_html_(self) -> str:
@@ -181,7 +181,7 @@ def solve(model: Text, data: Any = None, *, objective: str | None = None, scale:
         warnings.warn(line, stacklevel=2)
     if answer.status:
         raise infeasible(net)
-    from .words import headings
+    from .reading.text import headings
     text = question.model.text()
     names = {name: headings(text, name, len(arcs[0].key)) for name, arcs in net.declared().items()}
     return Solution(net, question, names, os.path.basename(first.path) if first.path else "model")

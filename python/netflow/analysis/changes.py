@@ -1,0 +1,214 @@
+"""The least change of a model's bounds with which there is a plan, as `netflow min` computes it."""
+from __future__ import annotations
+
+import dataclasses
+
+from ..exact import Number, divided
+from ..program import call
+from .single_moves import SingleMoves
+from ..reading.text import few
+
+# The most lines of a problem; how many moves are preferred one by one, how many by their size, and up to how many lines in all.
+LARGEST, TRIES, RANKS = 200_000, 6, 20
+TRIED = 30_000
+FAR, MOST_COST = 10**15, 10**12
+NODES, ARCS, BOTH = "of what places need and give", "of what arcs may carry", "of both"
+
+
+@dataclasses.dataclass
+class Change:
+    """By how much a bound of the model is moved, from what it was; `is_exact` if it is both sides of an equation."""
+
+    amount: Number
+    text: str
+    was: Number
+    becomes: Number
+    what: str
+    is_exact: bool = False
+
+    @property
+    def name(self):
+        return self.text.partition("[")[0]
+
+    def sentence(self):
+        if self.becomes < 0 and self.what in ("needs", "gives"):
+            other, doing = ("gives", "needing") if self.what == "needs" else ("takes", "giving")
+            return f"{self.text}: {other}{'' if self.is_exact else ' at most'} {-self.becomes} in place of {doing} {self.was}"
+        return f"{self.text}: {self.what} {self.becomes} in place of {self.was}"
+
+
+@dataclasses.dataclass
+class Move:
+    """A bound that can be moved: the ends of the arc that represents it in the problem, and the change that a flow on it means."""
+
+    ends: str
+    text: str
+    was: Number
+    sign: int
+    what: str
+    is_exact: bool = False
+
+    @property
+    def is_node(self):
+        return self.what not in ("at most", "at least")
+
+    def change(self, amount):
+        return Change(amount, self.text, self.was, self.was + self.sign * amount, self.what, self.is_exact)
+
+
+def choices(net):
+    """Returns the declarations whose arcs all carry 0 or 1: such an arc is a choice, and a larger bound is no advice."""
+    return {name for name, arcs in net.declared().items() if len(arcs) > 1 and all(it.lower >= 0 and it.upper <= 1 for it in arcs)
+            and any(it.upper == 1 for it in arcs)}
+
+
+def moves_of_arcs(net):
+    outside, left_alone = len(net.nodes) + 1, choices(net)
+    for arc in net.arcs:
+        if arc.name in left_alone or arc.is_open:
+            continue
+        src, dst = (outside if it is None else it + 1 for it in (arc.src, arc.dst))
+        yield Move(f"{src} {dst}", arc.text, arc.upper, 1, "at most")
+        if arc.lower:
+            yield Move(f"{dst} {src}", arc.text, arc.lower, -1, "at least")
+
+
+def moves_of_nodes(net):
+    """Yields for each node with a condition: a low side can be lower, a high side higher."""
+    outside = len(net.nodes) + 1
+    for number, node in enumerate(net.nodes, 1):
+        if node.low == node.high == 0:
+            continue
+        is_exact = node.low == node.high
+        gives, takes = ("gives", "needs") if is_exact else ("gives at most", "takes at most")
+        if node.has_low():
+            yield Move(f"{outside} {number}", node.text, *((node.low, -1, "needs") if node.low > 0 else (-node.low, 1, gives)), is_exact)
+        if node.has_high():
+            yield Move(f"{number} {outside}", node.text, *((-node.high, -1, "gives") if node.high < 0 else (node.high, 1, takes)), is_exact)
+
+
+class Costless:
+    """The problem of a network without its costs, to which moves are added as arcs. Sides that the model leaves open limit nothing,
+    whatever the bounds of arcs become."""
+
+    def __init__(self, net):
+        outside = len(net.nodes) + 1
+        supplies = [it for it in net.lines if it.startswith("n ")]
+        arcs = [it.rpartition(" ")[0] + " 0" for it in net.lines if it.startswith("a ")]
+        for number, node in enumerate(net.nodes, 1):
+            arcs += [f"a {outside} {number} 0 {FAR} 0"] * node.is_low_open + [f"a {number} {outside} 0 {FAR} 0"] * node.is_high_open
+        self.nodes, self.arcs, self.size = outside, len(arcs), len(net.lines)
+        self.text = "\n".join([*supplies, *arcs])
+
+    def least_flows(self, moves, costs):
+        """Returns by how much each bound is moved at least cost; None if there is no plan even so."""
+        status, lines = self.answer(moves, costs)
+        # The lines of arcs follow the line with the value.
+        return None if status else [int(it.rpartition(" ")[2]) for it in lines[1 + self.arcs:1 + self.arcs + len(moves)]]
+
+    def least_total(self, moves):
+        """Returns by how much each bound is moved with the least total; None if no such moves are enough."""
+        return self.least_flows(moves, [1] * len(moves)) if moves else None
+
+    def cut_with(self, move):
+        """Returns the side and the nodes, counted from 1, of a set that is short even with one bound moved; None if there is a plan."""
+        status, lines = self.answer([move], [1])
+        return (lines[0][2:], {int(it[2:]) for it in lines if it.startswith("m ")}) if status else None
+
+    def answer(self, moves, costs):
+        """Returns the status and the lines of the program's answer with the moves as arcs."""
+        lines = [f"p min {self.nodes} {self.arcs + len(moves)}", *([self.text] if self.text else [])]
+        lines += [f"a {it.ends} 0 {FAR} {cost}" for it, cost in zip(moves, costs)]
+        answer = call(["min", "/dev/stdin"], "\n".join(lines) + "\n")
+        return answer.status, answer.text.split("\n")
+
+
+@dataclasses.dataclass
+class LeastChanges:
+    """The least changes with which there is a plan. `single` are changes at one place, each of which is enough alone, the oddest number
+    first. `kinds` has the least change of each kind of bounds, None if none is enough. `is_large` if they were not computed."""
+
+    single: list = dataclasses.field(default_factory=list)
+    kinds: dict = dataclasses.field(default_factory=dict)
+    is_large: bool = False
+
+    def others(self):
+        """Returns the kinds of bounds that have no change at one place."""
+        return {kind: it for kind, it in self.kinds.items() if it is None or it[0] not in self.single}
+
+
+def concentrated(problem, moves, flows):
+    """Returns moves of the same total in fewer places, if some are found: first each of the largest ones is preferred to all others,
+    then those of the best answer by their size."""
+    whole, limit = sum(flows), min(TRIES, TRIED // (problem.size + len(moves)))
+    largest = sorted((it for it, flow in enumerate(flows) if flow), key=lambda it: -flows[it])
+    for first in [[it] for it in largest[:limit]] + [None]:
+        if sum(map(bool, flows)) == 1:
+            break
+        order = first or sorted((it for it, flow in enumerate(flows) if flow), key=lambda it: -flows[it])[:RANKS]
+        ranks = {it: rank for rank, it in enumerate(order)}
+        base = whole * len(ranks) + 1  # one unit more in all costs more than any order saves
+        if base > MOST_COST:
+            break
+        found = problem.least_flows(moves, [base + ranks.get(it, len(ranks)) for it in range(len(moves))])
+        if found is not None and sum(found) == whole and sum(map(bool, found)) < sum(map(bool, flows)):
+            flows = found
+    return flows
+
+
+def least_changes(net):
+    """Returns the least changes at one place, those of each kind of bounds, and that of both kinds if it is less than each alone."""
+    moves = {NODES: list(moves_of_nodes(net)), ARCS: list(moves_of_arcs(net))}
+    both = [*moves[NODES], *moves[ARCS]]
+    if len(net.lines) + len(both) > LARGEST:
+        return LeastChanges(is_large=True)
+    problem = Costless(net)
+    flows = {kind: problem.least_total(it) for kind, it in moves.items()}
+    totals, least = [sum(it) for it in flows.values() if it], problem.least_total(both)
+    if least and sum(least) < min(totals, default=FAR):
+        moves[BOTH], flows[BOTH] = both, least
+    whole = sum(least or [])
+    search, single = SingleMoves(net, problem, divided(whole, net.factors.flow)), {}
+    for kind, it in flows.items():
+        single[kind] = search.found(moves[kind], it) if it and sum(it) == whole and BOTH not in flows else []
+    found = LeastChanges()
+    for kind, it in flows.items():
+        best = [move.change(search.amount) for _, move in single[kind][:1]]
+        found.kinds[kind] = best or least_change(net, problem, moves[kind], it)
+    pairs = sorted((pair for it in single.values() for pair in it), key=lambda pair: pair[0])
+    found.single = [move.change(search.amount) for _, move in pairs]
+    return found
+
+
+def least_change(net, problem, moves, flows):
+    """Returns the changes of least total in few places; None if no moves are enough."""
+    if flows is None:
+        return None
+    flows = concentrated(problem, moves, flows)
+    return [move.change(divided(flow, net.factors.flow)) for move, flow in zip(moves, flows) if flow]
+
+
+def is_left_out(changes):
+    """Whether the changes take from several places all that they ask for."""
+    return bool(changes) and len(changes) > 1 and all(it.becomes == 0 and it.what in ("needs", "gives") for it in changes)
+
+
+def left_out_text(net, changes, most):
+    """Returns which places get or give nothing with the changes; only how many if they are most of those that ask for something."""
+    verbs = [verb for what, verb in (("needs", "get"), ("gives", "give")) if any(it.what == what for it in changes)]
+    asking = sum(it.low > 0 or it.high < 0 for it in net.nodes)
+    names = few([it.text for it in changes], most) if 2 * len(changes) <= asking else ""
+    return f"{len(changes)} places would {' or '.join(verbs)} nothing{names and ': '}{names}"
+
+
+def total(changes):
+    return sum(it.amount for it in changes)
+
+
+def units(amount):
+    return f"{amount} unit{'s' * (amount != 1)}"
+
+
+def single_title(single):
+    """Returns the title of a list of changes at one place."""
+    return f"{units(single[0].amount)} at one place{'. Any one of these is enough' if len(single) > 1 else ''}:"

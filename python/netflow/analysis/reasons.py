@@ -1,0 +1,238 @@
+"""Why there is no plan: the sets of nodes that are short, in the model's own numbers.
+
+The amounts of a set are sums of bounds in the compiled model. `netflow check` confirms that the set shows that there is no plan:
+nothing is reported that the program has not confirmed.
+"""
+from __future__ import annotations
+
+import dataclasses
+import os
+import tempfile
+
+from ..exact import Number
+from ..program import run
+
+# How often a further set is looked for, and up to how many lines of problems in all.
+ROUNDS, LARGEST = 12, 200_000
+
+
+@dataclasses.dataclass
+class Part:
+    """One line of a reason: an amount, what it is of, the name of that declaration, and the arc if it is one."""
+
+    amount: Number
+    text: str
+    name: str = ""
+    arc: str = ""
+
+    @property
+    def is_arc(self):
+        return bool(self.arc)
+
+
+@dataclasses.dataclass
+class Reason:
+    """A set of nodes that needs more than can arrive (`under`), or has more than can leave (`over`). `asks` are the parts that
+    have to be met, `helps` those that can meet them, at most; `idle` are arcs that lead out of it, or into it, and do not help."""
+
+    side: str
+    nodes: list
+    asks: list
+    helps: list
+    idle: list
+
+    def words(self):
+        """Returns the titles of its two lists, what to say if nothing helps, and the direction of the idle arcs."""
+        said, meant = ("net_in", "net_out") if self.side == "under" else ("net_out", "net_in")
+        doubt = "" if self.helps else f" (is one reversed? or is {meant} meant instead of {said}?)"
+        if self.side == "under":
+            return "needed", "can come, at most", "no arc leads in, and nothing else helps", f"these lead out{doubt}"
+        return "there, at least", "room, at most", "no arc leads out, and nothing else helps", f"these lead in{doubt}"
+
+    def who(self, net):
+        count = len(self.nodes)
+        if count <= 3 < len(net.nodes) or count == 1:
+            return ", ".join(net.nodes[it].text for it in self.nodes) + " together" * (count > 1)
+        return f"{'All' if count == len(net.nodes) else 'These'} {count} places together"
+
+    def headline(self, net):
+        """Returns one sentence: who needs what, what can come, what is short."""
+        needed, given, short = self.needed(), self.given(), self.short()
+        if self.side == "under":
+            return f"{self.who(net)}: {needed} needed, {given} can come at most: {short} short"
+        return f"{self.who(net)}: {needed} there at least, room for {given} at most: {short} too much"
+
+    def quiet(self, net):
+        """Returns the places of the set that pass on what they get."""
+        return [net.nodes[it].text for it in self.nodes if net.nodes[it].low == net.nodes[it].high == 0]
+
+    def needed(self):
+        return sum(it.amount for it in self.asks)
+
+    def given(self):
+        return sum(it.amount for it in self.helps)
+
+    def short(self):
+        return self.needed() - self.given()
+
+    def is_mirror(self, other):
+        """Whether both say the same from two sides: what cannot leave one set is short in the other, and mostly the same arcs carry too
+        little."""
+        ours, theirs = ({it.arc for it in reason.helps if it.arc and it.amount} for reason in (self, other))
+        return self.side != other.side and self.short() == other.short() and 2 * len(ours & theirs) > len(ours | theirs)
+
+
+class Cuts:
+    """Sets of nodes of a network on one side, and how much each is short."""
+
+    def __init__(self, net, side):
+        self.net, self.is_under = net, side == "under"
+        self.side, self.near = side, [[] for _ in net.nodes]
+        for arc in net.arcs:
+            for number in {arc.src, arc.dst} - {None}:
+                self.near[number].append(arc)
+
+    def needs(self, number):
+        """Returns what has to come to the node, or to leave it, by its own condition."""
+        node = self.net.nodes[number]
+        return node.low if self.is_under else -node.high
+
+    def binds(self, number):
+        node = self.net.nodes[number]
+        return node.has_low() if self.is_under else node.has_high()
+
+    def carried(self, arc, is_inward):
+        """Returns the most that the arc brings to a set that it crosses, or takes away from it."""
+        return arc.upper if is_inward == self.is_under else -arc.lower
+
+    def short(self, nodes):
+        total = sum(self.needs(it) for it in nodes)
+        for arc in self.crossing(nodes):
+            total -= self.carried(arc, arc.dst in nodes)
+        return total
+
+    def crossing(self, nodes):
+        """Returns the arcs with one end in the set, each once."""
+        return [arc for it in nodes for arc in self.near[it] if (arc.src in nodes) != (arc.dst in nodes)]
+
+    def grown(self, number, nodes):
+        """Returns how much less short the set is without the node."""
+        lost = self.needs(number)
+        for arc in self.near[number]:
+            src, dst = arc.src in nodes, arc.dst in nodes
+            if src and dst and arc.src != arc.dst:
+                lost += self.carried(arc, arc.src == number)
+            elif src != dst:
+                lost -= self.carried(arc, dst)
+        return lost
+
+    def thinned(self, nodes):
+        """Returns the set without nodes that add nothing to the shortage: those without a binding side, then others one by one."""
+        nodes = {it for it in nodes if self.binds(it)}
+        again = True
+        while again:
+            again = False
+            for it in sorted(nodes, key=self.needs):
+                if self.grown(it, nodes) <= 0:
+                    nodes.discard(it)
+                    again = True
+        return nodes
+
+    def parts(self, nodes):
+        """Yields the connected parts of the set."""
+        left = set(nodes)
+        while left:
+            line = [left.pop()]
+            for it in line:
+                for arc in self.near[it]:
+                    other = arc.dst if arc.src == it else arc.src
+                    if other in left:
+                        left.discard(other)
+                        line.append(other)
+            yield set(line)
+
+    def reason(self, nodes):
+        """Returns the set's reason: what asks, what helps, and the arcs across it that do neither."""
+        asks, helps, idle = [], [], []
+        for it in sorted(nodes):
+            amount = self.needs(it)
+            if amount:
+                text = self.net.nodes[it].text
+                (asks if amount > 0 else helps).append(Part(abs(amount), text, text.partition("[")[0]))
+        for arc in self.crossing(nodes):
+            is_inward = arc.dst in nodes
+            amount = self.carried(arc, is_inward)
+            is_way = is_inward == self.is_under
+            if amount or is_way:
+                (asks if amount < 0 else helps).append(Part(abs(amount), "by " + self.way(arc, is_inward), arc.name, arc.text))
+            else:
+                idle.append(Part(0, self.way(arc, is_inward), arc.name, arc.text))
+        return Reason(self.side, sorted(nodes), *(sorted(it, key=lambda part: -part.amount) for it in (asks, helps, idle)))
+
+    def way(self, arc, is_inward):
+        other = f"from {self.net.end(arc.src)}" if is_inward else f"to {self.net.end(arc.dst)}"
+        return f"{arc.text} {other}, which carries {arc.lower} to {arc.most()}"
+
+
+def reasons(net, side, nodes):
+    """Returns the sets that are short, the largest shortage first, without those that say the same as one before them from its other
+    side."""
+    found = []
+    for it in all_reasons(net, side, nodes):
+        if not any(it.is_mirror(other) for other in found):
+            found.append(it)
+    return sorted(found, key=lambda it: -it.short())
+
+
+def all_reasons(net, side, nodes):
+    """Returns the sets that are short: those of the cut, and further ones that remain short if the sets before them get what they
+    lack."""
+    found = reasons_of_cut(net, side, nodes)
+    for _ in range(min(ROUNDS, LARGEST // len(net.lines))):
+        cut = cut_besides(net, found)
+        known = {(it.side, *it.nodes) for it in found}
+        more = [it for it in reasons_of_cut(net, *cut) if (it.side, *it.nodes) not in known] if cut else []
+        if not more:
+            break
+        found += more
+    return found
+
+
+def reasons_of_cut(net, side, nodes):
+    """Returns the smallest sets of a cut: each is part of it, and together they are short by as much or more."""
+    cuts, found = Cuts(net, side), []
+    for part in cuts.parts(nodes):
+        found += [it for it in cuts.parts(cuts.thinned(part)) if cuts.short(it) > 0]
+    found = [it for it in found if shows(net, side, it)] or [nodes]
+    return [cuts.reason(it) for it in found]
+
+
+def cut_besides(net, found):
+    """Returns the side and the nodes of a set that is short although each set of `found` gets what it lacks, or can leave what it has
+    too much; None if there is no such set."""
+    outside = len(net.nodes) + 1
+    arcs = []
+    for grant, it in enumerate(found, outside + 1):
+        amount = int(it.short() * net.factors.flow)
+        for src, dst in ((outside, grant), *((grant, number + 1) for number in it.nodes)):
+            arcs.append(f"a {src} {dst} 0 {amount} 0" if it.side == "under" else f"a {dst} {src} 0 {amount} 0")
+    head, _, rest = net.problem.partition("\n")
+    counts = f"p min {outside + len(found)} {int(head.split(' ')[3]) + len(arcs)}\n"
+    answer = run(["min", "/dev/stdin"], counts + rest + "".join(f"{it}\n" for it in arcs))
+    lines = answer.stdout.split("\n")
+    if answer.returncode != 2 or not lines[0].startswith("x "):
+        return None
+    side, inside = lines[0][2:], {int(it[2:]) for it in lines[1:] if it.startswith("m ")}
+    nodes = {it for it in range(len(net.nodes)) if (it + 1 in inside) != (outside in inside)}
+    return ({"over": "under", "under": "over"}[side] if outside in inside else side), nodes
+
+
+def shows(net, side, nodes):
+    """Whether `netflow check` accepts the set as a proof that there is no plan."""
+    with tempfile.TemporaryDirectory(prefix="netflow-") as folder:
+        problem, cut = os.path.join(folder, "problem"), os.path.join(folder, "cut")
+        lines = [f"x {side}", *(f"m {it + 1}" for it in sorted(nodes))]
+        for path, text in ((problem, net.problem), (cut, "\n".join(lines) + "\n")):
+            with open(path, "w", encoding="ascii") as file:
+                file.write(text)
+        return run(["check", problem, cut]).returncode == 0

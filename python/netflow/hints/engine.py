@@ -1,0 +1,331 @@
+"""Hints for the errors of models: what the text suggests was meant.
+
+A hint can be wrong, so it is a question unless the text leaves no doubt; each hint is a pair of its text and whether it is sure.
+"""
+from __future__ import annotations
+
+import difflib
+import os
+import re
+import unicodedata
+from typing import Iterator
+
+from . import data as hints_data
+from . import forms as hints_forms
+from . import keys as hints_keys
+from . import names as hints_names
+from . import network as hints_network
+from . import numbers as hints_numbers
+from . import sets as hints_sets
+from . import sizes as hints_sizes
+from . import syntax as hints_syntax
+from . import tables as hints_tables
+from . import values as hints_values
+from .ampl import KEYWORDS, MEANT, REPLACEMENTS
+from .diagnostic import DECLARING, Diagnostic
+from ..reading.text import TOKEN, tokens
+
+Hint = Iterator[tuple]
+FUNCTIONS = {"card", "abs", "next", "prev", "first", "last"}
+SIDE = r"(?:[^,;\[\]]|\[[^\]]*\])+?"
+PAIRS = {")": "(", "]": "[", "}": "{"}
+
+
+def hints_of(it: Diagnostic) -> Hint:
+    """Yields the hints for an error. Some leave no doubt, and come without others, which would be wrong next to them."""
+    alone = [found for numbers, hint in (*hints_numbers.ALONE, *hints_tables.ALONE, *hints_network.ALONE) if it.number in numbers for found in hint(it)]
+    yield from alone[:1] or all_hints(it)
+
+
+def all_hints(it: Diagnostic) -> Hint:
+    for numbers, hint in (*hints_syntax.HINTS, *hints_forms.HINTS, *hints_sets.HINTS, *HINTS, *hints_keys.HINTS, *hints_values.HINTS,
+                          *hints_names.HINTS, *hints_data.HINTS, *hints_sizes.HINTS):
+        if it.number in numbers:
+            yield from hint(it)
+
+
+def unread_file(it: Diagnostic) -> Hint:
+    path = it.path if it.path is not None else ""
+    try:
+        with open(path, "rb") as file:
+            file.read(1)
+    except OSError as problem:
+        yield f"{it.called}: {problem.strerror}", True
+        if "\\" in path:
+            yield "on Linux and in WSL a path has /, as in /mnt/c/plans/x.mod", True
+        folder, name = os.path.split(path)
+        if isinstance(problem, FileNotFoundError) and os.path.isdir(folder or "."):
+            near = difflib.get_close_matches(name, os.listdir(folder or "."), 1, 0.7)
+            if near:
+                yield f"is {os.path.join(folder, near[0])} meant?", True
+
+
+def spreadsheet(it: Diagnostic) -> str:
+    """Returns what to do with a spreadsheet that is given as a model or as data; an empty text if the file is none."""
+    raw = it.texts.get(it.text, "").encode("utf-8", "surrogateescape")
+    if raw.startswith(b"\xd0\xcf\x11\xe0"):
+        return "this is a spreadsheet of an old form (.xls): save it as .xlsx, and `netflow-sheet list FILE.xlsx` makes data of it"
+    if not raw.startswith(b"PK\x03\x04"):
+        return ""
+    if b"opendocument" in raw[:100]:
+        return "this is a spreadsheet (.ods): save it as .xlsx, and `netflow-sheet list FILE.xlsx` makes data of it"
+    name = it.called if it.called and it.called.lower().endswith(".xlsx") else "FILE.xlsx"
+    return f"this is a spreadsheet (.xlsx): `netflow-sheet list {name}` makes data of it"
+
+
+def odd_character(it: Diagnostic) -> Hint:
+    character = it.at()[:1]
+    found = spreadsheet(it)
+    if found:
+        yield found, True
+    elif character == "\ufeff":
+        yield "the file begins with a byte order mark, which cannot be seen: save it as UTF-8 without one", True
+    elif character == "=" and it.text == "data":
+        yield "write := for = in data", True
+    elif character == "/" and it.text == "data" and re.search(r"[:=\s]\d+$", it.before) and re.match(r"/\d+\b", it.at()):
+        yield "a value is one number: write 0.5 for 1/2", True
+    elif character == "/" and it.text == "data":
+        yield ("comments begin with #", True) if it.at().startswith("//") else ("quote a text with /: 'a/b'", False)
+    elif character and not character.isascii():
+        yield f"the character is {unicodedata.name(character, 'one without a name')} (U+{ord(character):04X})", False
+
+
+def not_utf8(it: Diagnostic) -> Hint:
+    raw, found = it.texts.get(it.text, "").encode("utf-8", "surrogateescape")[:2], spreadsheet(it)
+    if found:
+        yield found, True
+    elif raw in (b"\xff\xfe", b"\xfe\xff"):
+        yield "the file is UTF-16: save it as UTF-8, or use iconv -f utf-16 -t utf-8", True
+    else:
+        yield "the file is perhaps Latin-1 or Windows-1252: save it as UTF-8, or use iconv -f latin1 -t utf-8", False
+
+
+def replaced_word(it: Diagnostic) -> Hint:
+    """A word or mark of AMPL that netflow lacks."""
+    word = it.detail if it.detail in REPLACEMENTS else it.word()
+    if it.text != "model":
+        return
+    at = it.at()
+    if at.startswith("--") and not it.before.strip(" ;").endswith(tuple("+-*([{,=<>")) and not it.statement_before():
+        yield REPLACEMENTS["//"], True
+    if at.startswith("//"):
+        yield REPLACEMENTS["//"], True
+    elif at.startswith("!") and it.before.endswith("="):
+        return
+    elif word == "forall" and not it.statement_before():
+        yield "forall: index the declaration itself: node B {j in S}: net_in = need[j]; or check {j in S}: ..", True
+    elif at.startswith("/*"):
+        return
+    elif word in REPLACEMENTS and not (word == "data" and it.row == 1) and is_meant(word, at):
+        yield f"{word}: {REPLACEMENTS[word]}", True
+    elif at and (at[:2] in REPLACEMENTS or at[:1] in "/^!&") and not it.before.endswith("="):
+        mark = at[:2] if at[:2] in REPLACEMENTS else at[:1]
+        yield f"{mark}: {REPLACEMENTS[mark]}", True
+    elif word == "s" and at.startswith("s.t"):
+        yield f"s.t.: {REPLACEMENTS['s.t.']}", True
+
+
+def is_meant(word: str, at: str) -> bool:
+    """Whether a word is the one of AMPL: some can also be names, and are functions only before a bracket."""
+    following = TOKEN.findall(at)[1:2]
+    return following == ["("] if word in FUNCTIONS else not (following and following[0] in DECLARING)
+
+
+def misspelt_keyword(it: Diagnostic) -> Hint:
+    word = it.word()
+    if it.text != "model" or not re.fullmatch(r"[A-Za-z_.]+", word) or word in DECLARING or word in REPLACEMENTS or it.number == "E12" and it.before.strip():
+        return
+    declared = {name.bare() for name in tokens(it.texts["model"])}
+    lower = word.lower()
+    at_start = not it.statement_before()
+    meant = MEANT.get(lower) or (lower if lower in KEYWORDS else None)
+    if meant is None:
+        near = difflib.get_close_matches(lower, KEYWORDS, 1, 0.75)
+        meant = near[0] if near else None
+    if meant is None or meant == word or meant not in KEYWORDS:
+        return
+    if at_start and meant not in DECLARING:
+        return
+    if lower in MEANT or lower in KEYWORDS or at_start or word not in declared - {word}:
+        yield f"{word}: is {meant} meant?", True
+
+
+def condition_word(it: Diagnostic) -> Hint:
+    """A node's condition without net_in, written netin or in three parts."""
+    statement = it.statement()
+    if it.text != "model" or not statement or statement[0].text != "node":
+        return
+    for token in statement:
+        if token.text.lower().replace("-", "_") in ("netout", "netin", "net.in", "net.out") or token.text in ("net_In", "Net_in", "Net_out"):
+            yield f"{token.text}: is {'net_out' if 'out' in token.text.lower() else 'net_in'} meant?", True
+            return
+        if token.text in ("to_come", "cover", "coeff"):
+            yield f"{token.text}: {REPLACEMENTS[token.text]}", True
+            return
+    found = re.search(rf"(net_(?:in|out))\s*>=\s*({SIDE})\s*,\s*<=\s*({SIDE})\s*(?:;|$)", it.shown)
+    if found:
+        yield f"a range is one condition: {found[2]} <= {found[1]} <= {found[3]}", True
+
+
+def unended_declaration(it: Diagnostic) -> Hint:
+    if it.text != "model" or it.word() not in DECLARING:
+        return
+    before = [word for word in TOKEN.findall(it.before) if not word.startswith(("#", "/*"))]
+    above = max((token.row for token in tokens(it.texts["model"]) if token.row < it.row), default=0)
+    if before and before[-1] not in DECLARING:
+        yield f"is a ; missing before {it.word()}?", True
+    elif not before and above:
+        yield f"is a ; missing at the end of line {above}?", True
+
+
+def unended_text(it: Diagnostic) -> Hint:
+    """The text ends before its last `;`."""
+    rest = [token for token in tokens(it.texts.get(it.text, ""))]
+    if rest and rest[-1].text != ";" and rest[-1].row == it.row and not list(tokens(it.at())):
+        opened = [token.text for token in rest if token.text in PAIRS.values()]
+        closed = [token.text for token in rest if token.text in PAIRS]
+        if len(opened) == len(closed):
+            yield f"is a ; missing at the end of {it.line_text(it.row)}?", True
+
+
+def exchanged(it: Diagnostic) -> Hint:
+    shaping = {"node", "arc", "minimize", "maximize"}
+    if it.text == "model" and not shaping & set(it.words("model")) and shaping & set(it.words("data")):
+        yield "are the two files exchanged? The model comes first", True
+
+
+def in_braces(it: Diagnostic) -> bool:
+    """Whether the place is inside braces of its statement."""
+    text = " ".join(token.text for token in it.statement_before())
+    return text.count("{") > text.count("}")
+
+
+def misplaced(it: Diagnostic) -> Hint:
+    """Words of a model that are right elsewhere."""
+    before, statement = it.before.rstrip(), it.statement()
+    if it.word() == "if":
+        yield "put an if that is an operand in parentheses: (if .. then .. else ..)", True
+    if it.word() == "=" and any(token.text == "arc" for token in statement) and it.at()[:2] not in ("=<", "=>"):
+        yield "an arc has a lower and an upper bound: are >= and <= meant?", True
+    if it.word() == "=" and any(token.text == "param" for token in statement[:1]):
+        yield "a parameter gets its value by :=, not by =", True
+    if it.word() == "in" and [token.text for token in statement[:1]] == ["set"] and not in_braces(it):
+        yield "in: is within meant?", True
+    if it.word() == "=" and any(token.text == "set" for token in statement[:1]):
+        yield "a set gets its members by :=, not by =", True
+    if before.endswith(",") and it.word() not in REPLACEMENTS and re.search(r"\bfrom\b[^,]*(\[[^\]]*\])?,$", before):
+        yield f"is a to missing before {it.detail or it.word()}?", True
+    mark = it.at()[:2]
+    if statement and statement[0].text == "arc" and mark in ("<=", ">=") and mark in before and not in_braces(it):
+        yield f"an arc has one lower and one upper bound, and this is a second {mark}", True
+
+
+def dots(it: Diagnostic) -> Hint:
+    """Three dots for the two of a range."""
+    found = re.search(r"(\w+)\s*\.\.\.\s*(\w+)", it.shown)
+    if it.text == "model" and found and found.start() <= len(it.before) <= found.end():
+        yield f"is {found[1]}..{found[2]} meant?", True
+
+
+def doubled(it: Diagnostic) -> Hint:
+    """A word that occurs twice in a row."""
+    words, here = [word[0] for word in TOKEN.finditer(it.before)][-2:], it.word()
+    if here == ";" and words[-1:] == [";"]:
+        yield "is this ; one too many?", True
+    elif here and words[-1:] == [here] and re.match(r"\w", here):
+        yield f"is {here} written twice?", True
+    elif len(words) == 2 and words[0] == words[1] and re.match(r"\w", words[0]):
+        yield f"is {words[0]} written twice?", True
+
+
+def unclosed(it: Diagnostic) -> Hint:
+    """A bracket that is open at the end of the declaration, or when another kind is closed, or a phrase begins."""
+    if it.text != "model":
+        return
+    text = "\n".join([*it.texts["model"].split("\n")[:it.row - 1], it.before])
+    opened: list = []
+    here, is_closer = it.word(), False
+    for token in tokens(text):
+        if token.text in PAIRS.values():
+            opened.append(token.text)
+        elif token.text in PAIRS and opened[-1:] == [PAIRS[token.text]]:
+            opened.pop()
+        elif token.text == ";":
+            opened = []
+    is_closer = here in PAIRS
+    if opened and (here == ";" or is_closer and PAIRS[here] != opened[-1] or not it.at().strip()):
+        yield f"is the {opened[-1]} before it not closed?", True
+    elif opened and opened[-1] == "{" and not list(hints_syntax.chained(it)) and (here in ("from", "to", "obj", ":=", "default", "net_in", "net_out") or here[:1] in "<>="):
+        yield "is the { before it not closed?", True
+    elif is_closer and not opened:
+        yield f"is this {here} one too many, or its {PAIRS[here]} missing?", True
+
+
+def unopened(it: Diagnostic) -> Hint:
+    """A second comparison inside braces: the brace is not closed before a bound."""
+    opened = it.shown.count("{") - it.shown.count("}")
+    if it.text == "model" and opened > 0 and re.search(r"\{[^}]*>=", it.shown) and it.word() not in (";",) and it.word() not in PAIRS:
+        yield "is the { before it not closed?", True
+
+
+def exchanged_words(it: Diagnostic) -> Hint:
+    """A name before the word that declares it."""
+    if it.text == "model" and it.before.strip() == "":
+        words = TOKEN.findall(it.at())[:2]
+        if len(words) == 2 and words[1] in DECLARING and re.fullmatch(r"\w+", words[0]):
+            yield f"are {words[0]} and {words[1]} the wrong way round?", True
+
+
+def no_colon(it: Diagnostic) -> Hint:
+    if it.word() in ("net_in", "net_out") and re.search(r"\bnode\s+\w+\s*(\{[^{}]*\})?$", it.before.rstrip()):
+        yield f"is a : missing before {it.word()}?", True
+
+
+def bare_text(it: Diagnostic) -> Hint:
+    """A text without quotes in a model."""
+    statement = it.statement()
+    words = [token.text for token in statement]
+    if it.text == "model" and words[:1] == ["set"] and ":=" in words and "{" in words and it.word() == it.detail:
+        yield f"quote a text in a model: '{it.detail}'", True
+
+
+def unused_parameter(it: Diagnostic) -> Hint:
+    """A parameter that is declared and used nowhere, which may be the bound that was forgotten."""
+    words = [name for word in it.words("model") for name in re.findall(r"[A-Za-z_]\w*", word)]
+    names = [words[here + 1] for here, word in enumerate(words[:-1]) if word == "param"]
+    unused = [name for name in names if words.count(name) == 1]
+    if it.text == "model" and unused:
+        many = len(unused) > 1
+        yield (f"{', '.join(unused[:3])} {'are' if many else 'is'} declared and used nowhere: "
+               f"is the bound meant to be {'one of them' if many else 'it'}?"), True
+    elif it.text == "model":
+        yield "the tools add a bound that no plan reaches with --bounds", False
+
+
+def empty_model(it: Diagnostic) -> Hint:
+    if not list(tokens(it.texts.get("model", ""))):
+        yield "the model is empty: is the first file the right one?", True
+
+
+HINTS: tuple = (
+    (("E90",), unread_file),
+    (("E01",), odd_character),
+    (("E06",), not_utf8),
+    (("E30", "E56"), empty_model),
+    (("E01", "E10", "E14"), exchanged),
+    (("E10", "E14", "E04"), dots),
+    (("E10", "E14", "E12"), bare_text),
+    (("E10", "E14", "E16", "E12"), condition_word),
+    (("E10", "E14"), doubled),
+    (("E10", "E14"), misplaced),
+    (("E10", "E14", "E12"), replaced_word),
+    (("E10", "E14"), exchanged_words),
+    (("E10", "E14"), unended_declaration),
+    (("E10", "E14", "E16"), unclosed),
+    (("E10", "E14"), unopened),
+    (("E10", "E20"), unended_text),
+    (("E10", "E16"), no_colon),
+    (("E10", "E12", "E14"), misspelt_keyword),
+    (("E51", "E52"), unused_parameter),
+)
+

@@ -1,0 +1,186 @@
+"""Hints for keys outside their sets (E33, E50): which member is not in which set, exchanged subscripts, misspelt members."""
+from __future__ import annotations
+
+import difflib
+import re
+from typing import Any, Iterator
+
+from ..reading.data import DataText
+from ..errors import Unreadable
+from ..reading.model import Expr, Shapes, Unparsed, parse
+from ..reading.output import reference, shown
+from ..reading.text import tokens
+
+Hint = Iterator[tuple]
+MOST = 100_000
+
+
+class Sets:
+    """What the model and its data say of sets and of parameters without a key; a set that is not plain is None."""
+
+    def __init__(self, it: Any) -> None:
+        decls = parse(it.texts.get("model", ""))
+        self.shapes = Shapes(decls, it.texts.get("model", ""))
+        self.decls = self.shapes.decls
+        self.members: dict = {}
+        self.values: dict = {}
+        params = {decl.name: self.shapes.keys[decl.name] for decl in decls if decl.kind == "param"}
+        for statement in DataText(it.texts.get("data", ""), params, self.shapes.sets, True).statements:
+            name = statement.name if statement.kind == "set" else statement.set_name
+            if name:
+                self.members[name] = statement.members
+            self.values.update({cell.name: cell.token.member() for cell in statement.cells if not cell.key})
+
+    def number(self, expr: Expr) -> Any:
+        """Returns the value of a plain expression; None if it is not plain."""
+        if expr.op == "num" and expr.value.isdigit():
+            return int(expr.value)
+        if expr.op in ("+", "-"):
+            left, right = map(self.number, expr.args)
+            return None if left is None or right is None else left + right if expr.op == "+" else left - right
+        if expr.op == "name" and not expr.args and expr.value in self.decls:
+            phrase = self.decls[expr.value].phrase(":=")
+            found = self.number(phrase.exprs[0]) if phrase else self.values.get(expr.value)
+            return found if isinstance(found, int) else None
+        return None
+
+    def of(self, expr: Expr) -> tuple:
+        """Returns a set's title and its members as tuples, or None for the members."""
+        if expr.op == "..":
+            ends = [self.number(it) for it in expr.args]
+            if len(ends) == 2 and None not in ends and ends[1] - ends[0] < MOST:
+                return f"{ends[0]}..{ends[1]}", {(it,) for it in range(ends[0], ends[1] + 1)}
+        elif expr.op == "name" and expr.value in self.members:
+            width, flat = self.shapes.sets.get(expr.value, 1), self.members[expr.value]
+            return expr.value, {tuple(flat[it:it + width]) for it in range(0, len(flat), width)}
+        elif expr.op == "name" and expr.value in self.decls:
+            phrase = self.decls[expr.value].phrase(":=")
+            title, found = self.of(phrase.exprs[0]) if phrase else ("", None)
+            return f"{expr.value}{f', which is {title}' if title else ''}", found
+        elif expr.op == "braces" and expr.args and all(it.op == "text" for it in expr.args):
+            return "the braces", {(it.value[1:-1],) for it in expr.args}
+        return "", None
+
+    def of_name(self, name: str) -> list:
+        """Returns for each item in the braces of a declaration how many parts it has, its title and its members."""
+        braces = self.decls[name].braces if name in self.decls else None
+        found = []
+        for item in (braces.args[:-1] if braces.value else braces.args) if braces else []:
+            is_indexed = item.op == "in"
+            width = len(item.args[0].args) if is_indexed and item.args[0].op == "tuple" else 1 if is_indexed else self.shapes.of_set(item)
+            found.append((width, *self.of(item.args[1] if is_indexed else item)))
+        return found
+
+
+class Key:
+    """The key of an error, in the slices that the items of the declaration's braces give it."""
+
+    def __init__(self, it: Any) -> None:
+        self.name, self.key = reference(it.detail)
+        sets = Sets(it)
+        items, self.head = sets.of_name(self.name), sets.shapes.head(self.name)
+        if sum(width for width, _, _ in items) != len(self.key):
+            raise Unreadable(it.detail)
+        self.items, at = [], 0
+        for width, title, members in items:
+            self.items.append((at, at + width, title, members))
+            at += width
+
+    def outside(self, key: list) -> list:
+        """Returns the slices that are known to be in no set."""
+        return [it for it in self.items if it[3] is not None and tuple(key[it[0]:it[1]]) not in it[3]]
+
+    def exchanged(self) -> list:
+        """Returns the key with two parts exchanged that is in all sets; an empty list if there is none."""
+        if any(it[3] is None for it in self.items):
+            return []
+        for here in range(len(self.key)):
+            for there in range(here + 1, len(self.key)):
+                other = list(self.key)
+                other[here], other[there] = other[there], other[here]
+                if not self.outside(other):
+                    return other
+        return []
+
+
+def near(member: Any, others: list) -> list:
+    """Returns the members that a text may mean: in other letters of case, misspelt, or with letters exchanged."""
+    texts = sorted({it for it in others if isinstance(it, str) and it != member})
+    if not isinstance(member, str):
+        return []
+    found = [it for it in texts if it.lower() == member.lower()] or difflib.get_close_matches(member, texts, 3, 0.7)
+    return found or [it for it in texts if len(it) == len(member) > 2 and sorted(it.lower()) == sorted(member.lower())]
+
+
+def outside_set(it: Any) -> Hint:
+    """A key with a member that is not in its set: exchanged, misspelt, or outside."""
+    try:
+        key = Key(it)
+    except (Unreadable, Unparsed, ValueError):
+        return
+    from .values import missing_in_set
+    other, wrong = key.exchanged(), key.outside(key.key)
+    if list(missing_in_set(it)):
+        return
+    if wrong and other:
+        if it.is_change():
+            yield f"are the two members exchanged? The parts of a key are those of {key.head}", True
+        elif it.text == "data":
+            yield "are the two members exchanged? In a table (tr) before the : turns rows and columns", True
+        else:
+            yield f"are the subscripts exchanged? {key.name}[{','.join(map(shown, other))}] is in the sets of its braces", True
+        return
+    for first, last, title, members in wrong:
+        if last - first == 1:
+            yield from outside_one(it, key.key[first], title, sorted(part for part, in members if isinstance(part, str)), members)
+        else:
+            yield f"({','.join(map(shown, key.key[first:last]))}) is not in {title}", False
+
+
+def outside_one(it: Any, member: Any, title: str, texts: list, members: set) -> Hint:
+    """A member that is not in its set."""
+    is_sure = it.number != "E50"
+    if isinstance(member, str) and re.fullmatch(r"-?\d+", member) and (int(member),) in members:
+        is_python = it.is_change() and not it.question.origins
+        yield f"'{member}' is a text; the number is in {title}: {f'use int({member!r})' if is_python else f'write it without quotes, {member}'}", True
+        return
+    found = near(member, texts)
+    words = [token.bare() for token in tokens(it.texts.get("data", ""))]
+    if words.count(member) > 1:
+        found.sort(key=words.count)  # what nothing else names is probably misspelt itself
+    if found and words.count(member) > 1 and words.count(found[0]) == 1:
+        row = next(token.row for token in tokens(it.texts["data"]) if token.bare() == found[0])
+        yield f"the set {title} has {found[0]} in {it.rows_text([row])}, which nothing else names: is {member} meant there?", is_sure
+    elif found:
+        yield f"{member}: is {found[0]} meant?", is_sure
+        yield from heading_place(it, member)
+    else:
+        kind = f", whose members are texts ({', '.join(texts[:3])}{', ..' if len(texts) > 3 else ''})" if texts and not isinstance(member, str) else ""
+        yield f"{shown(member)} is not in {title}{kind}", is_sure
+        yield from heading_place(it, str(member))
+
+
+def heading_place(it: Any, member: str) -> Hint:
+    """The line of the misspelt member, if it is in another line than the error, as in a heading."""
+    rows = [token.row for token in tokens(it.texts.get("data", "")) if token.bare() == member]
+    if rows and it.row not in rows and it.text == "data":
+        yield f"it is in {it.rows_text(rows[:1])}", True
+
+
+def unquoted_member(it: Any) -> Hint:
+    """A name in the model that is not declared, and is a member in the data."""
+    if it.text == "model" and it.detail and [token.text for token in it.statement()][:1] != ["set"]:
+        members = {token.bare() for row in set_rows(it) for token in row}
+        if it.detail in members:
+            yield f"{it.detail} is a member in the data: write it with quotes, '{it.detail}'", True
+
+
+def set_rows(it: Any) -> list:
+    from .data import listed
+    return list(listed(it).values())
+
+
+HINTS: tuple = (
+    (("E33", "E50"), outside_set),
+    (("E12",), unquoted_member),
+)

@@ -1,0 +1,121 @@
+"""Hints for names: misspelt ones, by the kind that their place needs, and declarations and phrases with a name or a word at the wrong place."""
+from __future__ import annotations
+
+import difflib
+import re
+from typing import Any, Iterator
+
+from .ampl import REPLACEMENTS
+from .diagnostic import DECLARING
+from .data import declared, declared_as, declared_below, indices, members_in_data
+from ..reading.text import tokens
+
+Hint = Iterator[tuple]
+NAME = r"[A-Za-z_]\w*"
+# What comes before a name in a model, or begins its statement in data, and the words that declare such names.
+PLACES = ((r"\bin\s+$", ("set",)), (r"\b(?:from|to)\s+$", ("node",)), (r"\bobj\s+$", ("minimize", "maximize")))
+
+
+def wanted_kinds(it: Any) -> tuple:
+    """Returns the words that declare the kind of name that is needed here; none if any kind can be."""
+    if it.text == "data":
+        return tuple(token.text for token in it.statement_before()[:1])
+    return next((kinds for before, kinds in PLACES if re.search(before, it.before)), ())
+
+
+def nearest(name: str, others: list) -> list:
+    return [other for other in others if other.lower() == name.lower()] or difflib.get_close_matches(name, others, 1, 0.7)
+
+
+def respelled(it: Any) -> Hint:
+    """Names near one that is not known; indices of other declarations are not known here."""
+    name = it.detail.partition("[")[0]
+    if it.number == "E12" and (declared_below(it, name) or name in members_in_data(it)) or name in REPLACEMENTS:
+        return
+    known = list(dict.fromkeys(it.words("model")))
+    gone = set(indices(list(tokens(it.texts.get("model", "")))))  - set(indices(it.statement())) - declared(it) if it.number == "E12" else set()
+    same = [other for other in known if other in gone and other.lower() == name.lower()]
+    fitting = [other for kind in wanted_kinds(it) for other in known if other in declared_as(it, kind)]
+    others = [other for other in known if other != name and other not in DECLARING | gone and other[:1].isalnum()]
+    found = nearest(name, fitting) or (fitting if re.search(r"\bobj\s+$", it.before) and len(fitting) == 1 else nearest(name, others))
+    if found:
+        yield f"{name}: is {found[0]} meant?", True
+    elif same and not list(equals_in_braces(it)):
+        yield f"{same[0]} is an index of another declaration and ends with it: index this one too, as in {{{same[0]} in ..}}", True
+
+
+def equals_in_braces(it: Any) -> Hint:
+    """`{s = SHOPS}`."""
+    found = re.match(rf"({NAME})\s*=\s*({NAME})", it.at())
+    words = [token.text for token in it.statement_before()]
+    if it.text == "model" and found and words[-1:] in (["{"], [","]) and words.count("{") > words.count("}") and found[2] in declared_as(it, "set"):
+        yield f"an index is named with its set by in: {found[1]} in {found[2]}", True
+
+
+def odd_name(it: Any) -> Hint:
+    """`arc Drive-out`, `param max.load`, `from 'Bakery'[b]`, `param {S} a`, `param 0 <= a`."""
+    words, at = [token.text for token in it.statement_before()], it.at()
+    rest, before = re.match(r"[-.](\w+)", at), re.match(rf"(\{{[^}}]*\}})\s*({NAME})", at)
+    quoted = re.match(rf"(['\"])({NAME})\1\s*[\[{{]", at)
+    bound = re.match(rf"([\w.]+)\s*(<=|<)\s*({NAME})", at)
+    if it.text != "model" or not words:
+        return
+    if rest and len(words) == 2 and re.fullmatch(NAME, words[1]):
+        yield f"a name has letters, digits and _: {words[1]}_{rest[1]}", True
+    elif quoted:
+        yield f"a name has no quotes: {quoted[2]}", True
+    elif before and len(words) == 1:
+        yield f"the name comes before its braces: {words[0]} {before[2]} {before[1]}", True
+    elif bound and words == ["param"]:
+        yield f"the name comes first: param {bound[3]} {bound[2].replace('<', '>')} {bound[1]}", True
+
+
+def two_names(it: Any) -> Hint:
+    """`param van, truck;`"""
+    words = [token.text for token in it.statement_before()]
+    if it.text == "model" and words[2:] == [","] and words[0] in ("set", "param", "node", "arc") and re.match(NAME, it.at()):
+        yield f"each declaration has one name: {words[0]} {words[1]}; {words[0]} {it.word()};", True
+
+
+def no_obj(it: Any) -> Hint:
+    """`to Shop[s], Total cost[b,s]`: the word obj is missing."""
+    words = [token.text for token in it.statement_before()]
+    if it.text == "model" and words[:1] == ["arc"] and words[-1:] == [","] and it.word() in declared_as(it, "minimize") | declared_as(it, "maximize"):
+        phrase = re.match(r"(?:\[[^\]]*\]|[^,;])*", it.at())
+        yield f"is obj missing before {it.word()}? obj {phrase[0].strip() if phrase else it.word()}", True
+
+
+def no_to(it: Any) -> Hint:
+    """`from Bakery[b] Shop[s]`, and `between A and B`."""
+    if it.text == "model" and it.number == "E15" and it.word() in declared_as(it, "node"):
+        yield f"is , to missing before {it.word()}?", True
+    found = re.match(r"(?:between|connects)\s+([^,;]*?)\s+(?:and|to)\s+([^,;]*)", it.at())
+    if it.text == "model" and it.number != "E15" and found:
+        yield f"the ends of an arc are two phrases: from {found[1]}, to {found[2].strip()}", True
+
+
+def early_end(it: Any) -> Hint:
+    """A `;` before the last phrase of an arc."""
+    above = [token for token in it.tokens_before()]
+    if it.text == "model" and not it.statement_before() and above and re.match(r"(?:from|to|obj)\b|[<>]=", it.at()):
+        yield f"is the ; at the end of {it.line_text(above[-1].row)} one too many, or meant as a comma?", True
+
+
+def two_conditions(it: Any) -> Hint:
+    """`net_in >= 2, net_in <= 5`."""
+    found = re.search(r"(net_in|net_out)\s*>=\s*([^,;]*?)\s*$", it.before)
+    after = re.match(r",\s*(?:(net_in|net_out)\s*)?<=\s*([^,;]*)", it.at())
+    if it.text == "model" and found and after and after[1] in (None, found[1]) and after[1]:
+        yield f"a node has one condition: {found[2]} <= {found[1]} <= {after[2].strip()}", True
+
+
+HINTS: tuple = (
+    (("E12", "E30", "E61"), respelled),
+    (("E12", "E10"), equals_in_braces),
+    (("E10", "E14"), odd_name),
+    (("E14", "E10"), two_names),
+    (("E14", "E10"), no_obj),
+    (("E14", "E15", "E10"), no_to),
+    (("E14", "E10"), early_end),
+    (("E10",), two_conditions),
+)

@@ -1,0 +1,87 @@
+"""Hints for models that are too large (E40, E59, E60): how many keys the braces have, and how they have fewer."""
+from __future__ import annotations
+
+import math
+from typing import Any, Iterator
+
+from .keys import Sets
+from ..reading.model import Expr, Unparsed
+
+Hint = Iterator[tuple]
+MOST = {"E40": "tuples, and 1,000,000 are the most", "E59": "nodes, and 10,000 are the most", "E60": "arcs, and 100,000 are the most"}
+
+
+def size(sets: Sets, expr: Expr) -> int:
+    """Returns how many members a plain set has; 0 if its text does not say."""
+    if expr.op == "..":
+        ends = [sets.number(part) for part in expr.args]
+        return max(0, ends[1] - ends[0] + 1) if len(ends) == 2 and None not in ends else 0
+    if expr.op == "cross":
+        return math.prod(size(sets, part) for part in expr.args)
+    if expr.op == "group":
+        return size(sets, expr.args[0])
+    if expr.op == "name" and expr.value in sets.members:
+        return len(sets.members[expr.value]) // sets.shapes.sets.get(expr.value, 1)
+    phrase = sets.decls[expr.value].phrase(":=") if expr.op == "name" and expr.value in sets.decls else None
+    return size(sets, phrase.exprs[0]) if phrase else 0
+
+
+def at_place(sets: Sets, it: Any) -> tuple:
+    """Returns the declaration with the error and its braces or cross product at the place; (None, None) if there are none."""
+    model = it.texts["model"]
+    place = sum(len(line) + 1 for line in model.split("\n")[:it.row - 1]) + len(it.before)
+    for decl in sets.decls.values():
+        if decl.start <= place <= decl.end:
+            whole = [decl.braces, *(expr for phrase in decl.phrases for expr in phrase.exprs)]
+            parts = [part for expr in whole if expr is not None for part in expr.walk()]
+            crossed = [part for part in parts if part.op == "cross" and part.start <= place < part.end]
+            exact = [part for part in parts if part.op == "braces" and part.start == place]
+            return decl, next(iter([*exact, *crossed]), decl.braces)
+    return None, None
+
+
+def too_many(it: Any) -> Hint:
+    """How many keys the braces at the place, or those of the declaration, have, if their sets are plain."""
+    try:
+        sets = Sets(it)
+        decl, found = at_place(sets, it) if it.text == "model" else (sets.decls.get(it.detail), None)
+    except (Unparsed, ValueError, IndexError):
+        return
+    if decl is None or found is None:
+        return
+    items = (found.args[:-1] if found.value else found.args) if found.op == "braces" else found.args
+    sizes = [size(sets, part.args[1] if part.op == "in" else part) for part in items]
+    if not all(sizes) or len(sizes) < 2:
+        return
+    condition = found.args[-1] if found.op == "braces" and found.value else None
+    total = f"{' x '.join(f'{count:,}' for count in sizes)} = {math.prod(sizes):,}"
+    said = MOST[it.number].replace(",", " before the condition is evaluated,", 1) if condition is not None else MOST[it.number]
+    smaller = fewer(sets, it.texts["model"], items, condition)
+    yield f"{decl.name or decl.kind} has {total} {said}: {f'write {smaller}' if smaller else 'index it by a set of the tuples that exist'}", True
+
+
+def fewer(sets: Sets, model: str, items: list, condition: Any) -> str:
+    """Returns braces in which an equality of two indices is no condition; an empty text if there is none."""
+    terms = [condition] if condition is not None else []
+    while any(part.op in ("and", "group") for part in terms):
+        terms = [inner for part in terms for inner in (part.args if part.op in ("and", "group") else [part])]
+    named = [part.args[0].value if part.op == "in" and part.args[0].op == "name" else "" for part in items]
+    for term in terms:
+        names = [part.value if part.op == "name" and not part.args else "" for part in term.args] if term.op in ("=", "==") else []
+        if len(names) == 2 and all(name and name in named for name in names) and names[0] != names[1]:
+            first, second = sorted(map(named.index, names))
+            texts = [" ".join(model[part.start:part.end].split()) for part in items]
+            texts[first] += "" if is_within(sets, items[first].args[1], items[second].args[1]) else f" inter {texts[second].partition(' in ')[2]}"
+            texts[second] = f"{named[second]} in {{{named[first]}}}"
+            rest = " and ".join(" ".join(model[part.start:part.end].split()) for part in terms if part is not term)
+            return f"{{{', '.join(texts)}{f': {rest}' if rest else ''}}}"
+    return ""
+
+
+def is_within(sets: Sets, inner: Expr, outer: Expr) -> bool:
+    """Whether all members of a set are known to be in another one."""
+    members, others = sets.of(inner)[1], sets.of(outer)[1]
+    return members is not None and others is not None and members <= others
+
+
+HINTS: tuple = ((("E40", "E59", "E60"), too_many),)

@@ -1,0 +1,168 @@
+"""Hints for models and data whose grammar is wrong in a usual way: each names the form that was probably meant."""
+from __future__ import annotations
+
+import re
+from typing import Any, Iterator
+
+from ..reading.text import CLOSING, TOKEN, items
+
+Hint = Iterator[tuple]
+NAME = r"[A-Za-z_]\w*"
+OPERAND = r"[\w.]+(?:\[[^\]]*\])?"
+BOUND = re.compile(rf"(?P<low>{OPERAND})\s*<=\s*(?:{NAME}(?:\[[^\]]*\])?\s*<=\s*)?(?P<high>{OPERAND})\s*(?=[,;]|$)")
+RANGE = re.compile(r"(?P<low>[^:;]*?)\s*(?P<one><=|>=|=)\s*(?P<net>net_in|net_out)\s*(?P<two><=|>=|=)\s*(?P<high>[^;]*)")
+
+
+def declared(it: Any, *kinds: str) -> set:
+    """Returns the names that the model declares by these words."""
+    words = it.words("model")
+    return {words[here + 1] for here in range(len(words) - 1) if words[here] in kinds}
+
+
+def chained(it: Any) -> Hint:
+    """A second comparison of the same expression inside braces or a check: `1 <= t <= n`."""
+    if it.text != "model" or not it.at().startswith(("<", ">", "=")):
+        return
+    found = re.search(rf"({OPERAND})\s*(<=?|>=?)\s*({OPERAND})\s*$", it.before)
+    after = re.match(rf"(<=?|>=?)\s*({OPERAND})", it.at())
+    words = [token.text for token in it.statement_before()]
+    is_inside = words.count("{") > words.count("}")
+    if not found or not after or not (is_inside or words[:1] == ["check"]):
+        return
+    left, first, middle, second, right = *found.groups(), *after.groups()
+    last_item = "".join(words[len(words) - words[::-1].index("{"):]) if is_inside else ":"
+    if is_inside and ":" not in last_item and re.fullmatch(NAME, middle) and (first, second) == ("<=", "<="):
+        yield f"an index is named with its set: {middle} in {left}..{right}", True
+    else:
+        yield f"write two comparisons: {left} {first} {middle} and {middle} {second} {right}", True
+
+
+def reversed_sign(it: Any) -> Hint:
+    """`=<` and `=>`."""
+    place = len(it.before)
+    for wrong, right in (("=<", "<="), ("=>", ">="), ("=!", "!=")):
+        if it.text == "model" and wrong in (it.shown[place:place + 2], it.shown[max(place - 1, 0):place + 1]):
+            yield f"{wrong}: is {right} meant?", True
+
+
+def round_subscripts(it: Any) -> Hint:
+    """`needed{p,t}` and `needed(p,t)`."""
+    name = re.search(rf"({NAME})\s*$", it.before)
+    mark = it.at()[:1]
+    if it.text != "model" or not name or mark not in ("{", "(") or name[1] not in declared(it, "param", "node", "arc", "set"):
+        return
+    inside = re.match(r"[{(]([^{}()]*)[})]", it.at())
+    yield f"subscripts are in square brackets: {name[1]}[{inside[1].strip() if inside else '..'}]", True
+
+
+def missing_comma(it: Any) -> Hint:
+    """Two subscripts without a comma."""
+    if it.text == "model" and re.search(r"\[[^\]{};]*\w\s+$", it.before) and re.match(r"[\w']", it.at()):
+        yield f"is a , missing before {it.word()}?", True
+
+
+def bounds_in_one(it: Any) -> Hint:
+    """`0 <= yard[p]` or `0 <= Lease <= 5` for the bounds of an arc."""
+    words = [token.text for token in it.statement_before()]
+    if it.text != "model" or words[:1] != ["arc"] or words.count("{") > words.count("}") or not re.search(r"(?:[},]|\w)\s*$", it.before):
+        return
+    found = BOUND.match(it.at())
+    if found:
+        yield f"the bounds of an arc are two phrases: >= {found['low']}, <= {found['high']}", True
+
+
+def mixed_range(it: Any) -> Hint:
+    """`5 <= net_in >= 10`."""
+    statement = it.statement()
+    if it.text != "model" or not statement or statement[0].text != "node":
+        return
+    line = it.shown[it.shown.rfind(":", 0, len(it.before)) + 1:]
+    found = RANGE.search(line)
+    if found and found["low"].strip() and found["one"] != found["two"]:
+        yield f"both signs of a range are the same: {found['low'].strip()} <= {found['net']} <= {found['high'].strip()}", True
+
+
+def comma_for_colon(it: Any) -> Hint:
+    """A condition after a comma in braces."""
+    if it.text != "model" or not it.at().startswith("{"):
+        return
+    depth, inside = 0, []
+    for word in [token.text for token in it.statement()[len(it.statement_before()):]]:
+        depth += (word in CLOSING) - (word in CLOSING.values())
+        if depth == 0:
+            break
+        inside.append(word)
+    parts = items(inside[1:])
+    for here, part in enumerate(parts):
+        if here and "in" not in part and {"<", ">", "="} & set("".join(part)) and ":" not in part:
+            text = " ".join(part).replace("< =", "<=").replace("> =", ">=").replace("< >", "<>").replace("! =", "!=")
+            text = re.sub(r"\s*([\[\]])\s*", r"\1", text).replace("]", "] ").strip()
+            yield f"a condition comes after a colon: {{.. : {text}}}", True
+            return
+
+
+def no_objective(it: Any) -> Hint:
+    """`obj freight[p,q]`: the objective's name is missing."""
+    names = sorted(declared(it, "minimize", "maximize"))
+    found = re.search(rf"\bobj\s+(?:({NAME})\s*)?$", it.before)
+    if it.text != "model" or not found or not names:
+        return
+    word = re.match(NAME, it.at())
+    head = found[1] or (word[0] if word and it.number == "E12" and it.detail not in names else "")
+    is_price = head in declared(it, "param") if head else re.match(r"[\d(]", it.at()) is not None
+    if is_price:
+        price = (found[1] or "") + re.match(r"(?:\[[^\]]*\]|[^,;])*", it.at())[0].strip()  # type: ignore[index]
+        price = re.sub(rf"\s+(?:{'|'.join(names)})$", "", price)
+        yield f"the objective's name comes after obj: obj {names[0]} {price}", True
+
+
+def check_without_colon(it: Any) -> Hint:
+    if it.text == "model" and [token.text for token in it.statement_before()] == ["check"] and not it.at().startswith((":", "{")):
+        yield "is a : missing after check?", True
+
+
+def colon_range(it: Any) -> Hint:
+    """`{1:last}` and `{t in 1:last}`."""
+    found = re.match(rf"\{{?\s*(?:{NAME}\s+in\s+)?(\w+)\s*:\s*(\w+)\s*[}},]", it.at())
+    if it.text == "model" and found and not found[1].isidentifier():
+        yield f"{found[1]}:{found[2]}: is {found[1]}..{found[2]} meant?", True
+
+
+def nothing_after(it: Any) -> Hint:
+    """`default;`, `>= ,`: a phrase without its value."""
+    found = re.search(r"(\bdefault|\bwithin|\bdimen|\bobj|\bfrom|\bto|:=|<=|>=|[-+*=:(\[])\s*$", it.before)
+    if it.text == "model" and found and it.at()[:1] in (";", ",", "}", "]", ")"):
+        yield f"what comes after {found[1]} is missing", True
+
+
+def tuple_without_comma(it: Any) -> Hint:
+    """`(GOA HAM)` in data."""
+    found = re.search(r"\(\s*([^\s,()]+)\s+$", it.before)
+    if it.text == "data" and found and it.word() not in (",", ")", ";"):
+        yield f"the members of a tuple have commas between them: ({found[1]},{it.word()})", True
+
+
+def braces_in_data(it: Any) -> Hint:
+    if it.text == "data" and it.at()[:1] in ("{", "}"):
+        inside = re.match(r"\{([^}]*)\}", it.at())
+        members = " ".join(re.split(r"[\s,]+", inside[1].strip())) if inside else ""
+        whole = [word[0] for word in TOKEN.finditer(it.before)][-3:]
+        name = whole[1] if whole[:1] == ["set"] and whole[-1] == ":=" else ""
+        yield f"data have no braces{f': set {name} := {members};' if name and members else ''}", True
+
+
+HINTS: tuple = (
+    (("E10",), chained),
+    (("E10", "E14"), reversed_sign),
+    (("E10",), round_subscripts),
+    (("E10",), missing_comma),
+    (("E10",), bounds_in_one),
+    (("E10",), mixed_range),
+    (("E36",), comma_for_colon),
+    (("E10", "E12"), no_objective),
+    (("E10", "E14"), check_without_colon),
+    (("E36",), colon_range),
+    (("E10",), nothing_after),
+    (("E20",), tuple_without_comma),
+    (("E01",), braces_in_data),
+)

@@ -1,0 +1,1 @@
+"""A model with its data and options, in the form that the program takes."""

@@ -1,0 +1,378 @@
+"""A model with its data and options, as the program is asked: it scales decimals, joins data files and changes values if needed."""
+from __future__ import annotations
+
+import os
+import re
+from concurrent.futures import ThreadPoolExecutor
+from fractions import Fraction
+from typing import Any, Sequence
+
+from ..reading.conditions import mark_open_sides
+from ..reading.data import DataText
+from ..reading.edits import EditedText
+from ..errors import DataError, ProgramError, ScaleError
+from ..exact import common_factor, parse_numeral
+from ..reading.model import Shapes, Unparsed, parse, tokens_of
+from ..program import UNREADABLE_FILE, Answer, Session, call
+from .python_data import PythonData, declared_text
+from .scaling import BOUND, Factors, Scaler, scaled_value
+from ..reading.output import Network, read_compiled, read_cut, read_plan, read_prices
+from .decimals import CERTAIN, GRAMMAR, is_decimal, next_error
+from ..reading.text import read
+
+# The beginning of the data of a model with data in one file.
+SECTION = re.compile(r"#[^\n]*|/\*.*?\*/|'(?:[^'\n]|'')*'|\"(?:[^\"\n]|\"\")*\"|;(?:\s|#[^\n]*\n|/\*.*?\*/)*(?P<data>data\s*;)", re.S)
+MAYBE_DECIMAL = re.compile(r"[.eEdD]")
+PLACE = re.compile(r"(E\d\d \w+ (model|data)) (\d+):(\d+)(.*)", re.S)
+
+
+class Input:
+    """A model or data text: a file, or a text in memory. `name` is what the user calls it; `path` can be a copy of a pipe."""
+
+    def __init__(self, path: str | None = None, text: str | None = None, name: str | None = None) -> None:
+        self.path, self.name, self.given = path, path if name is None else name, text
+
+    def text(self) -> str:
+        return self.given if self.given is not None else read(self.path)
+
+
+class Question:
+    """`changes` are sets and parameters by name that replace those of the data; `scale` has factors by parameter; with `add_bounds` an
+    arc without a bound gets one that no plan reaches. `origins` says for a name with a key what the user wrote for the change."""
+
+    def __init__(self, model: Input, data: Sequence[Input] = (), *, objective: str | None = None, changes: dict | None = None,
+                 scale: dict | None = None, add_bounds: bool = False, origins: dict | None = None) -> None:
+        self.model, self.data, self.changes = model, list(data), dict(changes or {})
+        self.scale, self.add_bounds, self.objective = dict(scale or {}), add_bounds, objective
+        self.options = [] if objective is None else ["--objective", objective]
+        self.factors = Factors()
+        self.edited: dict = {}
+        self.origins, self.changed_text = dict(origins or {}), ""
+        self.changed: PythonData | None = None
+        self.session = Session([])
+        self.is_ready = self.is_rewritten = False
+        self.parsed = 0  # how many data texts were parsed when a text could not be
+        self.words: list = []  # the words of a command that asks the same
+
+    def __enter__(self) -> "Question":
+        return self
+
+    def __exit__(self, _: Any, problem: Any, __: Any) -> None:
+        self.session.__exit__()
+        if isinstance(problem, ProgramError):
+            problem.words = self.words
+
+    def prepare(self) -> None:
+        """Chooses the files that the program reads: those that were given, or rewritten ones."""
+        if self.is_ready:
+            return
+        self.is_ready = True
+        self.session.options = self.options
+        for it in (self.model, *self.data):
+            if it.path is not None:
+                it.path = self.session.lasting(it.path)
+        if not self.data:
+            self.split_model()
+        if self.changes or self.scale or self.add_bounds or len(self.data) > 1:
+            self.require_files()
+            failed = self.failed_rewrite()
+            if failed is None:
+                return
+            is_parsed = isinstance(failed, ScaleError)
+            for self.parsed in range(len(self.data)) if is_parsed else [self.parsed]:
+                self.report_text(GRAMMAR if is_parsed else CERTAIN)
+            raise failed if not isinstance(failed, Unparsed) else \
+                DataError(f"the model or its data have a form that options cannot change (offset {failed.offset})")
+        self.use_files()
+
+    def split_model(self) -> None:
+        """Makes the data that follow `data;` in the model the data text, with each word in its line and column."""
+        text = self.model.text()
+        start = next((it.start("data") for it in SECTION.finditer(text) if it["data"]), None)
+        if start is not None:
+            column = start - text.rfind("\n", 0, start) - 1
+            name, data = self.model.name, "\n" * text.count("\n", 0, start) + " " * column + text[start:]
+            self.model, self.data = Input(text=text[:start], name=name), [Input(text=data, name=name)]
+
+    def report_text(self, kinds: re.Pattern) -> None:
+        """Raises the program's error for the model, or for the data text `parsed`, besides its decimals."""
+        above = sum(it.text().count("\n") + 1 for it in self.data[:self.parsed])
+        it = self.data[self.parsed] if self.parsed < len(self.data) else None
+        self.use_files(it)
+        problem = next_error(self.session, kinds)
+        if problem is None:
+            return
+        found = PLACE.fullmatch(problem.message)
+        if not above or it is None or found is None or found[2] == "model":
+            raise problem
+        row, rest = int(found[3]), f"{found[4]}{found[5].rstrip()}"
+        raise ProgramError(problem.status, f"{found[1]} {row}:{rest}\nin {it.name or 'the text'}:{row}:{found[4]}\n", f"{found[1]} {row + above}:{rest}\n")
+
+    def require_files(self) -> None:
+        """Raises the error of the program for the first file that cannot be read."""
+        for kind, it in (("model", self.model), *(("data", it) for it in self.data)):
+            reason = unreadable(it.path) if it.path is not None else ""
+            if reason:
+                raise ProgramError(UNREADABLE_FILE, f"E90 ReadFault {kind}: {it.path}: {reason}\n")
+
+    def use_files(self, data: Input | None = None) -> None:
+        """Gives the program the model and one data text, the first if none is given, as they are."""
+        data = data or (self.data[0] if self.data else Input(os.devnull))
+        self.session.files = [it.path if it.path is not None else self.session.write(it.text()) for it in (self.model, data)]
+
+    def ask(self, command: str) -> Answer:
+        """Calls `solve` or `compile`. When the program meets a decimal, the texts are scaled, or have another error, which is reported."""
+        self.prepare()
+        try:
+            return self.session.ask(command)
+        except ProgramError as problem:
+            if not is_decimal(problem):
+                raise self.placed(problem) from None
+            is_first = not self.is_rewritten
+            failed = self.failed_rewrite() if is_first else None
+            if is_first and failed is None:
+                return self.ask(command)
+            # A forgotten ; can give a parameter values that were not meant for it.
+            found = next_error(self.session, GRAMMAR if isinstance(failed, ScaleError) else CERTAIN)
+            if isinstance(failed, ScaleError) and found is None and not failed.is_numeral:
+                raise failed from None
+            raise self.placed(found or problem) from None
+
+    def failed_rewrite(self) -> Exception | None:
+        """Rewrites the texts; returns why they cannot be, None if they were."""
+        try:
+            self.rewrite()
+        except (Unparsed, ScaleError) as problem:
+            return problem
+        return None
+
+    def placed(self, problem: ProgramError) -> ProgramError:
+        """Returns the error with its place in the text that the user gave."""
+        if problem.message.startswith("E90 "):
+            path = self.model.path if " model" in problem.message else next((it.path for it in self.data if it.path), None)
+            return ProgramError(problem.status, f"{problem.message.rstrip()}: {path}: {unreadable(path)}\n") if path else problem
+        found = PLACE.fullmatch(problem.message)
+        edited = self.edited.get(found[2]) if found else None
+        if not edited or found is None:
+            return problem
+        row, column, above = int(found[3]), int(found[4]), 0
+        if found[2] == "data" and self.change_at(row):
+            line = f"{found[1]} {row}:{column}{found[5].rstrip()}\n"
+            return ProgramError(problem.status, f"{found[1]}{found[5].rstrip()}\nin {self.change_at(row)}\n", line)
+        for part in edited:
+            lines = part.text.count("\n") + 1
+            if row - above <= lines:
+                column = part.original_place(row - above, column)[1]
+                break
+            above += lines
+        line = f"{found[1]} {row}:{column}{found[5].rstrip()}\n"
+        if len(edited) < 2:
+            return ProgramError(problem.status, line)
+        path, place = self.source_of(row)
+        return ProgramError(problem.status, f"{found[1]} {place}:{column}{found[5].rstrip()}\nin {path or 'the text'}:{place}:{column}\n", line)
+
+    def source_of(self, row: int) -> tuple:
+        """Returns the name of the file of a line of the joined data with the line in that file; (None, 0) for a change."""
+        if self.change_at(row):
+            return None, 0
+        for part in self.data[:-1]:
+            lines = part.text().count("\n") + 1
+            if row <= lines:
+                return part.name, row
+            row -= lines
+        return (self.data[-1].name if self.data else None), row
+
+    def rows_of_data(self) -> int:
+        return sum(it.text().count("\n") + 1 for it in self.data)
+
+    def change_at(self, row: int) -> str:
+        """Returns in words which change a line of the joined data is; an empty text for a line of a file."""
+        row -= self.rows_of_data()
+        if self.changed is None or row <= 0 or not self.changed.origins:
+            return ""
+        name, key, _ = self.changed.place(row)
+        return self.origins.get((name, key)) or next((said for (other, _), said in self.origins.items() if other == name and not key), "") \
+            or self.changed.described(row)
+
+    def is_from_python(self) -> bool:
+        """Whether values are given by Python, not by options of a command."""
+        return self.changed is not None and bool(self.changes) and not self.origins
+
+    def value_at(self, row: int) -> tuple:
+        """Returns the name, the key and the value of the change in a line of the joined data."""
+        return self.changed.place(row - self.rows_of_data()) if self.changed is not None else ("", None, None)
+
+    def written(self, row: int) -> str:
+        """Returns a change as Python writes it, or the option; an empty text if it has no value."""
+        name, key, value = self.value_at(row)
+        if value is None or self.origins:
+            return self.change_at(row) if self.origins else ""
+        key_text = f"[{', '.join(map(repr, key))}]" if key else ""
+        return f"{name}{key_text} = {str(value) if isinstance(value, Fraction) else repr(value)}"
+
+    def network(self, with_prices: bool = False) -> tuple:
+        """Returns the answer of `solve` and the network with the plan; with prices too if asked for."""
+        self.prepare()
+        was_rewritten = self.is_rewritten
+        with ThreadPoolExecutor(2) as calls:
+            # The program solves the model and finds prices while this process reads the network.
+            solving = calls.submit(self.session.ask, "solve")
+            compiled = self.ask("compile").text
+            if self.is_rewritten != was_rewritten:
+                solving = calls.submit(self.session.ask, "solve")
+            pricing = calls.submit(call, ["min", "/dev/stdin"], compiled) if with_prices else None
+            net = read_compiled(compiled)
+            try:
+                answer = solving.result()
+            except ProgramError as problem:
+                raise self.placed(problem) from None
+            mark_open_sides(net, self.model.text())
+            if answer.status == 0:
+                read_plan(answer.text, net)
+                self.check_bounds(net)
+            else:
+                net.cut = read_cut(answer.text, net)
+            net.divide(self.factors)
+            if pricing is not None and answer.status == 0:
+                read_prices(pricing.result().text, net)
+        return answer, net
+
+    def check_bounds(self, net: Network) -> None:
+        """Raises Unbounded if an added bound is what limits the objective."""
+        if self.add_bounds:
+            from ..graphs import require_bounded
+            require_bounded(net)
+
+    # Rewriting
+
+    def rewrite(self) -> None:
+        """Writes the model and the data in whole numbers, with the changes, and one data text."""
+        self.is_rewritten, self.parsed = True, 0
+        model = self.model.text()
+        decls = parse(model)
+        shapes = Shapes(decls, model)
+        params = {it.name: shapes.keys[it.name] for it in decls if it.kind == "param"}
+        pieces: list = []
+        for it in self.data:
+            pieces.append(DataText(it.text(), params, shapes.sets))
+            self.parsed += 1
+        # On the command line quotes say what is a text.
+        changes = PythonData(self.changes, shapes.sets, params, None if self.origins else texts_of(model, pieces), shapes)
+        edits = [Overrides(pieces, changes).edits(it) for it in pieces]
+        needed = self.needed(pieces, changes, edits)
+        unknown = {name: factor for name, factor in needed.items() if name not in params}
+        for name, factor in self.scale.items():
+            if name not in params:
+                raise DataError(f"scale of {name}: the model declares no such parameter{declared_text(shapes, name, 'param')}")
+            needed[name] = factor
+        factors, model_edits = Scaler(decls, needed, self.objective, self.add_bounds).scale()
+        self.factors = factors
+        # Decimals of names that the model lacks are scaled too, so that the program reports the name.
+        scaled = {**unknown, **factors.parameters}
+        model_edits += [self.dropped(model, it) for it in decls if it.name in self.changes and it.phrase(":=")]
+        self.edited = {"model": [EditedText(model, model_edits)], "data": []}
+        for piece, made in zip(pieces, edits):
+            self.edited["data"].append(EditedText(piece.text, made + self.scaled_cells(piece, made, scaled)))
+        self.changed, self.changed_text = changes, changes.text(self.factors.parameters, self.add_bounds)
+        text = "\n".join([*(it.text for it in self.edited["data"]), self.changed_text])
+        self.session.files = [self.session.write(self.edited["model"][0].text), self.session.write(text)]
+
+    @staticmethod
+    def dropped(model: str, decl: Any) -> tuple:
+        """The edit that takes a `:=` out of the model, since a change gives the value."""
+        phrase = decl.phrase(":=")
+        before = model[:phrase.start].rstrip()
+        start = len(before) - 1 if before.endswith(",") else phrase.start
+        return start, phrase.end, re.sub(r"[^\n]", " ", model[start:phrase.end]) if "\n" in model[start:phrase.end] else ""
+
+    def needed(self, pieces: list, changes: PythonData, edits: list) -> dict:
+        """The factor that makes the values of each parameter whole."""
+        values: dict = {name: changes.numbers(name) for name in changes.params}
+        for piece, made in zip(pieces, edits):
+            gone = {start for start, _, _ in made}
+            for name, token in tokens_with_numbers(piece):
+                number = parse_numeral(token.text) if token.start not in gone and MAYBE_DECIMAL.search(token.text) else None
+                if number is not None:
+                    values.setdefault(name, []).append(number)
+        return {name: common_factor(it) for name, it in values.items()}
+
+    def scaled_cells(self, piece: DataText, made: list, factors: dict) -> list:
+        gone, found = {start for start, _, _ in made}, []
+        for name, token in tokens_with_numbers(piece):
+            factor = factors.get(name, 1)
+            if token.start in gone or token.kind != "word":
+                continue
+            if token.text in ("Infinity", "-Infinity") and self.add_bounds:
+                found.append((token.start, token.end, token.text.replace("Infinity", str(BOUND))))
+                continue
+            if factor != 1 or name in self.scale:
+                number = parse_numeral(token.text)
+                if number is not None:
+                    found.append((token.start, token.end, str(scaled_value(name, number, factor))))
+        return found
+
+
+def unreadable(path: str) -> str:
+    """Returns why a file cannot be read; an empty text if it can be."""
+    try:
+        with open(path, "rb") as file:
+            file.read(1)
+    except OSError as problem:
+        return problem.strerror or str(problem)
+    return ""
+
+
+def tokens_with_numbers(piece: DataText) -> list:
+    found = []
+    for statement in piece.statements:
+        found += [(it.name, it.token) for it in statement.cells if it.token.kind == "word"]
+        if statement.default is not None:
+            found.append((statement.name, statement.default))
+    return found
+
+
+def texts_of(model: str, pieces: list) -> set:
+    """Returns the texts that a model and its data have as members."""
+    return {it.text[1:-1].replace(it.text[0] * 2, it.text[0]) for it in tokens_of(model) if it.text[0] in "'\""} | \
+        {part for piece in pieces for statement in piece.statements for part in statement.members}
+
+
+class Overrides:
+    """What later data replace: cells by name and key, sets and defaults by name."""
+
+    def __init__(self, pieces: list, changes: PythonData) -> None:
+        self.pieces, self.changes = pieces, changes
+
+    def edits(self, piece: DataText) -> list:
+        """Returns the edits that take out of a data text what later ones say, and its frame, `data;` and `end;`."""
+        cells, sets, defaults = set(), set(self.changes.sets), set()
+        cells |= {(name, key) for name, rows in self.changes.params.items() for key in rows}
+        for it in self.pieces[self.pieces.index(piece) + 1:]:
+            cells |= {(cell.name, cell.key) for cell in it.cells()}
+            sets |= {st.name if st.kind == "set" else st.set_name for st in it.statements}
+            defaults |= {st.name for st in it.statements if st.default is not None}
+        found = [blank(piece.text, it.start, it.end) for it in piece.frame]
+        for statement in piece.statements:
+            if statement.kind == "set" and statement.name in sets:
+                found += blanks(piece.text, statement.start, statement.end)
+                continue
+            if statement.set_name and statement.set_name in sets:
+                found += [blank(piece.text, it.start, it.end) for it in statement.set_tokens]
+            if statement.default is not None and statement.name in defaults:
+                found += [blank(piece.text, it.start, it.end) for it in (statement.default_word, statement.default)]
+            found += [(it.token.start, it.token.end, ".") for it in statement.cells if (it.name, it.key) in cells]
+        return found
+
+
+def blank(text: str, start: int, end: int) -> tuple:
+    return start, end, " " * (end - start)
+
+
+def blanks(text: str, start: int, end: int) -> list:
+    """Blanks in place of a part of a text, line by line."""
+    found, at = [], start
+    for line in text[start:end].split("\n"):
+        if line:
+            found.append(blank(text, at, at + len(line)))
+        at += len(line) + 1
+    return found

@@ -1,0 +1,262 @@
+"""Turns Python values into the sets and parameters of a model: dicts, lists of tuples, rows, and objects of pandas."""
+from __future__ import annotations
+
+import difflib
+from fractions import Fraction
+from typing import Any, Iterable
+
+from ..reading.data import KEY_NUMBER, member_text, set_statement
+from ..errors import DataError
+from ..exact import as_fraction, parse_numeral
+from ..reading.model import Shapes
+from .scaling import BOUND, scaled_value
+from ..reading.text import few
+
+# The title that pandas gives to a column without one, as the first column of a grid in a file.
+UNNAMED = "Unnamed: 0"
+OPTIONS = ("objective", "scale", "bounds")
+FORMS = "give a dict by key, a list of tuples (key, .., value), a list of dicts, or a Series or DataFrame of pandas"
+
+
+class Layers(list):
+    """Several values of one set or parameter: a later one replaces a set as a whole, and a parameter key by key."""
+
+
+def override(values: dict, others: Any) -> None:
+    """Adds sets and parameters to those of a dict, which they override."""
+    for name, value in others.items():
+        before = values.get(name)
+        values[name] = Layers([*(before if isinstance(before, Layers) else [before]), value]) if name in values else value
+
+
+class PythonData:
+    """Sets and parameters by name; `sets` are lists of tuples, `params` dicts from keys to a Fraction or a text. `origins` has for each
+    line of the text what it says: a name, with the key of its value or the member, or None if the line is a statement's first or last.
+
+    A part of a key that is a text in the form of a number becomes that number, unless a set has the text as a member: `texts` are those
+    of the model and of data texts. With None every text stays one."""
+
+    def __init__(self, values: dict, sets: dict, keys: dict, texts: set | None = None, shapes: Shapes | None = None) -> None:
+        shapes = shapes or Shapes([])
+        layers = {name: value if isinstance(value, Layers) else Layers([value]) for name, value in values.items()}
+        self.sets: dict = {name: members_of(name, value[-1], sets[name]) for name, value in layers.items() if name in sets}
+        self.params: dict = {}
+        self.origins: list = []
+        kept = None if texts is None else texts | {part for rows in self.sets.values() for row in rows for part in row}
+        for name, given in layers.items():
+            if name in keys:
+                self.params[name] = {key: it for value in given for key, it in rows_of(name, value, keys[name], kept, shapes.head(name)).items()}
+            elif name not in sets:
+                raise DataError(f"{name}: the model declares no such set or parameter{declared_text(shapes, name, 'set', 'param')}")
+
+    def numbers(self, name: str) -> list:
+        return [it for it in self.params[name].values() if isinstance(it, Fraction)]
+
+    def text(self, factors: dict, add_bounds: bool) -> str:
+        """Returns the statements, the numbers times the factors of their parameters."""
+        parts = [set_statement(name, members) for name, members in self.sets.items()]
+        self.origins = [(name, it) for name, rows in (*self.sets.items(), *self.params.items()) for it in (None, *rows, None)]
+        for name, rows in self.params.items():
+            factor = factors.get(name, 1)
+            lines = [" ".join([*map(member_text, key), self.value_text(name, value, factor, add_bounds)]) for key, value in rows.items()]
+            parts.append("\n".join([f"param {name} :=", *lines, ";"]) + "\n")
+        return "".join(parts)
+
+    def place(self, row: int) -> tuple:
+        """Returns the name, the key or member, and the value of a line of the text, counted from 1."""
+        name, key = self.origins[min(row, len(self.origins)) - 1]
+        return name, key, self.params.get(name, {}).get(key)
+
+    def described(self, row: int) -> str:
+        """Returns what a line of the text says: `the value of van`, `key ('north', 'hill') of cost`, `member 'hill' of SHOPS`."""
+        name, key, _ = self.place(row)
+        if not key:
+            return f"{'the members' if name in self.sets else 'the value' if key == () else 'the values'} of {name}"
+        return f"{'member' if name in self.sets else 'key'} {key_text(key)} of {name}"
+
+    def value_text(self, name: str, value: Any, factor: int, add_bounds: bool) -> str:
+        if isinstance(value, Fraction):
+            return str(scaled_value(name, value, factor))
+        if isinstance(value, float):
+            if not add_bounds:
+                raise DataError(f"{name}: {value} is no number of a model; bounds=True adds a bound that no plan reaches")
+            return str(BOUND if value > 0 else -BOUND)
+        return member_text(value)
+
+
+def members_of(name: str, value: Any, size: int) -> list:
+    """Returns the members of a set as tuples."""
+    if isinstance(value, str) or not hasattr(value, "__iter__"):
+        members = value.replace(",", " ").split() if isinstance(value, str) else [value]
+        raise DataError(f"set {name}: {value!r} is {'a text' if isinstance(value, str) else 'no list'}; expected a list of members, such as {members!r}")
+    if is_frame(value):
+        if len(value.columns) != size:
+            raise DataError(f"set {name}: the table has {parts(value.columns, 'column')}; expected {size}, one for each part of a member")
+        value = value.itertuples(index=False, name=None)
+    found = [tuple(plain(part, f"set {name}") for part in (it if is_row(it) else (it,))) for it in value]
+    seen = set()
+    for it in found:
+        if len(it) != size:
+            raise DataError(f"set {name}: the member {key_text(it)} has {parts(it)}; expected {size}")
+        if it in seen:
+            raise DataError(f"set {name}: the member {key_text(it)} is given twice")
+        seen.add(it)
+    return found
+
+
+def key_text(key: tuple) -> str:
+    """Returns a key as Python writes it; one of one part without parentheses."""
+    return repr(key[0]) if len(key) == 1 else repr(key)
+
+
+def plain(member: Any, owner: str) -> Any:
+    """Returns a member as an int or a str; `owner` is the set or parameter that an error names."""
+    if isinstance(member, str) or (isinstance(member, int) and not isinstance(member, bool)):
+        return member
+    number = as_fraction(member)
+    if number is not None and number.denominator == 1 and not isinstance(member, bool):
+        return int(number)
+    raise DataError(f"{owner}: {member!r} is no member: a member is a whole number or a text, so use str(..)")
+
+
+def parts(row: Any, what: str = "part") -> str:
+    """Returns how many parts there are, in words."""
+    return f"{len(row)} {what}{'s' * (len(row) != 1)}"
+
+
+def declared_text(shapes: Shapes, name: str, *kinds: str) -> str:
+    """Returns which name of the model is probably meant by an unknown one, or what the model declares by these words."""
+    known = [it for kind in kinds for it in shapes.names(kind)]
+    meant = difflib.get_close_matches(name, known, 1, 0.6)
+    if meant:
+        return f"; is {meant[0]} meant?"
+    if name in shapes.decls:
+        return f": {name} is {'an' if shapes.decls[name].kind == 'arc' else 'a'} {shapes.decls[name].kind}, and only sets and parameters have data"
+    option = difflib.get_close_matches(name, OPTIONS, 1, 0.7)
+    if option:
+        return f"; is the option {option[0]} meant?"
+    return f"; it has {few(known, 8)}" if known else ""
+
+
+def rows_of(name: str, value: Any, size: int, texts: set | None, head: str) -> dict:
+    """Returns the values of a parameter by key; a missing value (None, NaN) has no entry. `texts` are members that stay texts; `head` is
+    the name with the braces of its declaration."""
+    found: dict = {}
+    seen = set()
+    for key, it in pairs_of(name, value, size):
+        key = tuple(key_part(plain(part, f"param {name}"), texts) for part in key)
+        if len(key) != size:
+            raise DataError(f"param {name}: the key {key_text(key)} has {parts(key)}; expected {size}, one member for each index of {head}" if size else
+                            f"param {name}: {name} has one value and no keys; expected a number or a text, not the key {key_text(key)}")
+        if key in seen:
+            raise DataError(f"param {name}: the key {key_text(key)} is given twice")
+        seen.add(key)
+        made = value_of(name, it)
+        if made is not None:
+            found[key] = made
+    return found
+
+
+def key_part(part: Any, texts: set | None) -> Any:
+    """Returns a part of a key as a member: a text as its number, as a sheet has it, unless it is in `texts`, or these are None."""
+    is_number = texts is not None and isinstance(part, str) and part not in texts and KEY_NUMBER.fullmatch(part)
+    return int(part) if is_number else part
+
+
+def value_of(name: str, value: Any) -> Any:
+    """Returns a number as a Fraction, a text, an infinite float, or None for a missing value."""
+    if is_missing(value):
+        return None
+    if isinstance(value, str):
+        number = parse_numeral(value)
+        return value if number is None else number
+    number = as_fraction(value)
+    if number is not None:
+        return number
+    if isinstance(value, float) or hasattr(value, "__float__"):
+        return float(value)
+    raise DataError(f"param {name}: {value!r} is no value; expected a number (int, float, Fraction or Decimal) or a text")
+
+
+def is_missing(value: Any) -> bool:
+    """Whether a value is None, NaN, or pandas' NA, whose comparisons have no truth value."""
+    try:
+        return value is None or bool(value != value)
+    except TypeError:
+        return True
+    except ValueError:
+        return False  # an array
+
+
+def is_frame(value: Any) -> bool:
+    """Whether a value is a DataFrame of pandas."""
+    return hasattr(value, "columns") and hasattr(value, "itertuples")
+
+
+def is_row(value: Any) -> bool:
+    """Whether a member is a tuple, a list, or a row of an array."""
+    return isinstance(value, (tuple, list)) or bool(getattr(value, "ndim", 0))
+
+
+def pairs_of(name: str, value: Any, size: int) -> Iterable[tuple]:
+    """Yields keys (tuples) and values."""
+    if is_frame(value):
+        return frame_pairs(name, value, size)
+    if size == 0 and hasattr(value, "items") and hasattr(value, "index") and len(value) == 1:
+        return [((), it) for it in value]  # a Series with one value
+    if hasattr(value, "items"):
+        return flat(value, size)
+    if size == 0:
+        return [((), value)]
+    if isinstance(value, str) or not hasattr(value, "__iter__"):
+        raise DataError(f"param {name}: {value!r} has no keys; expected a key of {parts(range(size))} for each value: {FORMS}")
+    return row_pairs(name, value, size)
+
+
+def flat(value: Any, size: int) -> Iterable[tuple]:
+    """The entries of a dict, or of dicts in a dict."""
+    for key, it in value.items():
+        key = tuple(key) if isinstance(key, (tuple, list)) else (key,)
+        if hasattr(it, "items"):
+            yield from ((key + inner, leaf) for inner, leaf in flat(it, size - len(key)))
+        else:
+            yield key, it
+
+
+def frame_pairs(name: str, frame: Any, size: int) -> Iterable[tuple]:
+    """A pandas DataFrame: a column of values with the keys in the index or in other columns, or a grid of two keys."""
+    if list(frame.columns[:1]) == [UNNAMED]:
+        frame = frame.set_index(UNNAMED)
+    columns, index = list(frame.columns), frame.index
+    # The index has keys unless it only numbers the rows, as it does after a file is read or rows are chosen.
+    has_keys = index.nlevels > 1 or index.name is not None or index.dtype.kind not in "iu"
+    if name in columns:
+        if size and (index.nlevels >= size if has_keys else len(columns) <= size):
+            return flat(frame[name], size)
+        frame = frame.reset_index() if has_keys and size else frame
+        keys = [it for it in frame.columns if it != name][:size]
+        return [(row[:-1], row[-1]) for row in frame[[*keys, name]].itertuples(index=False, name=None)]
+    if len(columns) == 1:
+        return flat(frame[columns[0]], size)
+    if size == 2 and index.nlevels == 1 and (has_keys or all(isinstance(it, int) for it in columns)):
+        return [((row, column), it) for column in columns for row, it in frame[column].items()]
+    grid = ", or make the first key the index of a grid" if size == 2 else ""
+    raise DataError(f"param {name}: the table has no column {name!r}: give the column of its values this name{grid}")
+
+
+def row_pairs(name: str, rows: Iterable, size: int) -> Iterable[tuple]:
+    for row in rows:
+        if hasattr(row, "items"):
+            keys = [it for title, it in row.items() if title != name]
+            if name not in row:
+                raise DataError(f"param {name}: the row {row!r} has no column {name!r}; expected the value in a column of this name")
+            if len(keys) < size:
+                raise DataError(f"param {name}: the row {row!r} has {parts(keys, 'column')} for the key; expected {size}")
+            yield tuple(keys[:size]), row[name]
+        else:
+            if isinstance(row, str) or not hasattr(row, "__iter__"):
+                raise DataError(f"param {name}: {row!r} in the list has no key; expected a key of {parts(range(size))} and a value: {FORMS}")
+            row = tuple(row)
+            if len(row) != size + 1:
+                raise DataError(f"param {name}: {row!r} has {parts(row)}; expected {size + 1}, the key and the value")
+            yield row[:-1], row[-1]

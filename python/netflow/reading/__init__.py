@@ -1,0 +1,1 @@
+"""Reads the texts of models and data, and what the program prints."""

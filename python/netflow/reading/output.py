@@ -1,0 +1,386 @@
+"""Reads what netflow prints: compiled models, plans, cuts and certificates, by the documented grammar.
+
+Output that does not follow the grammar raises Unreadable; nothing is guessed.
+"""
+from __future__ import annotations
+
+import dataclasses
+import functools
+import itertools
+import operator
+import re
+
+from ..errors import Unreadable
+from ..exact import Number, divided
+from ..inputs.scaling import BOUND, Factors
+
+NUMBER = r"(?:0|-?[1-9][0-9]*)"
+MEMBER = rf"(?:'(?:[^']|'')*'|{NUMBER})"
+MEMBERS = re.compile(MEMBER)
+NAME = re.compile(r"[^\[\] ']+")
+KEY = re.compile(rf"{MEMBER}(?:,{MEMBER})*")
+OUTSIDE = "the outside"
+
+
+class Arc:
+    """An arc of the model. `src` and `dst` are node indices from 0, None for the outside. `worth` is the reduced cost: by how much
+    one more unit on the arc makes the value worse, at the current node prices. `is_open` if the model gives it no upper bound."""
+
+    __slots__ = ("text", "name", "key", "src", "dst", "lower", "upper", "price", "flow", "worth", "is_open")
+
+    def __init__(self, text, name, key, src, dst, lower, upper, price):
+        self.text, self.name, self.key, self.src, self.dst = text, name, key, src, dst
+        self.lower, self.upper, self.price = lower, upper, price
+        self.flow, self.worth, self.is_open = 0, 0, upper == BOUND
+
+    def is_full(self):
+        return self.flow == self.upper and self.lower < self.upper
+
+    def is_tight(self):
+        """Whether the arc is full and more capacity would help; a bound that no plan feels is not tight."""
+        return self.is_full() and self.worth < 0
+
+    def is_lowest(self):
+        return self.flow == self.lower and 0 < self.lower < self.upper
+
+    def most(self):
+        """The upper bound as a text."""
+        return "no limit" if self.is_open else str(self.upper)
+
+
+@dataclasses.dataclass
+class Node:
+    """A node of the model: its net inflow is from `low` to `high`, and its arcs allow it from `fewest` to `greatest`. If the model
+    leaves a side open, the compiled model has what the arcs allow in its place; `is_low_open` and `is_high_open` say so if the text of
+    the model is known. `worth` is the node's price: by how much one more required unit makes the value worse, at least."""
+
+    text: str
+    low: Number = 0
+    high: Number = 0
+    fewest: Number = 0
+    greatest: Number = 0
+    inflow: Number = 0
+    worth: Number = 0
+    is_low_open: bool = False
+    is_high_open: bool = False
+
+    def has_low(self):
+        """Whether the low side requires more than the arcs bring in any case."""
+        return self.low > self.fewest
+
+    def has_high(self):
+        return self.high < self.greatest
+
+    def wish(self):
+        """Returns what the node needs or gives, in a few words; an empty text for a node that passes on what it gets."""
+        low, high = self.low, self.high
+        if low == high:
+            return f"needs {low}" if low > 0 else f"gives {-low}" if low < 0 else ""
+        is_low, is_high = low != min(high, self.fewest), high != max(low, self.greatest)
+        if is_low and is_high:
+            return between(low, high)
+        if is_low:
+            return f"needs {low} or more" if low > 0 else f"gives up to {-low}"
+        if is_high:
+            return f"takes up to {high}" if high >= 0 else f"gives {-high} or more"
+        return "takes or gives what comes"
+
+
+def between(low, high):
+    if low >= 0:
+        return f"needs {low} to {high}" if low else f"takes up to {high}"
+    if high <= 0:
+        return f"gives {-high} to {-low}" if high else f"gives up to {-low}"
+    return f"gives up to {-low} or takes up to {high}"
+
+
+class Network:
+    """Nodes and arcs with the model's own bounds and prices. `problem` is the problem's text without comments; `declarations` are the
+    names of a plan's declarations of arcs, each with whether it is a table; `factors` are those of a scaled model."""
+
+    def __init__(self):
+        self.nodes, self.arcs, self.problem, self.declarations = [], [], "", []
+        self.constant, self.sign, self.objective, self.value = 0, 1, "", 0
+        self.factors = Factors()
+        # The side and the node indices of a cut, if there is no plan.
+        self.cut = None
+
+    @functools.cached_property
+    def lines(self):
+        """The lines of the problem."""
+        return lines_of(self.problem)
+
+    def divide(self, factors: Factors) -> None:
+        """Brings the numbers of a scaled model back to those of the model; `problem` stays as it is."""
+        self.factors = factors
+        if factors.is_plain():
+            return
+        self.value = divided(self.value, factors.value)
+        for arc in self.arcs:
+            arc.lower, arc.upper, arc.flow = (divided(it, factors.flow) for it in (arc.lower, arc.upper, arc.flow))
+            arc.price = divided(arc.price, factors.cost)
+        for node in self.nodes:
+            node.low, node.high, node.inflow = (divided(it, factors.flow) for it in (node.low, node.high, node.inflow))
+            node.fewest, node.greatest = divided(node.fewest, factors.flow), divided(node.greatest, factors.flow)
+
+    def end(self, number):
+        return OUTSIDE if number is None else self.nodes[number].text
+
+    @functools.cached_property
+    def _declared(self):
+        found = {}
+        for name, arcs in itertools.groupby(self.arcs, operator.attrgetter("name")):
+            found.setdefault(name, []).extend(arcs)
+        return found
+
+    def declared(self):
+        """Returns the arcs by the names of their declarations, in the model's order."""
+        return self._declared
+
+
+class Members(dict):
+    """Members by their printed texts. It grows as keys are read, since many keys have few members."""
+
+    def __missing__(self, text):
+        if not MEMBERS.fullmatch(text):
+            raise KeyError(text)
+        found = self[text] = text[1:-1].replace("''", "'") if text.startswith("'") else int(text)
+        return found
+
+    def key(self, text):
+        """Returns the members of a key as it is printed, texts without their quotes; None if it is no key."""
+        if not text:
+            return []
+        try:
+            # A comma inside a member leaves an odd number of quotes on both sides, and so no member.
+            return list(map(self.__getitem__, text.split(",")))
+        except KeyError:
+            return list(map(self.__getitem__, MEMBERS.findall(text))) if KEY.fullmatch(text) else None
+
+
+def members(text):
+    """Returns the members of a key as it is printed; None if it is no key."""
+    return Members().key(text)
+
+
+def shown(it):
+    """Returns a member as netflow prints it."""
+    return str(it) if isinstance(it, int) else "'" + it.replace("'", "''") + "'"
+
+
+def reference(text):
+    """Returns the name and the key of `Ship['PITT','NE']`."""
+    (name,), (key,) = references([text])
+    return name, key
+
+
+def references(texts):
+    """Returns the names and the keys of references such as `Ship['PITT','NE']`."""
+    known, names, found, keys = Members(), {}, [], []
+    for text in texts:
+        name, bracket, key = text.partition("[")
+        parts = known.key(key[:-1]) if key[-1:] == "]" or not bracket else None
+        if parts is None or name not in names and not NAME.fullmatch(name):
+            raise Unreadable(f"{text!r} is no node and no arc")
+        found.append(names.setdefault(name, name))
+        keys.append(parts)
+    return found, keys
+
+
+def lines_of(text):
+    """Returns the lines of printed text; a name can have characters that `splitlines` takes for line ends."""
+    return text.split("\n")[:-1] if text.endswith("\n") else text.split("\n")
+
+
+def numbers(words):
+    try:
+        return list(map(int, words))
+    except ValueError:
+        raise Unreadable(f"{' '.join(words)!r} has a word that is no number") from None
+
+
+def columns(text, mark, width):
+    """Returns the numbers of lines of one kind, which begin with its mark, column by column."""
+    count = text.count("\n") + (text[-1:] not in ("", "\n"))
+    words = text.rstrip("\n").replace("\n", " ").split(" ") if text else []
+    if words[::width + 1] != [mark] * count or len(words) != count * (width + 1):
+        raise Unreadable(f"a line that begins with {mark!r} and has {width} numbers was expected")
+    return [numbers(words[place::width + 1]) for place in range(1, width + 1)]
+
+
+def beginning(text, mark, start=0):
+    """Returns the place of the first line, from a line's start on, that begins with the mark; the text's end if there is none."""
+    if text.startswith(mark, start):
+        return start
+    place = text.find(f"\n{mark}", start)
+    return len(text) if place < 0 else place + 1
+
+
+def read_compiled(text):
+    """Returns the network of a compiled model (without --lean)."""
+    net = Network()
+    # Comments come first, then the line with the counts, supplies, and arcs.
+    start = beginning(text, "p ")
+    net.problem = text[start:]
+    links, lines = [], lines_of(text[:start])
+    for line in lines:
+        if line.startswith("c arc ") and line.count(" ") > 3:
+            links.append(line.split(" ", 4))
+        else:
+            read_link(line, net)
+    arcs = beginning(text, "a ", start)
+    drawn = columns(text[arcs:], "a", 5)
+    place_arcs(net, [it[4] for it in links], numbers([it[3] for it in links]), drawn)
+    nodes, amounts = columns(text[text.find("\n", start) + 1:arcs], "n", 2)
+    place_nodes(net, dict(zip(nodes, amounts)), zip(drawn[0][len(links):], drawn[3][len(links):]))
+    return net
+
+
+def read_link(line, net):
+    """Reads a comment line of a compiled model that is not of an arc."""
+    kind, rest = line[2:].split(" ", 1)
+    if kind == "node":
+        net.nodes.append(Node(rest.split(" ", 1)[1]))
+    elif kind == "constant":
+        net.constant = int(rest)
+    elif kind == "sign":
+        net.sign = int(rest)
+    else:
+        raise Unreadable(f"{line!r} is no line of a compiled model")
+
+
+def place_arcs(net, texts, offsets, drawn):
+    """Makes the arcs from their names and offsets: ends, bounds without the offsets, prices, and what they allow at each node."""
+    outside, sign = len(net.nodes), net.sign
+    srcs, dsts, leasts, mosts, costs = (it[:len(texts)] for it in drawn)
+    if len(costs) < len(texts):
+        raise Unreadable("the problem has fewer arcs than the model")
+    if any(offsets):
+        leasts, mosts = (list(map(operator.add, it, offsets)) for it in (leasts, mosts))
+    prices = costs if sign > 0 else [sign * it for it in costs]
+    place = [*range(-1, outside), *[None] * (max(srcs + dsts, default=0) - outside)]  # of the ends, which are counted from 1
+    ends = ([place[it] for it in side] for side in (srcs, dsts))
+    net.arcs = list(map(Arc, texts, *references(texts), *ends, leasts, mosts, prices))
+    low, fewest, greatest = ([0] * len(place) for _ in range(3))
+    for src, dst, least, most, offset in zip(srcs, dsts, leasts, mosts, offsets):
+        fewest[src] -= most
+        greatest[dst] += most
+        if least:
+            fewest[dst] += least
+            greatest[src] -= least
+        if offset:
+            low[src] -= offset
+            low[dst] += offset
+    for node, *sums in zip(net.nodes, low[1:], fewest[1:], greatest[1:]):
+        node.low, node.fewest, node.greatest = sums
+
+
+def place_nodes(net, supplies, rooms):
+    """Sets the bounds of each node's net inflow: what the offsets bring minus the supply, and the range above it."""
+    for number, node in enumerate(net.nodes, 1):
+        node.low -= supplies.get(number, 0)
+        node.high = node.low
+    for src, cap in rooms:
+        net.nodes[src - 1].high += cap
+
+
+def read_plan(text, net):
+    """Sets the network's objective, value and flows; every line has to be that of the expected arc."""
+    lines, line = lines_of(text), 1
+    net.objective, net.value = valued(lines[0])
+    arcs, at = net.arcs, 0
+    while line < len(lines):
+        name, is_table = lines[line][:-3], lines[line].endswith(" :=")
+        if is_table:
+            count = next((here for here in range(at, len(arcs)) if arcs[here].name != name), len(arcs)) - at
+            found = [it.rpartition(" ") for it in lines[line + 1:line + 1 + count]]
+            keys, flows = [it[0] for it in found], [it[2] for it in found]
+            if lines[line + 1 + count:line + 2 + count] != [";"]:
+                raise Unreadable(f"the table of {name} does not end after {count} arcs")
+        else:
+            name, flow = valued(lines[line])
+            count, keys, flows = 1, [""], [flow]
+        if "\n".join(keys) != plan_keys(arcs[at:at + count]) or not is_table and [it.name for it in arcs[at:at + 1]] != [name]:
+            raise Unreadable(f"the plan has other arcs of {name} than the model")
+        net.declarations.append((name, is_table))
+        take_flows(net, arcs[at:at + count], numbers(flows))
+        at, line = at + count, line + (count + 2 if is_table else 1)
+    if at != len(arcs):
+        raise Unreadable("the plan ends before its last arc")
+
+
+def plan_keys(arcs):
+    """Returns the keys of a declaration's arcs as a plan prints them, one a line."""
+    start = len(arcs[0].name) + 1 if arcs else 0
+    keys = "\n".join([it.text[start:-1] for it in arcs])
+    if keys.count(",") <= sum([len(it.key) for it in arcs]) - len(arcs):
+        return keys.replace(",", " ")
+    # A comma inside a member stays a comma.
+    return "\n".join([" ".join(map(shown, it.key)) for it in arcs])
+
+
+def take_flows(net, arcs, flows):
+    """Sets the flows of arcs, and adds them to the net inflows of their ends."""
+    nodes = net.nodes
+    for arc, flow in zip(arcs, flows):
+        if flow:
+            arc.flow = flow
+            if arc.src is not None:
+                nodes[arc.src].inflow -= flow
+            if arc.dst is not None:
+                nodes[arc.dst].inflow += flow
+
+
+def valued(line):
+    found = re.fullmatch(rf"(\S+) = ({NUMBER})", line)
+    if not found:
+        raise Unreadable(f"{line!r} gives no name a number")
+    return found[1], int(found[2])
+
+
+def divided_cut(text: str, net: Network) -> str:
+    """Returns a cut in netflow's form, its two numbers divided by the factor of flows."""
+    first, second, *nodes = text.split("\n")
+    side, *numbers = second.split(" ")
+    return "\n".join([first, " ".join([side, *(str(divided(int(it), net.factors.flow)) for it in numbers)]), *nodes])
+
+
+def read_cut(text, net):
+    """Returns the side and the node indices of a cut. A set that contains the outside is replaced by its complement, which shows the
+    same from the other side."""
+    lines = lines_of(text)
+    if lines[:1] != ["infeasible"] or not re.fullmatch(rf"(?:over|under) {NUMBER} {NUMBER}", lines[1]):
+        raise Unreadable("a cut was expected")
+    places = {node.text: number for number, node in enumerate(net.nodes)}
+    side, inside = lines[1].split(" ")[0], {places[it[5:]] for it in lines[2:] if it.startswith("node ")}
+    if lines[-1] != "outside":
+        return side, inside
+    return {"over": "under", "under": "over"}[side], set(range(len(net.nodes))) - inside
+
+
+def read_prices(certificate, net):
+    """Sets the worth of nodes and arcs from the potentials of a certificate; that of the outside is 0. The network is divided."""
+    found = columns(certificate[beginning(certificate, "v "):], "v", 2)[1]
+    if len(found) != len(net.nodes) + 1:
+        raise Unreadable("the certificate has another number of potentials than there are nodes")
+    worths = [divided(it - found[-1], net.factors.cost) for it in found]
+    for number, (node, it) in enumerate(zip(net.nodes, worths)):
+        # A side that is open limits nothing: all arcs of the node are at a bound there, so that a price of 0 proves the plan as well.
+        is_at_most, is_at_least = node.is_high_open and node.inflow == node.high, node.is_low_open and node.inflow == node.low
+        worths[number] = node.worth = 0 if it < 0 and is_at_most or it > 0 and is_at_least else it
+    sign = net.sign
+    for arc in net.arcs:
+        src, dst = arc.src, arc.dst
+        arc.worth = sign * arc.price + worths[-1 if src is None else src] - worths[-1 if dst is None else dst]
+
+
+def written(net):
+    """Returns the plan as netflow prints it."""
+    lines, declared = [f"{net.objective} = {net.value}"], net.declared()
+    for name, is_table in net.declarations:
+        arcs = declared.get(name, [])
+        if is_table:
+            lines += [f"{name} :=", *("".join(f"{shown(it)} " for it in arc.key) + str(arc.flow) for arc in arcs), ";"]
+        else:
+            lines.append(f"{name} = {arcs[0].flow}")
+    return "".join(f"{it}\n" for it in lines)

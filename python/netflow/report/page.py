@@ -1,0 +1,229 @@
+"""The parts of the page of netflow-report: tables of arcs and places, and reasons in words."""
+from __future__ import annotations
+
+import datetime
+import os
+from fractions import Fraction
+from html import escape
+
+from .. import __version__
+from ..analysis.changes import is_left_out, left_out_text, single_title, total
+from .drawing import grouped
+from .style import PAGE_STYLE, SCRIPT
+from ..tools.why import Place, better
+
+HIDDEN_FROM = 5_000
+# From this many rows on a table has a line to find some of them; it has at most so many totals.
+FOUND_FROM, TOTALS = 15, 200
+
+
+def text(it):
+    return escape(str(it), quote=True)
+
+
+def cell(value, kind):
+    """Returns a cell; a number is printed in groups of three digits and sorted by its value."""
+    if isinstance(value, (int, Fraction)) and not isinstance(value, bool) and "number" in kind:
+        plain, shown = str(value), grouped(value)
+        data = f' data-n="{float(value) if "/" in plain else plain}"' if shown != plain else ""
+        return f'<td class="{kind}"{data}>{shown}</td>'
+    return f'<td class="{kind}">{text(value)}</td>'
+
+
+class Cells(dict):
+    """The cells of a column by their values. It grows as rows are made, since most values occur often."""
+
+    def __init__(self, kind):
+        super().__init__()
+        self.kind = kind
+
+    def __missing__(self, value):
+        found = self[value] = cell(value, self.kind)
+        return found
+
+
+def table(head, rows, classes=""):
+    """Returns a table whose columns a click sorts; a column is (title, class), a row its own class and its cells."""
+    titles = "".join(f'<th class="{kind}" scope="col"><button type="button">{text(title)}</button></th>' for title, kind in head)
+    columns = [Cells(kind) for _, kind in head]
+    lines = ["".join([column[it] for it, column in zip(cells, columns)]) for _, cells in rows]
+    body = "\n".join(f'<tr class="{kind}">{line}</tr>' for (kind, _), line in zip(rows, lines))
+    return f'<div class="scroll"><table class="{classes}"><thead><tr>{titles}</tr></thead><tbody>\n{body}\n</tbody></table></div>'
+
+
+def section(title, inner, name=""):
+    return f'<section{f" id={name}" if name else ""}><h2>{text(title)}</h2>\n{inner}\n</section>'
+
+
+def bullets(lines):
+    return "<ul>" + "".join(f"<li>{text(it)}</li>" for it in lines) + "</ul>" if lines else ""
+
+
+class Arcs:
+    """The table of one declaration's arcs; `keys` are the titles of the parts of its keys. `lead` are the ids of the arcs that are shown
+    first; a button shows the others."""
+
+    def __init__(self, net, name, keys, arcs, lead, has_plan):
+        self.net, self.name, self.keys, self.arcs, self.lead, self.has_plan = net, name, keys, arcs, lead, has_plan
+        self.has_least = any(it.lower for it in arcs)
+        self.has_worth = has_plan and any(it.worth and self.gain(it) for it in arcs)
+        self.has_price = any(it.price for it in arcs)
+
+    def gain(self, arc):
+        return max(0, -arc.worth if arc.is_full() else arc.worth if arc.is_lowest() else 0)
+
+    def head(self):
+        titles = [(it, "") for it in self.keys]
+        titles += [("from", "end"), ("to", "end")] + ([("flow", "number flow")] if self.has_plan else [])
+        titles += ([("least", "number")] if self.has_least else []) + [("most", "number")] + ([("price", "number")] if self.has_price else [])
+        titles += [("flow × price", "number")] if self.has_plan and self.has_price else []
+        better = "saves" if self.net.sign > 0 else "brings"
+        return titles + ([(f"one unit past the bound {better} at most", "number wrap")] if self.has_worth else [])
+
+    def row(self, arc):
+        cells = [*arc.key, self.net.end(arc.src), self.net.end(arc.dst)] + ([arc.flow] if self.has_plan else [])
+        cells += ([arc.lower] if self.has_least else []) + ["no limit" if arc.is_open else arc.upper] + ([arc.price] if self.has_price else [])
+        cells += [arc.flow * arc.price] if self.has_plan and self.has_price else []
+        cells += [self.gain(arc) or ""] if self.has_worth else []
+        bound = "full" if self.has_plan and arc.is_tight() else "lowest" if self.has_plan and arc.is_lowest() else ""
+        return f"{bound}{'' if id(arc) in self.lead else ' more'}".strip(), cells
+
+    def summary(self):
+        used, count = sum(it.flow != 0 for it in self.arcs), len(self.arcs)
+        if not self.has_plan:
+            across = sum(id(it) in self.lead for it in self.arcs)
+            return f"{count} {arcs_word(count)}, {across or 'none'} of them to or from the places in red." if self.lead else \
+                f"{count} {arcs_word(count)}, all of them between these places."
+        full, lowest = sum(it.is_tight() for it in self.arcs), sum(it.is_lowest() for it in self.arcs)
+        spent = f" Flow × price: {grouped(sum(it.flow * it.price for it in self.arcs))}." if self.has_price else ""
+        bounds = (full, "full", "full, and more would help"), (lowest, "lowest", "at the least")
+        marks = "".join(f', {many} <span class="{kind}">{what}</span>' for many, kind, what in bounds if many)
+        return f"{count} {arcs_word(count)}, {used} in use{marks}.{spent}"
+
+    def finding(self, count):
+        """Returns a line to find rows by their texts, and the full ones alone."""
+        if count < FOUND_FROM:
+            return ""
+        full = '<label><input type="checkbox"> full only</label>' if self.has_plan and any(it.is_tight() for it in self.arcs) else ""
+        return f'<p class="find"><label>find <input type="search"></label>{full}<span class="dim"></span></p>'
+
+    def totals(self):
+        """Returns the total flows by each part of the keys."""
+        if not self.has_plan or len(self.keys) < 2:
+            return ""
+        made = [self.total(place, title) for place, title in enumerate(self.keys)]
+        made = [it for it in made if it]
+        return f'<details><summary>totals</summary><div class="pair">{"".join(made)}</div></details>' if made else ""
+
+    def total(self, place, title):
+        sums = dict.fromkeys([it.key[place] for it in self.arcs], (0, 0))
+        if not 1 < len(sums) <= TOTALS or len(sums) == len(self.arcs):
+            return ""
+        for arc in self.arcs:
+            if arc.flow:
+                flow, spent = sums[arc.key[place]]
+                sums[arc.key[place]] = flow + arc.flow, spent + arc.flow * arc.price
+        head = [(title, ""), ("flow", "number flow")] + [("flow × price", "number")] * self.has_price
+        return f'<div>{table(head, [("", [member, *pair][:len(head)]) for member, pair in sums.items()])}</div>'
+
+    def html(self, grid=""):
+        shown = sorted(self.arcs, key=lambda it: id(it) not in self.lead)
+        hidden = sum(id(it) not in self.lead for it in self.arcs)
+        what = f"the {hidden} that {'carries' if hidden == 1 else 'carry'} nothing" if self.has_plan else f"the {hidden} other{'s' * (hidden > 1)}"
+        note = f'<button type="button" class="toggle" aria-expanded="false">show {what}</button>' if hidden else ""
+        if hidden and len(self.net.arcs) > HIDDEN_FROM:
+            shown, note = shown[:len(shown) - hidden], f"{capital(what)} are left out of this page; netflow-sheet writes them all."
+        made = table(self.head(), [self.row(it) for it in shown], "numbers") if shown else ""
+        # If every row is hidden, the heading is too.
+        made = made if hidden < len(self.arcs) else f'<div class="later">{made}</div>'
+        return section(self.name, f"<p>{self.summary()} {note}</p>{self.finding(len(shown))}{made}{grid}{self.totals()}")
+
+
+def places_html(net, marginal=None):
+    """Returns the table of the places: inflow, outflow, and what one more unit that they need or give costs, as netflow-why says."""
+    came, went = [0] * len(net.nodes), [0] * len(net.nodes)
+    for arc in (it for it in net.arcs if it.flow):
+        for counts, number, is_forward in ((came, arc.dst, arc.flow > 0), (went, arc.src, arc.flow > 0)):
+            if number is not None:
+                (counts if is_forward else went if counts is came else came)[number] += abs(arc.flow)
+    places = [Place(net, marginal, number) for number in range(len(net.nodes))] if marginal else []
+    worths = [it.cost if it.is_felt() else "" if it.cost is None else 0 for it in places]
+    has_worth = any(worths)
+    head = [("place", ""), ("needs or gives", ""), ("inflow", "number flow"), ("outflow", "number flow")]
+    head += [(f"one more, needed or given, {'costs' if net.sign > 0 else 'takes away'}", "number wrap")] * has_worth
+    rows = [("", [it.text, it.wish(), came[number], went[number], *worths[number:number + has_worth]])
+            for number, it in enumerate(net.nodes)]
+    rows, count = rows[:HIDDEN_FROM], len(rows)
+    note = f" The first {HIDDEN_FROM} are shown." if count > HIDDEN_FROM else ""
+    note += f" One more unit that a place needs, or can give, changes the value; below 0 it {better(net)}." if has_worth else ""
+    return section("Places", f"<p>{count} {'place' if count == 1 else 'places'}.{note}</p>{table(head, rows, 'numbers')}") if rows else ""
+
+
+def arcs_word(count):
+    return "arc" if count == 1 else "arcs"
+
+
+def parts_table(title, total, parts, most):
+    rows = [("", [it.amount, it.text]) for it in parts[:most]]
+    more = f"<p>and {len(parts) - most} more</p>" if len(parts) > most else ""
+    return f"<h3>{text(title)}, {total} in all</h3>" + table([("amount", "number"), ("what", "")], rows) + more
+
+
+def capital(words):
+    return words[:1].upper() + words[1:]
+
+
+def reason_html(net, reason, most):
+    """A set of places that is short, in words and two tables."""
+    asked, helping, none, other = reason.words()
+    lines = [f'<p class="reason">{text(capital(reason.headline(net)))}.</p>']
+    lines += ['<div class="pair"><div>', parts_table(asked, reason.needed(), reason.asks, most), "</div><div>"]
+    lines.append(parts_table(helping, reason.given(), reason.helps, most) if reason.helps else f"<p>{text(none)}.</p>")
+    if reason.idle:
+        lines.append(f"<h3>{text(other)}</h3>" + bullets([it.text for it in reason.idle[:most]]))
+    lines.append("</div></div>")
+    quiet = reason.quiet(net)
+    if quiet:
+        lines.append(f"<p>Pass on what they get: {text(', '.join(quiet[:most]))}{' ..' if len(quiet) > most else ''}.</p>")
+    return "".join(lines)
+
+
+def changes_html(net, found, most):
+    """The least changes: those at one place, then those of the other kinds of bounds."""
+    if found.is_large:
+        return "<p>It is not computed: the model is too large.</p>"
+    lines = [f"<h3>{text(single_title(found.single))}</h3>" + bullets([it.sentence() for it in found.single])] if found.single else []
+    for what, changes in found.others().items():
+        if changes is None:
+            lines.append(f"<p>{text(capital(what))}: none is enough.</p>")
+            continue
+        if is_left_out(changes):
+            lines.append(f"<p>{text(capital(what))}: {total(changes)} in all. {text(left_out_text(net, changes, most))}.</p>")
+            continue
+        rows = [("", [it.amount, it.sentence()]) for it in sorted(changes, key=lambda it: -it.amount)[:most]]
+        more = f"<p>and {len(changes) - most} more</p>" if len(changes) > most else ""
+        lines.append(f"<h3>{text(capital(what))}: {total(changes)} in all</h3>" + table([("by", "number"), ("change", "")], rows) + more)
+    return "".join(lines) + "<p>Each unit counts the same, and other changes may be as small.</p>"
+
+
+def date():
+    """Returns the date of today, or of SOURCE_DATE_EPOCH."""
+    epoch = os.environ.get("SOURCE_DATE_EPOCH")
+    day = datetime.datetime.fromtimestamp(int(epoch), datetime.timezone.utc) if epoch and epoch.isdigit() else datetime.datetime.now()
+    return day.strftime("%Y-%m-%d")
+
+
+def page(title, files, head, sections):
+    """Returns the whole page, which needs no other file."""
+    return f"""<!DOCTYPE html>
+<html lang="en"><head><meta charset="utf-8"><meta name="viewport" content="width=device-width, initial-scale=1">
+<title>{text(title)}</title><style>{PAGE_STYLE}</style></head>
+<body><header><h1>{text(title)}</h1>
+<p class="dim">{text(files + ", ") if files != title else ""}{date()}</p>
+{head}</header>
+<main>
+{chr(10).join(sections)}
+</main>
+<footer>Made by netflow-report {__version__} from the output of netflow.</footer>
+<script>{SCRIPT}</script></body></html>
+"""

@@ -1,0 +1,122 @@
+"""What if: the answers to several cases as a table, and the difference of two plans."""
+from __future__ import annotations
+
+import argparse
+import copy
+import itertools
+import re
+from typing import Any
+
+from ..tools.command import note_grouped, question_of
+from ..hints.diagnostic import Diagnostic
+from ..errors import DataError, ProgramError, ScaleError, Unbounded
+from ..program import REJECTED, USAGE
+from ..inputs.instance import Question
+from ..analysis.reasons import reasons
+from ..reading.output import Network
+
+CHANGE = re.compile(r"\w+(?:\[[^\]]*\])?\s*=\s*(?:'[^']*'|\"[^\"]*\"|\S+)")
+
+
+def cases_of(words: argparse.Namespace) -> list:
+    """Returns the changes of each case: those of --case, then all combinations of the values of --vary."""
+    found = [case_words(it) for it in words.case]
+    varied = []
+    for word in getattr(words, "vary", []):
+        name, _, values = word.partition("=")
+        if not values:
+            raise ProgramError(USAGE, f"--vary {word}: expected NAME=VALUE,VALUE,..\n")
+        varied.append([f"{name}={it.strip()}" for it in values.split(",")])
+    return found + ([list(it) for it in itertools.product(*varied)] if varied else [])
+
+
+def case_words(text: str) -> list:
+    """Returns the changes of one case; blanks inside brackets and quotes do not separate them."""
+    found = CHANGE.findall(text)
+    if "".join(found).replace(" ", "") != text.replace(" ", ""):
+        raise ProgramError(USAGE, f"--case {text}: expected NAME=VALUE NAME[KEY]=VALUE ..\n")
+    return found
+
+
+def answer_of(words: argparse.Namespace, changes: list, extra_data: list | None = None) -> Network:
+    """Returns the network with the plan, or the cut, of a case."""
+    asked = copy.copy(words)
+    asked.data = [*words.data, *(extra_data or [])]
+    with question_of(asked, changes) as question:
+        net = question.network()[1]
+        note_grouped(question)
+        return net
+
+
+def difference(value: Any, base: Any) -> str:
+    change = value - base
+    return f"+{change}" if change > 0 else str(change)
+
+
+def scenarios(words: argparse.Namespace, out: Any) -> int:
+    """Writes a row for the model as it is, and one for each case. A case with an error does not end the table; the status is then 3."""
+    cases = cases_of(words)
+    if not cases:
+        raise ProgramError(USAGE, "netflow-sheet scenarios: give at least one --case or --vary\n")
+    base = answer_of(words, [])
+    out.writerow(["case", "status", "value", "difference", "arcs that differ", "reason"])
+    out.writerow(["as it is", *(["optimal", base.value, 0, 0, ""] if base.cut is None else without_plan(base))])
+    status = 0
+    for case in cases:
+        try:
+            with question_of(words, case) as question:
+                row = case_cells(base, question.network()[1])
+                note_grouped(question)
+        except ProgramError as problem:
+            if problem.status != REJECTED:
+                raise
+            row, status = ["error", "", "", "", error_text(problem, question)], REJECTED
+        except (ScaleError, DataError, Unbounded) as problem:
+            row, status = ["error", "", "", "", str(problem)], REJECTED
+        out.writerow([" ".join(case), *row])
+    return status
+
+
+def error_text(problem: ProgramError, question: Question) -> str:
+    """Returns the error line of a case, with a hint if there is one that is sure."""
+    found, line = Diagnostic.of_question(problem, question), problem.message.split("\n")[0]
+    return f"{line}: {found.hints()[0]}" if found is not None and found.has_sure_hint() else line
+
+
+def without_plan(net: Network) -> list:
+    """Returns the cells of a case without a plan, with the largest shortage as the reason."""
+    return ["infeasible", "", "", "", reasons(net, *net.cut)[0].headline(net)]
+
+
+def case_cells(base: Network, net: Network) -> list:
+    """Returns the cells of a case: status, value, difference, how many arcs differ, and the reason if it has no plan."""
+    if net.cut is not None:
+        return without_plan(net)
+    if base.cut is not None:
+        return ["optimal", net.value, "", "", ""]
+    flows = {it.text: it.flow for it in base.arcs}
+    differing = sum(flows.get(it.text, 0) != it.flow for it in net.arcs) + sum(flows[name] != 0 for name in flows.keys() - {it.text for it in net.arcs})
+    return ["optimal", net.value, difference(net.value, base.value), differing, ""]
+
+
+def diff(words: argparse.Namespace, out: Any) -> int:
+    """Writes the objective, and each arc whose flow differs between the model as it is and the case."""
+    if not words.case and not words.extra_data:
+        raise ProgramError(USAGE, "netflow-sheet diff: give --case or --with\n")
+    first = answer_of(words, [])
+    second = answer_of(words, [it for case in words.case for it in case_words(case)], words.extra_data)
+    for net, name in ((first, "as it is"), (second, "as changed")):
+        if net.cut is not None:
+            raise ProgramError(2, f"netflow-sheet: the model {name} has no plan: netflow-why says why\n")
+    arcs = {it.text: it for it in [*second.arcs, *first.arcs]}
+    flows = [{it.text: it.flow for it in net.arcs} for net in (first, second)]
+    width = max((len(it.key) for it in arcs.values()), default=0)
+    out.writerow(["name", *(f"key {it + 1}" for it in range(width)), "before", "after", "difference"])
+    out.writerow([first.objective, *[""] * width, first.value, second.value, difference(second.value, first.value)])
+    order = dict.fromkeys([*(it.text for it in first.arcs), *(it.text for it in second.arcs)])
+    for text in order:
+        before, after = (it.get(text, 0) for it in flows)
+        if before != after:
+            arc = arcs[text]
+            out.writerow([arc.name, *arc.key, *[""] * (width - len(arc.key)), before, after, difference(after, before)])
+    return 0

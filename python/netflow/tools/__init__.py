@@ -1,0 +1,1 @@
+"""The helper tools on the command line."""

@@ -1,0 +1,223 @@
+"""What the tools share: their options, exit statuses, and how they end."""
+from __future__ import annotations
+
+import argparse
+import gc
+import os
+import shlex
+import signal
+import sys
+from typing import Any, Callable, Sequence
+
+from .. import __version__
+from ..reading.data import TOKEN
+from ..hints.diagnostic import LINE, Diagnostic
+from ..errors import DataError, ModelError, NetflowError, ProgramError, ScaleError, Unbounded, Unreadable
+from ..exact import Exact, parse_numeral
+from ..reading.model import Unparsed
+from .json_objects import dump_lines, error_json
+from ..program import INTERNAL, REJECTED, UNREADABLE_FILE, USAGE, Patience
+from ..inputs.instance import Input, Question
+from ..reading.output import Network
+from ..inputs.grouped_digits import lines_of_question
+
+NOTED: set = set()
+OTHER_VERSION = "the output of netflow does not have the documented form; is the program of another version?"
+
+
+class Words(argparse.ArgumentParser):
+    """The words of a tool; wrong ones end with the status that netflow gives them."""
+
+    def __init__(self, usage: str, **others: Any) -> None:
+        summary, _, more = usage.partition("\n\n")
+        words: dict = {"usage": summary.replace("usage: ", "", 1), "description": more, "formatter_class": argparse.RawDescriptionHelpFormatter}
+        arguments: dict = {**words, "allow_abbrev": False, **others}
+        super().__init__(**arguments)
+        self.add_argument("--version", action="version", version=f"{self.prog} {__version__}")
+
+    def error(self, message: str) -> Any:
+        self.print_usage(sys.stderr)
+        sys.stderr.write(f"{self.prog}: {message}\n")
+        sys.exit(USAGE)
+
+    def question(self) -> "Words":
+        """Adds the files and options of a model with its data."""
+        self.add_argument("model", metavar="MODEL")
+        self.add_argument("data", metavar="DATA", nargs="*", default=[], help="data files; later ones override earlier ones (none: no data)")
+        self.add_argument("--objective", metavar="NAME", help="the objective, if the model has several")
+        self.add_argument("--set", metavar="NAME=VALUE", action="append", default=[], dest="changes",
+                          help="change a value: van=45, or cost[north,hill]=5")
+        self.add_argument("--scale", metavar="NAME=FACTOR", action="append", default=[], help="the factor of a parameter with decimals")
+        self.add_argument("--bounds", action="store_true", help="add bounds that no plan reaches to arcs that lack them")
+        return self
+
+
+def question_of(words: argparse.Namespace, extra: Sequence[str] = ()) -> Question:
+    """Returns the question of parsed words."""
+    data = [Input(it) for it in words.data]
+    origins = {**origins_of(words.changes, "--set"), **origins_of(extra, "the case")}
+    question = Question(Input(words.model), data, objective=words.objective, changes=changes_of([*words.changes, *extra]),
+                        scale=scale_of(words.scale), add_bounds=words.bounds, origins=origins)
+    question.words = given_words(words, extra)
+    return question
+
+
+def given_words(words: argparse.Namespace, extra: Sequence[str]) -> list:
+    """Returns the files and options of a question as words; none if a file is a pipe, which can be read only once."""
+    files = [words.model, *words.data]
+    if any(it == "-" or os.path.exists(it) and not os.path.isfile(it) and os.path.realpath(it) != os.devnull for it in files):
+        return []
+    options = [["--set", it] for it in (*words.changes, *extra)] + [["--scale", it] for it in words.scale]
+    options += [["--objective", words.objective]] if words.objective else []
+    return [*files, *(it for pair in options for it in pair), *(["--bounds"] if words.bounds else [])]
+
+
+def changes_of(words: Sequence[str]) -> dict:
+    """Returns the values of `NAME=VALUE` and `NAME[KEY,..]=VALUE` by name."""
+    found: dict = {}
+    for word in words:
+        name, key, value = change_of(word)
+        if key:
+            rows = found.setdefault(name, {})
+            if not isinstance(rows, dict):
+                raise ProgramError(USAGE, f"--set {word}: {name} already has a value without a key\n")
+            rows[key] = value
+        else:
+            found[name] = value
+    return found
+
+
+def change_of(word: str) -> tuple:
+    """Returns the name, the key, () if it has none, and the value of a change."""
+    head, equals, value = word.partition("=")
+    name, bracket, key = head.strip().partition("[")
+    parts = tuple(member_of(it) for it in key_parts(key[:-1])) if key.endswith("]") else ()
+    if not equals or not name or bracket and not parts:
+        raise ProgramError(USAGE, f"--set {word}: expected NAME=VALUE or NAME[KEY,..]=VALUE\n")
+    return name, parts, value_of(value)
+
+
+def origins_of(words: Sequence[str], option: str) -> dict:
+    """Returns for the name and key of each change what the user wrote."""
+    return {change_of(word)[:2]: f"{option} {word}" for word in words}
+
+
+def key_parts(key: str) -> list:
+    return [it[0] for it in TOKEN.finditer(key) if it.lastgroup in ("word", "text")]
+
+
+def member_of(text: str) -> Any:
+    if text[:1] in ("'", '"') and len(text) > 1:
+        return text[1:-1].replace(text[0] * 2, text[0])
+    number = parse_numeral(text)
+    return int(number) if number is not None and number.denominator == 1 else text
+
+
+def value_of(text: str) -> Any:
+    text = text.strip()
+    number = parse_numeral(text)
+    return number if number is not None else member_of(text)
+
+
+def scale_of(words: Sequence[str]) -> dict:
+    found = {}
+    for word in words:
+        name, _, factor = word.partition("=")
+        if not factor.isdigit() or int(factor) < 1:
+            raise ProgramError(USAGE, f"--scale {word}: expected NAME=FACTOR, a factor of 1 or more\n")
+        found[name] = int(factor)
+    return found
+
+
+def fractions_text(net: Network) -> str:
+    """Returns why the flows of a plan are not whole, and how they become so; an empty text if they are whole."""
+    if net.cut is not None or all(it.flow.denominator == 1 for it in net.arcs):
+        return ""
+    named = net.factors.in_flows
+    what = ", ".join(named) if named else "a bound or condition of the model"
+    unit = Exact(1, net.factors.flow)
+    return f"flows are multiples of {unit}, since {what} {'have' if len(named) > 1 else 'has'} decimals; for whole flows use whole numbers there"
+
+
+def note_fractions(net: Network) -> None:
+    """Prints on standard error why the flows of a plan are not whole."""
+    text = fractions_text(net)
+    if text:
+        sys.stderr.write(f"{os.path.basename(sys.argv[0])}: {text}\n")
+
+
+def note_grouped(question: Question) -> None:
+    """Prints on standard error the decimals that may be whole numbers with grouped digits, each once."""
+    new = [line for line in lines_of_question(question) if line not in NOTED]
+    NOTED.update(new)
+    sys.stderr.write("".join(f"{os.path.basename(sys.argv[0])}: {line}\n" for line in new))
+
+
+def title_of(words: argparse.Namespace) -> str:
+    names = [os.path.basename(it) for it in words.data if it != os.devnull]
+    return f"{os.path.basename(words.model)}{' with ' if names else ''}{', '.join(names)}"
+
+
+def print_error_json(problem: ProgramError, question: Question) -> int:
+    """Prints the JSON object of an error of the model or its data, and returns the status."""
+    diagnostic = Diagnostic.of_question(problem, question)
+    if diagnostic is None:
+        raise problem
+    print(dump_lines(error_json(ModelError(diagnostic))))
+    return problem.status
+
+
+def run(main: Callable[[Sequence[str]], int], words: Sequence[str] | None = None) -> None:
+    """Runs the main function of a tool and exits with its status. A closed pipe is silent; output that fails has the status 4."""
+    if hasattr(signal, "SIGPIPE"):
+        signal.signal(signal.SIGPIPE, signal.SIG_DFL)
+    name = os.path.basename(sys.argv[0])
+    if sys.stdout is None:
+        sys.exit(close_error(name))
+    gc.disable()  # a tool ends soon, and a large network is many objects without cycles
+    for stream in filter(None, (sys.stdout, sys.stderr)):
+        stream.reconfigure(encoding="utf-8", errors="surrogateescape")  # type: ignore[attr-defined]
+    sys.exit(ended(main, sys.argv[1:] if words is None else words, name))
+
+
+def close_error(name: str) -> int:
+    """Reports that standard output is closed, and returns the status."""
+    if sys.stderr is not None:
+        sys.stderr.write(f"{name}: standard output is closed\n")
+    return UNREADABLE_FILE
+
+
+def ended(main: Callable[[Sequence[str]], int], words: Sequence[str], name: str) -> int:
+    try:
+        with Patience(f"{name}: still working ..\n"):
+            status = main(words)
+            sys.stdout.flush()
+        return status
+    except SystemExit as end:
+        return end.code if isinstance(end.code, int) else 0
+    except ProgramError as problem:
+        sys.stderr.write(problem.message if problem.message.endswith("\n") else f"{problem.message}\n")
+        if problem.words and LINE.match(problem.message):
+            sys.stderr.write(f"For a hint: netflow-explain {shlex.join(problem.words)}\n")
+        return problem.status
+    except Unreadable as problem:
+        sys.stderr.write(f"{name}: {OTHER_VERSION} {problem}\n")
+        return INTERNAL
+    except (ScaleError, DataError, Unbounded, NetflowError, Unparsed) as problem:
+        sys.stderr.write(f"{name}: {problem}\n")
+        return REJECTED
+    except OSError as problem:
+        close_output()
+        sys.stderr.write(f"{name}: {problem.strerror or problem}\n")
+        return UNREADABLE_FILE
+    except KeyboardInterrupt:
+        return 130
+
+
+def close_output() -> None:
+    """Keeps the interpreter from writing what is left to an output that fails."""
+    try:
+        sys.stdout.flush()
+    except OSError:
+        pass
+    os.dup2(os.open(os.devnull, os.O_WRONLY), sys.stdout.fileno())

@@ -1,0 +1,184 @@
+"""usage: netflow-explain MODEL [DATA ..] [--objective NAME] [--json] [--set NAME=VALUE] [--scale NAME=FACTOR] [--bounds]
+       netflow-explain COMMAND FILE.. [OPTION..] [--json]
+
+Solves a model, with its decimals scaled, as the other tools do. If an input is rejected, the error line is followed by the place as
+editors take it, PATH:LINE:COLUMN, the line of the input with a mark under the place, what the error means, and a hint what was
+probably meant, or how to fix it. Further wrong names, keys and kinds of values in the data follow, a line for each. With --json the
+error is a JSON object on standard output.
+
+With a COMMAND (solve, compile, min, check, ..) netflow runs with these words. Its output and exit status are passed on, and its
+error is explained. It rejects decimals (E04) unless there are several data files, --set, --scale or --bounds.
+"""
+from __future__ import annotations
+
+import os
+import subprocess
+import sys
+import textwrap
+import unicodedata
+from typing import Sequence
+
+from .. import __version__
+from .command import Words, question_of, run as run_tool
+from ..hints.diagnostic import LINE, TEXTS, Diagnostic
+from ..errors import ModelError, ProgramError
+from ..hints.later_errors import further_errors, further_lines
+from .json_objects import dump_lines, error_json
+from ..program import USAGE, Session, program
+from ..inputs.instance import Question
+from ..reading.output import divided_cut, shown
+from ..inputs.grouped_digits import grouped_lines, lines_of_question
+from ..reading.text import read
+
+WIDTH, AROUND = 100, 60
+
+
+def files_of(words: Sequence[str]) -> list:
+    """Returns the indices of the words that name files."""
+    places, skip = [], False
+    for here, it in enumerate(words[1:], 1):
+        if skip or it.startswith("-") and it != "-":
+            skip = it == "--objective"
+            continue
+        places.append(here)
+    return places[:len(TEXTS.get(words[0], ()))]
+
+
+def width(text: str) -> int:
+    """Returns the columns of a terminal that a text takes."""
+    return sum(0 if unicodedata.combining(it) else 2 if unicodedata.east_asian_width(it) in "WF" else 1 for it in text)
+
+
+def source_lines(it: Diagnostic) -> list:
+    """Returns the line of the input, of a long one the part around the place, and the mark below it."""
+    before, after = it.before, it.at()
+    if len(before) > AROUND:
+        before = ".. " + before[-AROUND:]
+    if len(after) > 2 * AROUND:
+        after = after[:2 * AROUND] + " .."
+    # A tab stays one, so that the mark is below its place whatever the terminal makes of it.
+    under = "".join(letter if letter == "\t" else " " * width(letter) for letter in before)
+    return [f"    {before}{after}", *([f"    {under}^"] if it.column else [])]
+
+
+def lines_of(it: Diagnostic) -> list:
+    """Returns the explanation. A sure hint comes alone; without one, what to do in general comes last."""
+    place = it.place() if it.called or it.is_change() else ""
+    means, remedy = it.catalogue()
+    lines = textwrap.wrap(f"{place}: {means}" if place else means, WIDTH, break_long_words=False, break_on_hyphens=False)
+    is_text = "\0" not in it.shown and not it.shown.startswith("PK\x03\x04")
+    lines += source_lines(it) if it.shown.strip() and is_text and not it.is_change() else []
+    lines += [f"  Hint: {hint}" for hint in it.hints()]
+    if remedy and not it.has_sure_hint():
+        lines += textwrap.wrap(f"To fix: {remedy}", WIDTH, initial_indent="  ", subsequent_indent="  ")
+    return lines
+
+
+def explain(words: list, is_json: bool) -> int:
+    places = files_of(words)
+    with Session([words[it] for it in places]) as session:
+        asked = list(words)
+        for place, path in zip(places, session.files):
+            asked[place] = path
+        if words[0] in ("solve", "compile") and len(places) == 1:
+            asked.insert(places[0] + 1, os.devnull)
+        try:
+            done = subprocess.run([program(), *asked], stderr=subprocess.PIPE)
+        except OSError as problem:
+            raise ProgramError(USAGE, f"{program()}: {problem.strerror}\n") from None
+        line = done.stderr.decode("utf-8", "surrogateescape").rstrip("\n")
+        found = Diagnostic(line, words[0], session.files, [words[it] for it in places]) if LINE.fullmatch(line) else None
+        options = [it for here, it in enumerate(words[1:], 1) if here not in places]
+        if found and is_json:
+            print_json(found, options)
+            return done.returncode
+        sys.stderr.buffer.write(done.stderr)
+        if words[0] == "solve" and done.returncode in (0, 2):
+            texts = [read(path) for path in session.files]
+            write_hints(grouped_lines(texts[0], [(None, text) for text in texts[1:]]))
+        sys.stderr.write("".join(f"{it}\n" for it in [*lines_of(found), *further_lines(found, options)]) if found else "")
+    return done.returncode
+
+
+def print_json(found: Diagnostic, options: Sequence[str]) -> None:
+    """Prints an error as a JSON object, with the further errors of the data."""
+    more = [error_json(ModelError(it))["error"] for it in further_errors(found, options)]
+    print(dump_lines({**error_json(ModelError(found)), **({"more": more} if more else {})}))
+
+
+def is_rewriting(words: Sequence[str]) -> bool:
+    """Whether the words of a call have several data files or an option that netflow itself does not have."""
+    if words[0] not in ("solve", "compile"):
+        return False
+    files = [it for here, it in enumerate(words[1:]) if words[here] != "--objective" and (not it.startswith("-") or it == "-")]
+    return len(files) > 2 or any(it.partition("=")[0] in ("--set", "--scale", "--bounds") for it in words)
+
+
+def explain_rewritten(words: list, is_json: bool) -> int:
+    """Asks for the answer as the other tools do, and explains the error if there is one."""
+    parser = Words(__doc__ or "", prog="netflow-explain").question()
+    parser.add_argument("--lean", action="store_true", help="with compile: no lower bounds in the problem")
+    parsed = parser.parse_args(words[1:])
+    with question_of(parsed) as question:
+        question.options += ["--lean"] if parsed.lean else []
+        try:
+            if words[0] == "compile":
+                sys.stdout.write(question.ask("compile").text)
+                return 0
+            answer = question.ask("solve")
+            sys.stdout.write(answer.text if question.factors.is_plain() else divided_text(question))
+            write_hints(lines_of_question(question))
+            return answer.status
+        except ProgramError as problem:
+            found = Diagnostic.of_question(problem, question)
+            if found is None:
+                raise
+            if is_json:
+                print_json(found, question.options)
+            else:
+                lines = [problem.message.rstrip("\n"), *lines_of(found), *further_lines(found, question.options)]
+                sys.stderr.write("".join(f"{it}\n" for it in lines))
+            return problem.status
+
+
+def write_hints(lines: list) -> None:
+    """Writes on standard error what is worth a look next to an answer."""
+    sys.stdout.flush()
+    sys.stderr.write("".join(f"Hint: {line}\n" for line in lines))
+
+
+def divided_text(question: Question) -> str:
+    """Returns the answer to a scaled question in netflow's form, its numbers divided again."""
+    answer, net = question.network()
+    if net.cut is not None:
+        return divided_cut(answer.text, net)
+    lines, declared = [f"{net.objective} = {net.value}"], net.declared()
+    for name, is_table in net.declarations:
+        arcs = declared.get(name, [])
+        if is_table:
+            lines += [f"{name} :=", *(" ".join([*map(shown, it.key), str(it.flow)]) for it in arcs), ";"]
+        else:
+            lines.append(f"{name} = {arcs[0].flow}")
+    return "\n".join(lines) + "\n"
+
+
+def main(words: Sequence[str]) -> int:
+    if list(words[:1]) in ([], ["-h"], ["--help"]):
+        print((__doc__ or "").strip(), file=sys.stdout if words else sys.stderr)
+        return 0 if words else USAGE
+    if words[0] == "--version":
+        print(f"netflow-explain {__version__}")
+        return 0
+    asked, is_rewritten = [it for it in words if it != "--json"], False
+    if not asked or asked[0] not in TEXTS and asked[0] not in ("help", "-V"):
+        asked.insert(0, "solve")
+        is_rewritten = True
+    return (explain_rewritten if is_rewritten or is_rewriting(asked) else explain)(asked, "--json" in words)
+
+
+def command() -> None:
+    run_tool(main)
+
+
+if __name__ == "__main__":
+    command()

@@ -1,0 +1,345 @@
+"""usage: netflow-why MODEL [DATA ..] [--objective NAME] [--all] [--json] [--set NAME=VALUE] [--scale NAME=FACTOR] [--bounds]
+
+If a model has no plan, says why in its own names: which places, what they need together, which arcs lead there with their bounds, how
+much is short, and the least change that gives a plan: first the numbers each of which is enough alone. If it has one, says which arcs
+are at a bound, what one more unit at each place costs or saves, and how far that holds. Shows 20 lines of each list, with --all every
+line. If a check of the model fails, it asks again without the check. The exit status is that of netflow.
+"""
+from __future__ import annotations
+
+import math
+import re
+from typing import Any, Sequence
+
+from ..analysis.changes import is_left_out, least_changes, left_out_text, single_title, total
+from .command import Words, note_fractions, note_grouped, print_error_json, question_of, run as run_tool
+from ..errors import ProgramError
+from ..reading.model import Unparsed, parse
+from .json_objects import cut_json, dump_lines, plan_columns
+from ..inputs.instance import Input, Question
+from ..analysis.reasons import reasons
+from ..analysis.suspicions import remark_lines
+from ..analysis.sensitivity import Marginal, arc_change, arc_units
+from ..analysis.directions import opposite_sides
+from ..reading.output import Network
+from ..inputs.grouped_digits import lines_of_question
+from ..reading.text import compared_texts, few
+
+SHOWN, SETS = 20, 3
+# Up to how many steps exact changes are computed: arcs of the network times listed arcs, or pairs of places.
+EXACT_WORK = 300_000
+# Up to how many steps it is looked for how far one change holds.
+LIMIT_WORK = 50_000
+
+
+def rows(pairs: list, most: int) -> list:
+    """Returns amounts and texts, one below the other."""
+    wide = max((len(str(amount)) for amount, _ in pairs[:most]), default=0)
+    lines = [f"    {str(amount):>{wide}}  {text}" for amount, text in pairs[:most]]
+    return lines + ([f"    {'':>{wide}}  and {len(pairs) - most} more (--all shows them)"] if len(pairs) > most else [])
+
+
+def part_rows(parts: list, most: int) -> list:
+    """Returns the lines of a list of amounts; a long one by declaration, with the closed arcs first."""
+    if len(parts) <= most:
+        return rows([(it.amount, it.text) for it in parts], most)
+    groups: dict = {}
+    for it in parts:
+        groups.setdefault(it.name, []).append(it)
+    found = [(sum(it.amount for it in group), group_text(name, group)) for name, group in groups.items()]
+    closed = [it for it in parts if it.is_arc and not it.amount]
+    lines = rows(sorted(found, key=lambda pair: -pair[0]), most)
+    if closed:
+        lines.append(f"    closed: {few([it.text[3:].rpartition(', which carries')[0] for it in closed], 5)}")
+    largest = [it for it in parts if it.amount][:5]
+    return [*lines, f"    the largest: {few([f'{it.text} ({it.amount})' for it in largest], 5)} (--all shows every line)"]
+
+
+def group_text(name: str, group: list) -> str:
+    what = "arcs" if group[0].is_arc else "places"
+    closed = sum(not it.amount for it in group)
+    return f"{name}: {len(group)} {what[:-1] if len(group) == 1 else what}" + (f", {closed} of them 0" if closed and group[0].is_arc else "")
+
+
+# No plan
+
+def reason_lines(net: Network, reason: Any, most: int) -> list:
+    asked, helping, none, other = reason.words()
+    lines = [reason.headline(net), f"  {asked}, {reason.needed()} in all:", *part_rows(reason.asks, most)]
+    lines += [f"  {helping}, {reason.given()} in all:", *part_rows(reason.helps, most)] if reason.helps else [f"  {none}"]
+    if reason.idle and (len(reason.idle) <= most or not reason.helps):
+        lines += [f"  {other}:", *rows([("", it.text) for it in reason.idle], most)]
+    quiet = reason.quiet(net)
+    return lines + ([f"  pass on what they get: {few(quiet, most)}"] if quiet else [])
+
+
+def change_lines(net: Network, most: int) -> list:
+    """Returns the changes at one place that are enough, then the least change of each other kind of bounds."""
+    found = least_changes(net)
+    if found.is_large:
+        return ["", "The least change with which there is a plan is not computed: the model is too large."]
+    title = single_title(found.single) if found.single else "all shortages together:"
+    lines = ["", f"Least change with which there is a plan{':' if found.single else ','} {title}", *(f"    {it.sentence()}" for it in found.single)]
+    for what, changes in found.others().items():
+        lines.append(f"  {what}: none is enough" if changes is None else f"  {what}: {total(changes)} in all")
+        if is_left_out(changes):
+            lines[-1] += f". {left_out_text(net, changes, most)}"
+            continue
+        listed = sorted(changes or [], key=lambda it: -it.amount)
+        lines += rows([(it.amount, it.sentence()) for it in listed], most)
+    return lines + ["  (Each unit counts the same, and other changes may be as small.)"]
+
+
+def infeasible_lines(net: Network, found: list, most: int) -> list:
+    """Returns the text of a model without a plan."""
+    lines = ["No plan.", *(it for line in opposite_sides(net) for it in ("", line))]
+    for reason in found[:most if most > SHOWN else SETS]:
+        lines += ["", *reason_lines(net, reason, most)]
+    if len(found) > SETS and most <= SHOWN:
+        lines += ["", f"{len(found) - SETS} more sets of places are short (--all shows them)"]
+    return lines + change_lines(net, most)
+
+
+# A plan
+
+class Gains:
+    """What one more unit of a bound saves, of each arc at a bound: exactly if the network is small, else at most."""
+
+    def __init__(self, net: Network, marginal: Marginal) -> None:
+        arcs = [it for it in net.arcs if it.is_full() or it.is_lowest()]
+        felt = [it for it in arcs if it.worth]
+        self.is_exact = len(net.arcs) * len(felt) <= EXACT_WORK
+        gain = (lambda it: arc_change(net, marginal.residual, it)) if self.is_exact else (lambda it: abs(it.worth))
+        self.residual = marginal.residual
+        self.felt = sorted(((gain(it), it) for it in felt), key=lambda pair: -pair[0])
+        self.free = [it for it in arcs if not it.worth] + [it for amount, it in self.felt if not amount]
+        self.felt = [(amount, it) for amount, it in self.felt if amount]
+
+    def limit(self, arc: Any) -> str:
+        """Returns up to which bound the gain of an arc holds, in words; an empty text if it is not known."""
+        units = arc_units(self.residual, arc, LIMIT_WORK) if self.is_exact else 0
+        return limit_text(arc.upper, units) if arc.is_full() else limit_text(arc.lower, -units)
+
+
+def limit_text(amount: Any, units: Any) -> str:
+    """Returns up to which amount the value of one unit holds; `units` below 0 lead down."""
+    if not units:
+        return ""
+    return "; holds for any number" if abs(units) == math.inf else f"; holds {'up' if units > 0 else 'down'} to {amount + units}"
+
+
+def bound_text(arc: Any) -> str:
+    return f"at its most, {arc.upper}" if arc.is_full() else f"at its least, {arc.lower}"
+
+
+def better(net: Network) -> str:
+    return "saves" if net.sign > 0 else "brings"
+
+
+def bottleneck(net: Network, gains: Gains) -> list:
+    """Returns the arcs of a minimum cut if the plan is a maximum flow: each is worth 1, and together they carry the value."""
+    cut = [it for it in net.arcs if it.is_full() and it.worth == -1]
+    if net.sign > 0 or not cut or any(it.worth not in (-1, 0) for _, it in gains.felt) or sum(it.upper for it in cut) != net.value:
+        return []
+    return cut
+
+
+def bottleneck_lines(net: Network, gains: Gains, most: int) -> list:
+    cut = bottleneck(net, gains)
+    if not cut:
+        return []
+    listed = sorted(cut, key=lambda it: -it.upper)
+    return ["", f"Bottleneck: {len(cut)} {'arc' if len(cut) == 1 else 'arcs'}, {net.value} in all. No flow can be larger:",
+            *rows([(it.upper, f"{it.text} from {net.end(it.src)} to {net.end(it.dst)}") for it in listed], most)]
+
+
+def arc_lines(net: Network, gains: Gains, most: int) -> list:
+    count = len(gains.felt) + len(gains.free)
+    if not count:
+        return ["", "No arc is full, and none is at a lower bound other than 0."]
+    lines = ["", f"Arcs at a bound: {count} of {len(net.arcs)}. Arcs at their lower bound 0 are not counted."]
+    title = f"  If the bound were one unit wider, the plan would {better(net)[:-1]}{'' if gains.is_exact else ' at most'}:"
+    # Only the lines that are shown get a limit.
+    listed = [(amount, f"{it.text} {bound_text(it)}{gains.limit(it)}") for amount, it in gains.felt[:most]]
+    lines += [title, *rows(listed + gains.felt[most:], most)] if gains.felt else []
+    return lines + ([f"  A wider bound {better(net)} nothing at: {free_text(gains.free, most)}"] if gains.free else [])
+
+
+def free_text(arcs: list, most: int) -> str:
+    if len(arcs) <= most:
+        return ", ".join(it.text for it in arcs)
+    groups: dict = {}
+    for it in arcs:
+        groups[it.name] = groups.get(it.name, 0) + 1
+    return ", ".join(f"{name} ({count} arcs)" for name, count in groups.items())
+
+
+class Place:
+    """A node with a condition, and what one more unit there costs (`cost`, below 0 if it saves), None if it cannot change alone."""
+
+    def __init__(self, net: Network, marginal: Marginal, number: int) -> None:
+        self.node = net.nodes[number]
+        self.number, self.wish = number, self.node.wish()
+        self.is_giver = self.wish.startswith("gives")
+        self.cost = (marginal.less if self.is_giver else marginal.more)[number]
+        low, high = (self.node.inflow == self.node.low, self.node.inflow == self.node.high)
+        self.side = "fixed" if self.node.low == self.node.high else "most" if (low if self.is_giver else high) else \
+            "least" if (high if self.is_giver else low) else ""
+
+    def is_felt(self) -> bool:
+        if self.side == "fixed":
+            return bool(self.cost) and bool(self.wish)
+        node = self.node
+        is_own = node.has_low() if (self.side == "least") != self.is_giver else node.has_high()
+        return bool(self.cost) and is_own and (self.cost < 0 if self.side == "most" else self.side == "least" and self.cost > 0)
+
+    def line(self, net: Network, units: Any = 0) -> str:
+        """Returns the place with its cost, which holds for so many units, if that is known."""
+        verb = f"costs {self.cost}" if self.cost > 0 else f"{better(net)} {-self.cost}"
+        amount = abs(self.node.inflow)
+        at = "" if self.side == "fixed" else f", and {'gives' if self.is_giver else 'gets'} the {self.side}, {amount}"
+        return f"    {self.node.text} {self.wish}{at}: one more {verb}{limit_text(amount, units)}"
+
+    def units(self, marginal: Marginal) -> Any:
+        """Returns for how many units the cost holds."""
+        return (marginal.units_less if self.is_giver else marginal.units_more)(self.number, LIMIT_WORK)
+
+
+def matched_lines(net: Network, marginal: Marginal, places: list, most: int) -> list:
+    """Returns what pairs of changes cost, if what places need and give matches exactly, so that none can change alone."""
+    stuck = [it for it in places if it.side == "fixed" and it.wish and it.cost is None]
+    if not stuck:
+        return []
+    whole = len(stuck) == sum(it.side == "fixed" and bool(it.wish) for it in places)
+    lines = ["", f"What {'the places' if whole else few([it.node.text for it in stuck], 3)} need and give matches exactly: none can change alone."]
+    needing = sorted((it for it in stuck if not it.is_giver), key=lambda it: -abs(it.node.low))
+    for place in needing[:max(1, min(most, EXACT_WORK // max(1, len(net.arcs))))]:
+        found = marginal.pair(place.number)
+        if found is None:
+            continue
+        giver, cost = net.nodes[found[0]].text, found[1]
+        verb = f"costs {cost}" if cost > 0 else f"{better(net)} {-cost}" if cost < 0 else "costs nothing"
+        lines.append(f"    {place.node.text} {place.wish}: one more, with one more from {giver}, {verb}")
+    shown = len(lines) - 2
+    return lines + ([f"    and {len(needing) - shown} more (--all shows them)"] if shown and len(needing) > shown else [])
+
+
+def place_lines(net: Network, marginal: Marginal, most: int) -> list:
+    places = [Place(net, marginal, number) for number in range(len(net.nodes))]
+    matched = matched_lines(net, marginal, places, most)
+    felt = sorted((it for it in places if it.is_felt()), key=lambda it: -abs(it.cost))
+    if not felt:
+        return matched or ["", "One more unit at a place costs nothing, anywhere."]
+    has_units = len(net.arcs) * len(felt[:most]) <= EXACT_WORK
+    lines = ["", "One unit more at a place:", *(it.line(net, it.units(marginal) if has_units else 0) for it in felt[:most])]
+    left = len(net.nodes) - len(felt[:most])
+    others = f"    at the other {f'{left} places' if left > 1 else 'place'}: " + ("nothing" if len(felt) <= most else "--all shows them")
+    return lines + ([others] if left and not matched else []) + matched
+
+
+def warning_lines(net: Network) -> list:
+    """Returns what is allowed and often a mistake: a value of 0, declarations of arcs without a price."""
+    unpriced = [name for name, arcs in net.declared().items() if not any(it.price for it in arcs)]
+    if net.arcs and not any(it.price for it in net.arcs):
+        return ["", f"No arc has a price, so every plan is worth {net.value}: is `obj {net.objective} ..` missing?"]
+    if net.value == 0:
+        return ["", f"The value is 0. Without a price: {few(unpriced, 5)}." if unpriced else "The value is 0: the plan uses no arc with a price."]
+    return ["", f"Without a price: {few(unpriced, 5)}."] if unpriced else []
+
+
+def feasible_lines(net: Network, most: int) -> list:
+    """Returns the text of a model with a plan; the network has its prices."""
+    marginal = Marginal(net)
+    gains = Gains(net, marginal)
+    best = "No plan costs less." if net.sign > 0 else "No plan is worth more."
+    lines = [f"There is a plan: {net.objective} = {net.value}. {best}", *bottleneck_lines(net, gains, most), *arc_lines(net, gains, most)]
+    lines += place_lines(net, marginal, most) + warning_lines(net)
+    if not gains.is_exact:
+        last = "These changes are for the next unit; those of arcs are at most so much, since beyond it other arcs may become full."
+    elif any("; holds " in it for it in lines):
+        last = "These changes are exact for each unit as far as they hold; beyond that other arcs are full."
+    else:
+        last = "These changes are exact for the next unit; beyond it other arcs may become full."
+    return [*lines, "", last]
+
+
+def without_check(question: Question, problem: ProgramError) -> Question | None:
+    """Returns the question without the check that fails; None if that is not the error."""
+    found = re.match(r"E35 \w+ model (\d+):(\d+)", problem.message)
+    if not found:
+        return None
+    text = question.model.text()
+    lines = text.split("\n")
+    place = sum(len(line) + 1 for line in lines[:int(found[1]) - 1])
+    place += len(lines[int(found[1]) - 1].encode("utf-8", "surrogateescape")[:int(found[2]) - 1].decode("utf-8", "surrogateescape"))
+    try:
+        decl = next(it for it in parse(text) if it.kind == "check" and it.start <= place <= it.end)
+    except (StopIteration, Unparsed):
+        return None
+    blank = re.sub(r"[^\n]", " ", text[decl.start:decl.end + 1])
+    made = Question(Input(text=text[:decl.start] + blank + text[decl.end + 1:]), question.data, objective=question.objective,
+                    changes=question.changes, scale=question.scale, add_bounds=question.add_bounds)
+    print(f"The check in line {found[1]} fails: {' '.join(text[decl.start:decl.end + 1].split())}\nWithout it:\n")
+    return made
+
+
+def answer_lines(net: Network, most: int) -> list:
+    if net.cut is None:
+        return feasible_lines(net, most)
+    return infeasible_lines(net, reasons(net, *net.cut), most)
+
+
+def text_lines(question: Question, net: Network, most: int) -> list:
+    """Returns the answer with what is worth a look; below `No plan.` the numbers that may be the reason come first."""
+    lines, grouped = answer_lines(net, most), lines_of_question(question)
+    odd = [*compared_texts(question.model.text(), [it.text() for it in question.data]), *remark_lines(question, net)]
+    if net.cut is not None and grouped:
+        lines[1:1] = ["", *grouped]
+        grouped = []
+    return [*lines, *(["", *odd, *grouped] if odd or grouped else [])]
+
+
+def print_json(net: Network) -> None:
+    if net.cut is None:
+        found = plan_columns(net)
+        found["nodes"]["one_more_costs"] = Marginal(net).more
+        found["arcs"]["reduced_cost"] = [it.worth for it in net.arcs]
+    else:
+        side, inside = net.cut
+        found = cut_json(side, [net.nodes[it].text for it in sorted(inside)], reasons(net, side, inside), net, least_changes(net))
+    print(dump_lines(found))
+
+
+def main(words: Sequence[str]) -> int:
+    parser = Words(__doc__, prog="netflow-why").question()
+    parser.add_argument("--all", action="store_true", help="every line of each list")
+    parser.add_argument("--json", action="store_true", help="the answer as a JSON object")
+    parsed = parser.parse_args(words)
+    question, refused = question_of(parsed), 0
+    while True:
+        with question:
+            try:
+                answer, net = question.network(with_prices=True)
+            except ProgramError as problem:
+                if parsed.json:
+                    return print_error_json(problem, question)
+                again = without_check(question, problem)
+                if again is None:
+                    raise
+                question, refused = again, problem.status
+                continue
+            note_fractions(net)
+            if parsed.json:
+                note_grouped(question)
+                print_json(net)
+            else:
+                print("\n".join(text_lines(question, net, 10**9 if parsed.all else SHOWN)))
+            return refused or answer.status
+
+
+def command() -> None:
+    run_tool(main)
+
+
+if __name__ == "__main__":
+    command()
