@@ -46,11 +46,11 @@ class Problem:
 
     def __init__(self, count: int, supplies: dict, arcs: Sequence[Arc]) -> None:
         self.count, self.supplies, self.arcs = max(count, 1), supplies, list(arcs)
-        amounts = [*supplies.values(), *(it.lower for it in arcs), *(it.capacity for it in arcs if it.capacity is not None)]
-        self.flow_factor, self.cost_factor = common_factor(amounts), common_factor(it.cost for it in arcs)
+        amounts = [*supplies.values(), *(arc.lower for arc in arcs), *(arc.capacity for arc in arcs if arc.capacity is not None)]
+        self.flow_factor, self.cost_factor = common_factor(amounts), common_factor(arc.cost for arc in arcs)
         # No optimal flow needs more on an arc without a limit, if the cost has a limit.
-        finite = sum((it.capacity for it in arcs if it.capacity is not None), Fraction(0))
-        self.bound = finite + sum((abs(it) for it in supplies.values()), Fraction(0)) + sum((it.lower for it in arcs), Fraction(0))
+        finite = sum((arc.capacity for arc in arcs if arc.capacity is not None), Fraction(0))
+        self.bound = finite + sum((abs(supply) for supply in supplies.values()), Fraction(0)) + sum((arc.lower for arc in arcs), Fraction(0))
 
     def text(self) -> str:
         """Returns the problem in the DIMACS format; raises DataError or ScaleError if it is past the program's limits."""
@@ -58,11 +58,11 @@ class Problem:
             raise DataError(f"the problem has {self.count} nodes and {len(self.arcs)} arcs; netflow takes at most {NODES} and {ARCS}")
         if self.bound * self.flow_factor > LARGEST_FLOW:
             raise ScaleError(f"capacities and supplies, times {self.flow_factor}, are past {LARGEST_FLOW}", None, self.flow_factor)
-        if any(abs(it.cost * self.cost_factor) > LARGEST for it in self.arcs):
+        if any(abs(arc.cost * self.cost_factor) > LARGEST for arc in self.arcs):
             raise ScaleError(f"costs, times {self.cost_factor}, are past {LARGEST}", None, self.cost_factor)
-        rows = [(it.src, it.dst, int(it.lower * self.flow_factor), int((self.bound if it.capacity is None else it.capacity) * self.flow_factor),
-                 int(it.cost * self.cost_factor)) for it in self.arcs]
-        return problem_text(self.count, {node: int(it * self.flow_factor) for node, it in self.supplies.items()}, rows)
+        rows = [(arc.src, arc.dst, int(arc.lower * self.flow_factor), int((self.bound if arc.capacity is None else arc.capacity) * self.flow_factor),
+                 int(arc.cost * self.cost_factor)) for arc in self.arcs]
+        return problem_text(self.count, {node: int(supply * self.flow_factor) for node, supply in self.supplies.items()}, rows)
 
     def solve(self, certify: bool = False) -> Result:
         """Returns a flow of least cost; raises Infeasible with the indices of a cut, or Unbounded."""
@@ -72,18 +72,18 @@ class Problem:
             require_certificate(text, answer.text)
         lines = answer.text.split("\n")
         if answer.status == 2:
-            side, nodes = lines[0].split(" ")[1], [int(it[2:]) - 1 for it in lines if it.startswith("m ")]
+            side, nodes = lines[0].split(" ")[1], [int(line[2:]) - 1 for line in lines if line.startswith("m ")]
             raise Infeasible("no flow is feasible", nodes, side, [])
         self.require_bounded()
-        flows = [divided(int(it.rsplit(" ", 1)[1]), self.flow_factor) for it in lines if it.startswith("f ")]
-        potentials = [divided(int(it.rsplit(" ", 1)[1]), self.cost_factor) for it in lines if it.startswith("v ")]
+        flows = [divided(int(line.rsplit(" ", 1)[1]), self.flow_factor) for line in lines if line.startswith("f ")]
+        potentials = [divided(int(line.rsplit(" ", 1)[1]), self.cost_factor) for line in lines if line.startswith("v ")]
         return Result(flows, divided(int(lines[0][2:]), self.flow_factor * self.cost_factor), potentials, answer.text)
 
     def require_bounded(self) -> None:
         """Raises Unbounded if a cycle of arcs without a limit has a negative cost."""
-        free = [it for it in self.arcs if it.capacity is None]
-        if any(it.cost < 0 for it in free):
-            rows = [(it.src, it.dst, 0, 1, int(it.cost * self.cost_factor)) for it in free]
+        free = [arc for arc in self.arcs if arc.capacity is None]
+        if any(arc.cost < 0 for arc in free):
+            rows = [(arc.src, arc.dst, 0, 1, int(arc.cost * self.cost_factor)) for arc in free]
             if not call(["min", "/dev/stdin"], problem_text(self.count, {}, rows)).text.startswith("s 0\n"):
                 raise Unbounded("a cycle of arcs without a limit has a negative cost")
 
@@ -106,7 +106,7 @@ def require_bounded(net: Network) -> None:
     outside = len(net.nodes)
     rows = []
     for arc in net.arcs:
-        src, dst = (outside if it is None else it for it in (arc.src, arc.dst))
+        src, dst = (outside if end is None else end for end in (arc.src, arc.dst))
         cost = net.sign * arc.price
         rows += [(src, dst, 0, 1, cost)] if arc.is_open else []
         rows += [(dst, src, 0, 1, -cost)] if arc.lower == -arc.upper and arc.is_open else []
@@ -114,7 +114,7 @@ def require_bounded(net: Network) -> None:
         # A node whose arcs alone limit it takes or gives any amount.
         rows += [(number, outside, 0, 1, 0)] if not node.has_high() and node.low != node.high else []
         rows += [(outside, number, 0, 1, 0)] if not node.has_low() and node.low != node.high else []
-    if any(it[4] < 0 for it in rows) and not call(["min", "/dev/stdin"], problem_text(outside + 1, {}, rows)).text.startswith("s 0\n"):
+    if any(row[4] < 0 for row in rows) and not call(["min", "/dev/stdin"], problem_text(outside + 1, {}, rows)).text.startswith("s 0\n"):
         raise Unbounded(f"{net.objective} has no limit: arcs without an upper bound improve it forever")
 
 
@@ -155,16 +155,16 @@ def network_simplex(G: Any, demand: str = "demand", capacity: str = "capacity", 
         raise _raised("NetworkXNotImplemented", DataError, "min_cost_flow takes a directed graph")
     number = _Numbers()
     index = {node: here for here, node in enumerate(G)}
-    supplies = {index[node]: -_finite(number(it, f"demand of {node!r}"), node) for node, it in G.nodes(data=demand, default=0)}
+    supplies = {index[node]: -_finite(number(amount, f"demand of {node!r}"), node) for node, amount in G.nodes(data=demand, default=0)}
     edges = list(G.edges(keys=True, data=True)) if G.is_multigraph() else [(src, dst, None, data) for src, dst, data in G.edges(data=True)]
     arcs = [_arc_of(index, number, edge, capacity, weight) for edge in edges]
     try:
-        if any(it.capacity is not None and it.capacity < 0 for it in arcs):
+        if any(arc.capacity is not None and arc.capacity < 0 for arc in arcs):
             raise Infeasible("an arc has a negative capacity", [], "under", [])
         found = Problem(len(index), supplies, arcs).solve(certify)
     except Infeasible as problem:
         nodes = list(index)
-        raise _raised("NetworkXUnfeasible", Infeasible, str(problem), [nodes[it] for it in problem.cut], problem.side, []) from None
+        raise _raised("NetworkXUnfeasible", Infeasible, str(problem), [nodes[number] for number in problem.cut], problem.side, []) from None
     except Unbounded as problem:
         raise _raised("NetworkXUnbounded", Unbounded, str(problem)) from None
     flows: dict = {node: {} for node in G}
@@ -247,7 +247,7 @@ class SimpleMinCostFlow:
         return len(self._arcs) - 1
 
     def add_arcs_with_capacity_and_unit_cost(self, tails: Iterable, heads: Iterable, capacities: Iterable, unit_costs: Iterable) -> list:
-        return [self.add_arc_with_capacity_and_unit_cost(*it) for it in zip(tails, heads, capacities, unit_costs)]
+        return [self.add_arc_with_capacity_and_unit_cost(*arc) for arc in zip(tails, heads, capacities, unit_costs)]
 
     def set_node_supply(self, node: int, supply: Any) -> None:
         """Sets what a node gives; below 0 it takes."""
@@ -266,17 +266,17 @@ class SimpleMinCostFlow:
     def solve_max_flow_with_min_cost(self) -> Status:
         """Sends as much of the supplies as possible, at the least cost."""
         source = self.num_nodes()
-        ends = [Arc(source, node, it, Fraction(0)) for node, it in self._supplies.items() if it > 0]
-        ends += [Arc(node, source + 1, -it, Fraction(0)) for node, it in self._supplies.items() if it < 0]
-        total = sum((abs(it) for it in self._supplies.values()), Fraction(0))
-        plain = [Arc(it.src, it.dst, it.capacity, Fraction(0)) for it in self._arcs]
+        ends = [Arc(source, node, supply, Fraction(0)) for node, supply in self._supplies.items() if supply > 0]
+        ends += [Arc(node, source + 1, -supply, Fraction(0)) for node, supply in self._supplies.items() if supply < 0]
+        total = sum((abs(supply) for supply in self._supplies.values()), Fraction(0))
+        plain = [Arc(arc.src, arc.dst, arc.capacity, Fraction(0)) for arc in self._arcs]
         back = Arc(source + 1, source, total, Fraction(-1))
         most = -Fraction(Problem(source + 2, {}, [*plain, *ends, back]).solve(self.certify).cost)
         return self._solve([*self._arcs, *ends, Arc(source + 1, source, most, Fraction(0), most)], {}, source + 2)
 
     def _solve(self, arcs: Sequence[Arc], supplies: dict, count: int) -> Status:
         self._result, self.cut = None, []
-        if any(it.capacity is not None and it.capacity < 0 for it in arcs):
+        if any(arc.capacity is not None and arc.capacity < 0 for arc in arcs):
             return Status.BAD_CAPACITY_RANGE
         try:
             self._result = Problem(count, supplies, arcs).solve(self.certify)
@@ -296,14 +296,14 @@ class SimpleMinCostFlow:
         return self._number.shown(self._solved().flows[arc])
 
     def flows(self, arcs: Iterable) -> list:
-        return [self.flow(it) for it in arcs]
+        return [self.flow(arc) for arc in arcs]
 
     def optimal_cost(self) -> Any:
         return self._number.shown(self._solved().cost)
 
     def maximum_flow(self) -> Any:
         """Returns what leaves the nodes that give."""
-        found = {node: Fraction(0) for node, it in self._supplies.items() if it > 0}
+        found = {node: Fraction(0) for node, supply in self._supplies.items() if supply > 0}
         for arc, flow in zip(self._arcs, self._solved().flows):
             for node, sign in ((arc.src, 1), (arc.dst, -1)):
                 if node in found:
@@ -311,7 +311,7 @@ class SimpleMinCostFlow:
         return self._number.shown(sum(found.values(), Fraction(0)))
 
     def num_nodes(self) -> int:
-        return 1 + max([-1, *self._supplies, *(it.src for it in self._arcs), *(it.dst for it in self._arcs)])
+        return 1 + max([-1, *self._supplies, *(arc.src for arc in self._arcs), *(arc.dst for arc in self._arcs)])
 
     def num_arcs(self) -> int:
         return len(self._arcs)

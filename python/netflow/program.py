@@ -70,7 +70,7 @@ class Session:
         self.options = list(options)
         self.copies: list = []
         self.remove = weakref.finalize(self, _remove, self.copies)
-        self.files = [self.lasting(it) for it in files]
+        self.files = [self.lasting(path) for path in files]
 
     def __enter__(self) -> "Session":
         return self

@@ -25,7 +25,7 @@ class Flows(Mapping):
     """The flows of one declaration of arcs by key; the key of one index is the member itself."""
 
     def __init__(self, name: str, arcs: list) -> None:
-        self.name, self.arcs = name, {tuple(it.key): it for it in arcs}
+        self.name, self.arcs = name, {tuple(arc.key): arc for arc in arcs}
 
     def __getitem__(self, key: Any) -> Number:
         return self.arc(key).flow
@@ -39,7 +39,7 @@ class Flows(Mapping):
             raise KeyError(f"{self.name} has no arc {key}") from None
 
     def __iter__(self) -> Iterator:
-        return (it[0] if len(it) == 1 else it for it in self.arcs)
+        return (arc[0] if len(arc) == 1 else arc for arc in self.arcs)
 
     def __len__(self) -> int:
         return len(self.arcs)
@@ -52,8 +52,8 @@ class Flows(Mapping):
         import pandas
         keys = list(self)
         index = pandas.MultiIndex.from_tuples(keys) if keys and isinstance(keys[0], tuple) else pandas.Index(keys)
-        series = pandas.Series([it.flow for it in self.arcs.values()], index, name=self.name, dtype=object)
-        return series.infer_objects() if all(isinstance(it, int) for it in series) else series.astype(float)
+        series = pandas.Series([arc.flow for arc in self.arcs.values()], index, name=self.name, dtype=object)
+        return series.infer_objects() if all(isinstance(flow, int) for flow in series) else series.astype(float)
 
 
 class Solution:
@@ -110,7 +110,7 @@ class Solution:
     def to_pandas(self, name: str | None = None) -> Any:
         """Returns a pandas DataFrame of the arcs."""
         import pandas
-        rows = [{title: it if isinstance(it, (int, str)) or it is None else float(it) for title, it in row.items()} for row in self.to_rows(name)]
+        rows = [{title: value if isinstance(value, (int, str)) or value is None else float(value) for title, value in row.items()} for row in self.to_rows(name)]
         return pandas.DataFrame(rows)
 
     def _priced(self) -> Marginal:
@@ -125,11 +125,11 @@ class Solution:
         """By how much the value changes if a node requires one more unit, exactly; nodes whose need cannot change alone have no entry."""
         more = self._priced().more
         sign = self.network.sign
-        return {it.text: sign * cost for it, cost in zip(self.network.nodes, more) if cost is not None}
+        return {node.text: sign * cost for node, cost in zip(self.network.nodes, more) if cost is not None}
 
     def price_range(self, node: str) -> Any:
         """For how many more required units at a node, such as `"Shop['hill']"`, its price holds; infinity for any number."""
-        number = next((number for number, it in enumerate(self.network.nodes) if it.text == node), None)
+        number = next((number for number, other in enumerate(self.network.nodes) if other.text == node), None)
         if number is None:
             raise KeyError(f"the model has no node {node}")
         return self._priced().units_more(number)
@@ -139,8 +139,8 @@ class Solution:
         """The reduced cost of each arc, by declaration and key, at prices that prove the plan."""
         self._priced()
         found: dict = {}
-        for it in self.network.arcs:
-            found.setdefault(it.name, {})[it.key[0] if len(it.key) == 1 else tuple(it.key)] = it.worth
+        for arc in self.network.arcs:
+            found.setdefault(arc.name, {})[arc.key[0] if len(arc.key) == 1 else tuple(arc.key)] = arc.worth
         return found
 
     def report(self) -> str:
@@ -213,11 +213,11 @@ def inputs_of(data: Any) -> tuple:
     """Returns the data texts, and the sets and parameters of dicts."""
     texts: list = []
     changes: dict = {}
-    for it in data if isinstance(data, (list, tuple)) else [data] if data is not None else []:
-        if isinstance(it, Mapping):
-            override(changes, it)
+    for source in data if isinstance(data, (list, tuple)) else [data] if data is not None else []:
+        if isinstance(source, Mapping):
+            override(changes, source)
         else:
-            texts.append(input_of(it, "data", "a path, a text, a dict, or a list of these"))
+            texts.append(input_of(source, "data", "a path, a text, a dict, or a list of these"))
     return texts, changes
 
 
@@ -233,4 +233,4 @@ def infeasible(net: Network) -> Infeasible:
     """Returns the exception for a network with a cut."""
     side, inside = net.cut
     found = reasons(net, side, inside)
-    return Infeasible(f"no plan: {found[0].headline(net)}", [net.nodes[it].text for it in sorted(inside)], side, found, net)
+    return Infeasible(f"no plan: {found[0].headline(net)}", [net.nodes[number].text for number in sorted(inside)], side, found, net)

@@ -58,8 +58,8 @@ class Move:
 
 def choices(net):
     """Returns the declarations whose arcs all carry 0 or 1: such an arc is a choice, and a larger bound is no advice."""
-    return {name for name, arcs in net.declared().items() if len(arcs) > 1 and all(it.lower >= 0 and it.upper <= 1 for it in arcs)
-            and any(it.upper == 1 for it in arcs)}
+    return {name for name, arcs in net.declared().items() if len(arcs) > 1 and all(arc.lower >= 0 and arc.upper <= 1 for arc in arcs)
+            and any(arc.upper == 1 for arc in arcs)}
 
 
 def moves_of_arcs(net):
@@ -67,7 +67,7 @@ def moves_of_arcs(net):
     for arc in net.arcs:
         if arc.name in left_alone or arc.is_open:
             continue
-        src, dst = (outside if it is None else it + 1 for it in (arc.src, arc.dst))
+        src, dst = (outside if end is None else end + 1 for end in (arc.src, arc.dst))
         yield Move(f"{src} {dst}", arc.text, arc.upper, 1, "at most")
         if arc.lower:
             yield Move(f"{dst} {src}", arc.text, arc.lower, -1, "at least")
@@ -93,8 +93,8 @@ class Costless:
 
     def __init__(self, net):
         outside = len(net.nodes) + 1
-        supplies = [it for it in net.lines if it.startswith("n ")]
-        arcs = [it.rpartition(" ")[0] + " 0" for it in net.lines if it.startswith("a ")]
+        supplies = [line for line in net.lines if line.startswith("n ")]
+        arcs = [line.rpartition(" ")[0] + " 0" for line in net.lines if line.startswith("a ")]
         for number, node in enumerate(net.nodes, 1):
             arcs += [f"a {outside} {number} 0 {FAR} 0"] * node.is_low_open + [f"a {number} {outside} 0 {FAR} 0"] * node.is_high_open
         self.nodes, self.arcs, self.size = outside, len(arcs), len(net.lines)
@@ -104,7 +104,7 @@ class Costless:
         """Returns by how much each bound is moved at least cost; None if there is no plan even so."""
         status, lines = self.answer(moves, costs)
         # The lines of arcs follow the line with the value.
-        return None if status else [int(it.rpartition(" ")[2]) for it in lines[1 + self.arcs:1 + self.arcs + len(moves)]]
+        return None if status else [int(line.rpartition(" ")[2]) for line in lines[1 + self.arcs:1 + self.arcs + len(moves)]]
 
     def least_total(self, moves):
         """Returns by how much each bound is moved with the least total; None if no such moves are enough."""
@@ -113,12 +113,12 @@ class Costless:
     def cut_with(self, move):
         """Returns the side and the nodes, counted from 1, of a set that is short even with one bound moved; None if there is a plan."""
         status, lines = self.answer([move], [1])
-        return (lines[0][2:], {int(it[2:]) for it in lines if it.startswith("m ")}) if status else None
+        return (lines[0][2:], {int(line[2:]) for line in lines if line.startswith("m ")}) if status else None
 
     def answer(self, moves, costs):
         """Returns the status and the lines of the program's answer with the moves as arcs."""
         lines = [f"p min {self.nodes} {self.arcs + len(moves)}", *([self.text] if self.text else [])]
-        lines += [f"a {it.ends} 0 {FAR} {cost}" for it, cost in zip(moves, costs)]
+        lines += [f"a {move.ends} 0 {FAR} {cost}" for move, cost in zip(moves, costs)]
         answer = call(["min", "/dev/stdin"], "\n".join(lines) + "\n")
         return answer.status, answer.text.split("\n")
 
@@ -134,23 +134,23 @@ class LeastChanges:
 
     def others(self):
         """Returns the kinds of bounds that have no change at one place."""
-        return {kind: it for kind, it in self.kinds.items() if it is None or it[0] not in self.single}
+        return {kind: changes for kind, changes in self.kinds.items() if changes is None or changes[0] not in self.single}
 
 
 def concentrated(problem, moves, flows):
     """Returns moves of the same total in fewer places, if some are found: first each of the largest ones is preferred to all others,
     then those of the best answer by their size."""
     whole, limit = sum(flows), min(TRIES, TRIED // (problem.size + len(moves)))
-    largest = sorted((it for it, flow in enumerate(flows) if flow), key=lambda it: -flows[it])
-    for first in [[it] for it in largest[:limit]] + [None]:
+    largest = sorted((index for index, flow in enumerate(flows) if flow), key=lambda index: -flows[index])
+    for first in [[index] for index in largest[:limit]] + [None]:
         if sum(map(bool, flows)) == 1:
             break
-        order = first or sorted((it for it, flow in enumerate(flows) if flow), key=lambda it: -flows[it])[:RANKS]
-        ranks = {it: rank for rank, it in enumerate(order)}
+        order = first or sorted((index for index, flow in enumerate(flows) if flow), key=lambda index: -flows[index])[:RANKS]
+        ranks = {index: rank for rank, index in enumerate(order)}
         base = whole * len(ranks) + 1  # one unit more in all costs more than any order saves
         if base > MOST_COST:
             break
-        found = problem.least_flows(moves, [base + ranks.get(it, len(ranks)) for it in range(len(moves))])
+        found = problem.least_flows(moves, [base + ranks.get(index, len(ranks)) for index in range(len(moves))])
         if found is not None and sum(found) == whole and sum(map(bool, found)) < sum(map(bool, flows)):
             flows = found
     return flows
@@ -163,19 +163,19 @@ def least_changes(net):
     if len(net.lines) + len(both) > LARGEST:
         return LeastChanges(is_large=True)
     problem = Costless(net)
-    flows = {kind: problem.least_total(it) for kind, it in moves.items()}
-    totals, least = [sum(it) for it in flows.values() if it], problem.least_total(both)
+    flows = {kind: problem.least_total(moves_of_kind) for kind, moves_of_kind in moves.items()}
+    totals, least = [sum(amounts) for amounts in flows.values() if amounts], problem.least_total(both)
     if least and sum(least) < min(totals, default=FAR):
         moves[BOTH], flows[BOTH] = both, least
     whole = sum(least or [])
     search, single = SingleMoves(net, problem, divided(whole, net.factors.flow)), {}
-    for kind, it in flows.items():
-        single[kind] = search.found(moves[kind], it) if it and sum(it) == whole and BOTH not in flows else []
+    for kind, amounts in flows.items():
+        single[kind] = search.found(moves[kind], amounts) if amounts and sum(amounts) == whole and BOTH not in flows else []
     found = LeastChanges()
-    for kind, it in flows.items():
+    for kind, amounts in flows.items():
         best = [move.change(search.amount) for _, move in single[kind][:1]]
-        found.kinds[kind] = best or least_change(net, problem, moves[kind], it)
-    pairs = sorted((pair for it in single.values() for pair in it), key=lambda pair: pair[0])
+        found.kinds[kind] = best or least_change(net, problem, moves[kind], amounts)
+    pairs = sorted((pair for ranked in single.values() for pair in ranked), key=lambda pair: pair[0])
     found.single = [move.change(search.amount) for _, move in pairs]
     return found
 
@@ -190,19 +190,19 @@ def least_change(net, problem, moves, flows):
 
 def is_left_out(changes):
     """Whether the changes take from several places all that they ask for."""
-    return bool(changes) and len(changes) > 1 and all(it.becomes == 0 and it.what in ("needs", "gives") for it in changes)
+    return bool(changes) and len(changes) > 1 and all(change.becomes == 0 and change.what in ("needs", "gives") for change in changes)
 
 
 def left_out_text(net, changes, most):
     """Returns which places get or give nothing with the changes; only how many if they are most of those that ask for something."""
-    verbs = [verb for what, verb in (("needs", "get"), ("gives", "give")) if any(it.what == what for it in changes)]
-    asking = sum(it.low > 0 or it.high < 0 for it in net.nodes)
-    names = few([it.text for it in changes], most) if 2 * len(changes) <= asking else ""
+    verbs = [verb for what, verb in (("needs", "get"), ("gives", "give")) if any(change.what == what for change in changes)]
+    asking = sum(node.low > 0 or node.high < 0 for node in net.nodes)
+    names = few([change.text for change in changes], most) if 2 * len(changes) <= asking else ""
     return f"{len(changes)} places would {' or '.join(verbs)} nothing{names and ': '}{names}"
 
 
 def total(changes):
-    return sum(it.amount for it in changes)
+    return sum(change.amount for change in changes)
 
 
 def units(amount):

@@ -11,12 +11,12 @@ class Declared:
 
     def __init__(self, name, nodes):
         self.name, self.nodes, self.arcs = name, nodes, []
-        self.giving = {it.high < 0 for it in nodes.values()}
+        self.giving = {node.high < 0 for node in nodes.values()}
 
     def is_opposite(self):
         """Whether no arc of any of these nodes leads the way that the node needs: out of those that give, into those that need."""
-        srcs, dsts = {it.src for it in self.arcs}, {it.dst for it in self.arcs}
-        return bool(self.arcs) and not any(number in (srcs if it.high < 0 else dsts) for number, it in self.nodes.items())
+        srcs, dsts = {arc.src for arc in self.arcs}, {arc.dst for arc in self.arcs}
+        return bool(self.arcs) and not any(number in (srcs if node.high < 0 else dsts) for number, node in self.nodes.items())
 
     def line(self, net):
         """Returns what is opposite, with the question that the other ends of the arcs suggest."""
@@ -26,7 +26,7 @@ class Declared:
         gives = True in self.giving
         said, meant = ("net_out", "net_in") if gives else ("net_in", "net_out")
         ends = {arc.src if gives else arc.dst for arc in self.arcs} - {None}
-        others = {net.nodes[it].wish().partition(" ")[0] for it in ends}
+        others = {net.nodes[number].wish().partition(" ")[0] for number in ends}
         alike, contrary = ("gives", "needs") if gives else ("needs", "gives")
         names = few(list(dict.fromkeys(arc.name for arc in self.arcs)), 3)
         sign, turned = f"{meant} meant instead of {said} in the condition of {self.name}", f"the direction of {names} reversed"
@@ -41,8 +41,8 @@ def opposite_sides(net):
         if node.low > 0 or node.high < 0:
             found.setdefault(node.text.partition("[")[0], {})[number] = node
     declared = [Declared(name, nodes) for name, nodes in found.items()]
-    owners = {number: it for it in declared for number in it.nodes}
+    owners = {number: declaration for declaration in declared for number in declaration.nodes}
     for arc in net.arcs:
-        for it in {owners[number] for number in (arc.src, arc.dst) if number in owners}:
-            it.arcs.append(arc)
-    return [it.line(net) for it in declared if it.is_opposite()]
+        for declaration in {owners[number] for number in (arc.src, arc.dst) if number in owners}:
+            declaration.arcs.append(arc)
+    return [declaration.line(net) for declaration in declared if declaration.is_opposite()]

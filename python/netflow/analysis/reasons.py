@@ -52,7 +52,7 @@ class Reason:
     def who(self, net):
         count = len(self.nodes)
         if count <= 3 < len(net.nodes) or count == 1:
-            return ", ".join(net.nodes[it].text for it in self.nodes) + " together" * (count > 1)
+            return ", ".join(net.nodes[number].text for number in self.nodes) + " together" * (count > 1)
         return f"{'All' if count == len(net.nodes) else 'These'} {count} places together"
 
     def headline(self, net):
@@ -64,13 +64,13 @@ class Reason:
 
     def quiet(self, net):
         """Returns the places of the set that pass on what they get."""
-        return [net.nodes[it].text for it in self.nodes if net.nodes[it].low == net.nodes[it].high == 0]
+        return [net.nodes[number].text for number in self.nodes if net.nodes[number].low == net.nodes[number].high == 0]
 
     def needed(self):
-        return sum(it.amount for it in self.asks)
+        return sum(part.amount for part in self.asks)
 
     def given(self):
-        return sum(it.amount for it in self.helps)
+        return sum(part.amount for part in self.helps)
 
     def short(self):
         return self.needed() - self.given()
@@ -78,7 +78,7 @@ class Reason:
     def is_mirror(self, other):
         """Whether both say the same from two sides: what cannot leave one set is short in the other, and mostly the same arcs carry too
         little."""
-        ours, theirs = ({it.arc for it in reason.helps if it.arc and it.amount} for reason in (self, other))
+        ours, theirs = ({part.arc for part in reason.helps if part.arc and part.amount} for reason in (self, other))
         return self.side != other.side and self.short() == other.short() and 2 * len(ours & theirs) > len(ours | theirs)
 
 
@@ -106,14 +106,14 @@ class Cuts:
         return arc.upper if is_inward == self.is_under else -arc.lower
 
     def short(self, nodes):
-        total = sum(self.needs(it) for it in nodes)
+        total = sum(self.needs(number) for number in nodes)
         for arc in self.crossing(nodes):
             total -= self.carried(arc, arc.dst in nodes)
         return total
 
     def crossing(self, nodes):
         """Returns the arcs with one end in the set, each once."""
-        return [arc for it in nodes for arc in self.near[it] if (arc.src in nodes) != (arc.dst in nodes)]
+        return [arc for number in nodes for arc in self.near[number] if (arc.src in nodes) != (arc.dst in nodes)]
 
     def grown(self, number, nodes):
         """Returns how much less short the set is without the node."""
@@ -128,13 +128,13 @@ class Cuts:
 
     def thinned(self, nodes):
         """Returns the set without nodes that add nothing to the shortage: those without a binding side, then others one by one."""
-        nodes = {it for it in nodes if self.binds(it)}
+        nodes = {number for number in nodes if self.binds(number)}
         again = True
         while again:
             again = False
-            for it in sorted(nodes, key=self.needs):
-                if self.grown(it, nodes) <= 0:
-                    nodes.discard(it)
+            for number in sorted(nodes, key=self.needs):
+                if self.grown(number, nodes) <= 0:
+                    nodes.discard(number)
                     again = True
         return nodes
 
@@ -143,9 +143,9 @@ class Cuts:
         left = set(nodes)
         while left:
             line = [left.pop()]
-            for it in line:
-                for arc in self.near[it]:
-                    other = arc.dst if arc.src == it else arc.src
+            for number in line:
+                for arc in self.near[number]:
+                    other = arc.dst if arc.src == number else arc.src
                     if other in left:
                         left.discard(other)
                         line.append(other)
@@ -154,10 +154,10 @@ class Cuts:
     def reason(self, nodes):
         """Returns the set's reason: what asks, what helps, and the arcs across it that do neither."""
         asks, helps, idle = [], [], []
-        for it in sorted(nodes):
-            amount = self.needs(it)
+        for number in sorted(nodes):
+            amount = self.needs(number)
             if amount:
-                text = self.net.nodes[it].text
+                text = self.net.nodes[number].text
                 (asks if amount > 0 else helps).append(Part(abs(amount), text, text.partition("[")[0]))
         for arc in self.crossing(nodes):
             is_inward = arc.dst in nodes
@@ -167,7 +167,7 @@ class Cuts:
                 (asks if amount < 0 else helps).append(Part(abs(amount), "by " + self.way(arc, is_inward), arc.name, arc.text))
             else:
                 idle.append(Part(0, self.way(arc, is_inward), arc.name, arc.text))
-        return Reason(self.side, sorted(nodes), *(sorted(it, key=lambda part: -part.amount) for it in (asks, helps, idle)))
+        return Reason(self.side, sorted(nodes), *(sorted(parts, key=lambda part: -part.amount) for parts in (asks, helps, idle)))
 
     def way(self, arc, is_inward):
         other = f"from {self.net.end(arc.src)}" if is_inward else f"to {self.net.end(arc.dst)}"
@@ -178,10 +178,10 @@ def reasons(net, side, nodes):
     """Returns the sets that are short, the largest shortage first, without those that say the same as one before them from its other
     side."""
     found = []
-    for it in all_reasons(net, side, nodes):
-        if not any(it.is_mirror(other) for other in found):
-            found.append(it)
-    return sorted(found, key=lambda it: -it.short())
+    for reason in all_reasons(net, side, nodes):
+        if not any(reason.is_mirror(other) for other in found):
+            found.append(reason)
+    return sorted(found, key=lambda reason: -reason.short())
 
 
 def all_reasons(net, side, nodes):
@@ -190,8 +190,8 @@ def all_reasons(net, side, nodes):
     found = reasons_of_cut(net, side, nodes)
     for _ in range(min(ROUNDS, LARGEST // len(net.lines))):
         cut = cut_besides(net, found)
-        known = {(it.side, *it.nodes) for it in found}
-        more = [it for it in reasons_of_cut(net, *cut) if (it.side, *it.nodes) not in known] if cut else []
+        known = {(reason.side, *reason.nodes) for reason in found}
+        more = [reason for reason in reasons_of_cut(net, *cut) if (reason.side, *reason.nodes) not in known] if cut else []
         if not more:
             break
         found += more
@@ -202,9 +202,9 @@ def reasons_of_cut(net, side, nodes):
     """Returns the smallest sets of a cut: each is part of it, and together they are short by as much or more."""
     cuts, found = Cuts(net, side), []
     for part in cuts.parts(nodes):
-        found += [it for it in cuts.parts(cuts.thinned(part)) if cuts.short(it) > 0]
-    found = [it for it in found if shows(net, side, it)] or [nodes]
-    return [cuts.reason(it) for it in found]
+        found += [nodes_of_part for nodes_of_part in cuts.parts(cuts.thinned(part)) if cuts.short(nodes_of_part) > 0]
+    found = [inside for inside in found if shows(net, side, inside)] or [nodes]
+    return [cuts.reason(inside) for inside in found]
 
 
 def cut_besides(net, found):
@@ -212,18 +212,18 @@ def cut_besides(net, found):
     too much; None if there is no such set."""
     outside = len(net.nodes) + 1
     arcs = []
-    for grant, it in enumerate(found, outside + 1):
-        amount = int(it.short() * net.factors.flow)
-        for src, dst in ((outside, grant), *((grant, number + 1) for number in it.nodes)):
-            arcs.append(f"a {src} {dst} 0 {amount} 0" if it.side == "under" else f"a {dst} {src} 0 {amount} 0")
+    for grant, reason in enumerate(found, outside + 1):
+        amount = int(reason.short() * net.factors.flow)
+        for src, dst in ((outside, grant), *((grant, number + 1) for number in reason.nodes)):
+            arcs.append(f"a {src} {dst} 0 {amount} 0" if reason.side == "under" else f"a {dst} {src} 0 {amount} 0")
     head, _, rest = net.problem.partition("\n")
     counts = f"p min {outside + len(found)} {int(head.split(' ')[3]) + len(arcs)}\n"
-    answer = run(["min", "/dev/stdin"], counts + rest + "".join(f"{it}\n" for it in arcs))
+    answer = run(["min", "/dev/stdin"], counts + rest + "".join(f"{arc}\n" for arc in arcs))
     lines = answer.stdout.split("\n")
     if answer.returncode != 2 or not lines[0].startswith("x "):
         return None
-    side, inside = lines[0][2:], {int(it[2:]) for it in lines[1:] if it.startswith("m ")}
-    nodes = {it for it in range(len(net.nodes)) if (it + 1 in inside) != (outside in inside)}
+    side, inside = lines[0][2:], {int(line[2:]) for line in lines[1:] if line.startswith("m ")}
+    nodes = {number for number in range(len(net.nodes)) if (number + 1 in inside) != (outside in inside)}
     return ({"over": "under", "under": "over"}[side] if outside in inside else side), nodes
 
 
@@ -231,7 +231,7 @@ def shows(net, side, nodes):
     """Whether `netflow check` accepts the set as a proof that there is no plan."""
     with tempfile.TemporaryDirectory(prefix="netflow-") as folder:
         problem, cut = os.path.join(folder, "problem"), os.path.join(folder, "cut")
-        lines = [f"x {side}", *(f"m {it + 1}" for it in sorted(nodes))]
+        lines = [f"x {side}", *(f"m {number + 1}" for number in sorted(nodes))]
         for path, text in ((problem, net.problem), (cut, "\n".join(lines) + "\n")):
             with open(path, "w", encoding="ascii") as file:
                 file.write(text)

@@ -65,7 +65,7 @@ class Residual:
     def costs(self, labels: list, start: int, is_backward: bool = False) -> list:
         """Returns the costs that belong to labels."""
         sign = -1 if is_backward else 1
-        return [None if it is None else it + sign * (self.worth(number) - self.worth(start)) for number, it in enumerate(labels)]
+        return [None if length is None else length + sign * (self.worth(number) - self.worth(start)) for number, length in enumerate(labels)]
 
     def distances(self, start: int, is_backward: bool = False) -> list:
         """Returns the least cost from `start` to each node (or from each node to it); None if there is no path."""
@@ -140,7 +140,7 @@ class Marginal:
     def pair(self, number: int) -> tuple | None:
         """Returns the giving node with which one more unit at the node has a plan, and the cost; None if there is none."""
         found = self.residual.distances(number, True)
-        givers = [(found[it], it) for it, node in enumerate(self.net.nodes) if node.high < 0 and it != number and found[it] is not None]
+        givers = [(found[giver], giver) for giver, node in enumerate(self.net.nodes) if node.high < 0 and giver != number and found[giver] is not None]
         if not givers:
             return None
         cost, giver = min(givers)
@@ -163,5 +163,5 @@ def arc_units(residual: Residual, arc: Any, work: float = math.inf) -> Any:
 
 def way_back(residual: Residual, arc: Any) -> tuple:
     """Returns between which nodes a path has to carry a unit that the arc carries past its bound."""
-    src, dst = (residual.outside if it is None else it for it in (arc.src, arc.dst))
+    src, dst = (residual.outside if end is None else end for end in (arc.src, arc.dst))
     return (dst, src) if arc.is_full() else (src, dst)

@@ -17,8 +17,8 @@ class SingleMoves:
     def __init__(self, net, problem, amount):
         side, inside = net.cut
         # A set with an open side is short only as long as the bounds of its arcs are what they are.
-        is_open = any(net.nodes[it].is_low_open if side == "under" else net.nodes[it].is_high_open for it in inside)
-        self.problem, self.amount, self.cuts = problem, amount, [] if is_open else [(side, {it + 1 for it in inside})]
+        is_open = any(net.nodes[number].is_low_open if side == "under" else net.nodes[number].is_high_open for number in inside)
+        self.problem, self.amount, self.cuts = problem, amount, [] if is_open else [(side, {number + 1 for number in inside})]
 
     def found(self, moves, flows):
         """Returns pairs of a rank and a move, the best rank first. `flows` say how far a least change moves each bound."""
@@ -56,9 +56,9 @@ class SingleMoves:
 def usual_bounds(moves):
     """Returns the middle one of the bounds of a declaration, by kind and direction, if there are more than two."""
     groups = {}
-    for it in moves:
-        groups.setdefault(group_of(it), []).append(it.was)
-    return {group: sorted(it)[len(it) // 2] for group, it in groups.items() if len(it) > 2}
+    for move in moves:
+        groups.setdefault(group_of(move), []).append(move.was)
+    return {group: sorted(bounds)[len(bounds) // 2] for group, bounds in groups.items() if len(bounds) > 2}
 
 
 def group_of(move):

@@ -9,7 +9,7 @@ from ..reading.output import Network
 
 
 def remark_lines(question: Any, net: Network) -> list:
-    model, data = question.model.text(), [it.text() for it in question.data]
+    model, data = question.model.text(), [source.text() for source in question.data]
     return [*limits_without_effect(net), *without_arcs(net, model, data)]
 
 
@@ -19,15 +19,15 @@ def limits_without_effect(net: Network) -> list:
     for number, node in enumerate(net.nodes):
         groups.setdefault(node.text.partition("[")[0], {})[number] = node
     owners = {number: name for name, nodes in groups.items() for number in nodes}
-    into = {owners[it.dst] for it in net.arcs if it.dst is not None} | {owners[it.src] for it in net.arcs if it.src is not None and it.lower < 0}
-    out_of = {owners[it.src] for it in net.arcs if it.src is not None} | {owners[it.dst] for it in net.arcs if it.dst is not None and it.lower < 0}
+    into = {owners[arc.dst] for arc in net.arcs if arc.dst is not None} | {owners[arc.src] for arc in net.arcs if arc.src is not None and arc.lower < 0}
+    out_of = {owners[arc.src] for arc in net.arcs if arc.src is not None} | {owners[arc.dst] for arc in net.arcs if arc.dst is not None and arc.lower < 0}
     lines = []
     for name, nodes in groups.items():
         first = next(iter(nodes.values()))
         more = f" ({len(nodes) - 1} more of {name})" if len(nodes) > 1 else ""
-        if name in out_of - into and all(it.is_low_open and it.high >= 0 for it in nodes.values()):
+        if name in out_of - into and all(node.is_low_open and node.high >= 0 for node in nodes.values()):
             lines.append(f"{first.text}: no arc leads in, so net_in <= {first.high} limits nothing: is net_out meant?{more}")
-        elif name in into - out_of and all(it.is_high_open and it.low <= 0 for it in nodes.values()):
+        elif name in into - out_of and all(node.is_high_open and node.low <= 0 for node in nodes.values()):
             lines.append(f"{first.text}: no arc leads out, so net_out <= {-first.low} limits nothing: is net_in meant?{more}")
     return lines
 
@@ -44,6 +44,6 @@ def without_arcs(net: Network, model: str, data: list) -> list:
             continue
         braces = shapes.decls[name].braces
         sets = [part.value for part in braces.walk() if part.op == "name" and part.value in shapes.sets] if braces else []
-        empty = [it for it in dict.fromkeys(sets) if any(re.search(rf"\bset\s+{re.escape(it)}\s*:=\s*;", text) for text in data)]
+        empty = [name for name in dict.fromkeys(sets) if any(re.search(rf"\bset\s+{re.escape(name)}\s*:=\s*;", text) for text in data)]
         lines.append(f"{name} has no arcs: {f'the set {empty[0]} is empty' if empty else 'no key fulfils the condition of its braces'}")
     return lines

@@ -20,35 +20,35 @@ def bare(text: str) -> str:
     return text[1:-1].replace("''", "'") if text[:1] == "'" else text
 
 
-def sheet(it: Any) -> Hint:
+def sheet(diagnostic: Any) -> Hint:
     """Data that are a CSV file: the first line has commas and no `:=`."""
-    lines = [line for line in it.texts.get("data", "").split("\n") if line.strip()]
+    lines = [line for line in diagnostic.texts.get("data", "").split("\n") if line.strip()]
     first = lines[0] if lines else ""
-    if it.text == "data" and ":=" not in it.texts["data"] and (first.count(",") or first.count("\t") or first.count(";") > 1) and len(lines) > 1:
+    if diagnostic.text == "data" and ":=" not in diagnostic.texts["data"] and (first.count(",") or first.count("\t") or first.count(";") > 1) and len(lines) > 1:
         yield "the data are a CSV file: `netflow-sheet list FILE.csv` makes data of it", True
 
 
-def joined(it: Any) -> Hint:
-    if it.text == "data" and it.word() in ("data", "end") and len(it.statement()) <= 2:
-        place = "first" if it.word() == "data" else "last"
-        yield f"{it.word()}; is allowed only as the {place} statement: are two data files joined? Give both to the tools", True
+def joined(diagnostic: Any) -> Hint:
+    if diagnostic.text == "data" and diagnostic.word() in ("data", "end") and len(diagnostic.statement()) <= 2:
+        place = "first" if diagnostic.word() == "data" else "last"
+        yield f"{diagnostic.word()}; is allowed only as the {place} statement: are two data files joined? Give both to the tools", True
 
 
-def unended_statement(it: Any) -> Hint:
+def unended_statement(diagnostic: Any) -> Hint:
     """A line that begins as a statement inside another one."""
-    whole = it.statement() if it.text == "data" else []
+    whole = diagnostic.statement() if diagnostic.text == "data" else []
     first = whole[0].row if whole else 0
     for here, token in enumerate(whole):
         if token.text in ("set", "param") and token.row > first and whole[here - 1].row < token.row:
-            yield f"is a ; missing at the end of {it.line_text(whole[here - 1].row)}?", True
+            yield f"is a ; missing at the end of {diagnostic.line_text(whole[here - 1].row)}?", True
             return
-    is_known = list(sheet(it)) or list(misspelt_statement(it))
-    if whole and whole[0].row == it.row and whole[0].text == it.word() and whole[0].text not in ("set", "param", ";", "data", "end") and not is_known:
+    is_known = list(sheet(diagnostic)) or list(misspelt_statement(diagnostic))
+    if whole and whole[0].row == diagnostic.row and whole[0].text == diagnostic.word() and whole[0].text not in ("set", "param", ";", "data", "end") and not is_known:
         yield f"is set or param missing before {whole[0].text}?", True
 
 
-def doubled(it: Any) -> Hint:
-    words, here = [word[0] for word in TOKEN.finditer(it.before)][-2:], it.word()
+def doubled(diagnostic: Any) -> Hint:
+    words, here = [word[0] for word in TOKEN.finditer(diagnostic.before)][-2:], diagnostic.word()
     if here == ";" and words[-1:] == [";"]:
         yield "is this ; one too many?", True
     elif here and words[-1:] == [here] and re.match(r"\w", here):
@@ -57,11 +57,11 @@ def doubled(it: Any) -> Hint:
         yield f"is {words[0]} written twice?", True
 
 
-def uneven(it: Any) -> Hint:
+def uneven(diagnostic: Any) -> Hint:
     """Rows of a table or list with another number of cells than is expected, or than most have."""
-    whole = it.statement() if it.text == "data" and not it.is_change() else []
+    whole = diagnostic.statement() if diagnostic.text == "data" and not diagnostic.is_change() else []
     cut = next((here for here, token in enumerate(whole) if token.text == ":="), None)
-    if cut is None or re.fullmatch(r"\d+-\d+", it.word()):
+    if cut is None or re.fullmatch(r"\d+-\d+", diagnostic.word()):
         return
     rows: dict = {}
     for token in whole[cut + 1:]:
@@ -71,19 +71,19 @@ def uneven(it: Any) -> Hint:
     counts = sorted(cells.values())
     usual = wanted_cells(whole[:cut]) or next((count for count in counts if 2 * counts.count(count) > len(counts) > 2), 0)
     whole_rows = [[token for token in line if token.text != ","] for line in rows.values()]
-    heading = heading_fault(it, whole[:cut], whole_rows, wanted_cells(whole[:cut])) if it.number == "E21" else ""
+    heading = heading_fault(diagnostic, whole[:cut], whole_rows, wanted_cells(whole[:cut])) if diagnostic.number == "E21" else ""
     if heading:
         yield heading, True
         return
     if not usual or counts[-1] > 2 * usual - 2 > 0:
-        found = misfit(it, whole[:cut], [token for line in whole_rows for token in line])
+        found = misfit(diagnostic, whole[:cut], [token for line in whole_rows for token in line])
         # A digit that is written as a letter is the mistake, and no cell is missing.
-        if found and not any(True for _ in almost_number(it)):
+        if found and not any(True for _ in almost_number(diagnostic)):
             yield found, True
         return
     for row in [row for row, count in cells.items() if count != usual][:3]:
         comma = cells[row] > usual and any(token.text == "," for token in rows[row])
-        yield f"{it.line_text(row)} has {cells[row]} cells, and {usual} are expected" + (": is a comma part of a number?" if comma else ""), True
+        yield f"{diagnostic.line_text(row)} has {cells[row]} cells, and {usual} are expected" + (": is a comma part of a number?" if comma else ""), True
 
 
 def wanted_cells(head: list) -> int:
@@ -93,7 +93,7 @@ def wanted_cells(head: list) -> int:
     return sum(token.text != "," for token in head[marks[0] + 1:]) + 1 if named else 0
 
 
-def misfit(it: Any, head: list, cells: list) -> str:
+def misfit(diagnostic: Any, head: list, cells: list) -> str:
     """In a list whose rows are not one a line: the first row with a text for a number, with the number of keys that fits best."""
     marks = [here for here, token in enumerate(head) if token.text == ":"]
     values = sum(token.text != "," for token in head[marks[-1] + 1:]) if marks else 1
@@ -108,7 +108,7 @@ def misfit(it: Any, head: list, cells: list) -> str:
     place = max(fits)[2]
     if place == len(cells):
         return ""
-    return f"in {it.line_text(cells[place].row)} the cells from {cells[place].text} on do not fit: is a cell missing there, or one too many before?"
+    return f"in {diagnostic.line_text(cells[place].row)} the cells from {cells[place].text} on do not fit: is a cell missing there, or one too many before?"
 
 
 def fitting(rows: list, keys: int, size: int) -> int:
@@ -121,26 +121,26 @@ def fitting(rows: list, keys: int, size: int) -> int:
     return count
 
 
-def named(it: Any) -> set:
+def named(diagnostic: Any) -> set:
     """Returns the words of the data that name members outside the error's line: of sets, of headings, and at the start of rows."""
     found, word, is_heading, last = set(), "", False, 0
-    for token in tokens(it.texts.get("data", "")):
+    for token in tokens(diagnostic.texts.get("data", "")):
         if token.text == ";":
             word = ""
         elif not word:
             word, is_heading = token.text, False
         else:
             is_heading = (is_heading or token.text == ":") and token.text != ":="
-            if token.row != it.row and (word == "set" or is_heading or token.row != last):
+            if token.row != diagnostic.row and (word == "set" or is_heading or token.row != last):
                 found.add(token.bare())
         last = token.row
     return found
 
 
-def listed(it: Any) -> dict:
+def listed(diagnostic: Any) -> dict:
     """Returns the members that the data list for each set, as tokens."""
     found: dict = {}
-    words = list(tokens(it.texts.get("data", "")))
+    words = list(tokens(diagnostic.texts.get("data", "")))
     for here in range(len(words) - 2):
         if words[here].text == "set" and words[here + 2].text == ":=":
             row = found.setdefault(words[here + 1].text, [])
@@ -151,26 +151,26 @@ def listed(it: Any) -> dict:
     return found
 
 
-def unknown_member(it: Any) -> Hint:
+def unknown_member(diagnostic: Any) -> Hint:
     """A key of sets that are not plain with a member that no set lists: it is misspelt; else perhaps the members are exchanged."""
-    if list(outside_set(it)) or list(missing_in_set(it)):
+    if list(outside_set(diagnostic)) or list(missing_in_set(diagnostic)):
         return
-    members = [bare(part) for part in MEMBER.findall(it.detail.partition("[")[2])]
-    sets = {token.bare() for row in listed(it).values() for token in row}
-    in_model = [part for part in it.words("model") if re.fullmatch(r"[A-Za-z_]\w*", part)]
+    members = [bare(part) for part in MEMBER.findall(diagnostic.detail.partition("[")[2])]
+    sets = {token.bare() for row in listed(diagnostic).values() for token in row}
+    in_model = [part for part in diagnostic.words("model") if re.fullmatch(r"[A-Za-z_]\w*", part)]
     found = False
     for member in [part for part in members if sets and part not in sets and not part.lstrip("-").isdigit()]:
         others = near(member, list(sets)) or [part for part in difflib.get_close_matches(member, in_model, 2, 0.8) if part != member]
         if others:
             found = True
             yield f"{member}: is {others[0]} meant?", True
-            yield from heading_place(it, member)
-    if not found and it.text == "data" and len(members) == 2 and set(members) <= named(it) and not set(members) <= sets:
+            yield from heading_place(diagnostic, member)
+    if not found and diagnostic.text == "data" and len(members) == 2 and set(members) <= named(diagnostic) and not set(members) <= sets:
         yield "are the two members exchanged? In a table (tr) before the : turns rows and columns", False
 
 
-def declared(it: Any) -> set:
-    words = it.words("model")
+def declared(diagnostic: Any) -> set:
+    words = diagnostic.words("model")
     return {words[here + 1] for here in range(len(words) - 1) if words[here] in DECLARING}
 
 
@@ -186,38 +186,38 @@ def indices(words: list) -> Iterator[str]:
         yield from (part.text for part in words[at:here] if re.fullmatch(r"[A-Za-z_]\w*", part.text))
 
 
-def declared_below(it: Any, name: str) -> int:
+def declared_below(diagnostic: Any, name: str) -> int:
     """Returns the line after the error in which a name is declared; 0 if there is none."""
-    words = list(tokens(it.texts.get("model", "")))
-    return next((token.row for before, token in zip(words, words[1:]) if before.text in DECLARING and token.text == name and token.row > it.row), 0)
+    words = list(tokens(diagnostic.texts.get("model", "")))
+    return next((token.row for before, token in zip(words, words[1:]) if before.text in DECLARING and token.text == name and token.row > diagnostic.row), 0)
 
 
-def declared_as(it: Any, kind: str) -> set:
-    words = it.words("model")
+def declared_as(diagnostic: Any, kind: str) -> set:
+    words = diagnostic.words("model")
     return {name for word, name in zip(words, words[1:]) if word == kind}
 
 
-def members_in_data(it: Any) -> set:
-    return {token.bare() for row in listed(it).values() for token in row}
+def members_in_data(diagnostic: Any) -> set:
+    return {token.bare() for row in listed(diagnostic).values() for token in row}
 
 
-def late(it: Any) -> Hint:
+def late(diagnostic: Any) -> Hint:
     """A name that is declared after its use."""
-    row, statement = declared_below(it, it.detail), it.statement()
-    if not row or it.text != "model" or not statement:
+    row, statement = declared_below(diagnostic, diagnostic.detail), diagnostic.statement()
+    if not row or diagnostic.text != "model" or not statement:
         return
-    if statement[0].text == "node" and it.detail in declared_as(it, "arc"):
+    if statement[0].text == "node" and diagnostic.detail in declared_as(diagnostic, "arc"):
         return
     if statement[0].text in ("minimize", "maximize"):
-        yield f"{it.detail} is declared below, in line {row}: move the objective after its arcs, or use obj in the arcs", True
+        yield f"{diagnostic.detail} is declared below, in line {row}: move the objective after its arcs, or use obj in the arcs", True
     else:
-        yield f"{it.detail} is declared below, in line {row}: move that declaration up", True
+        yield f"{diagnostic.detail} is declared below, in line {row}: move that declaration up", True
 
 
-def changed_kind(it: Any) -> Hint:
+def changed_kind(diagnostic: Any) -> Hint:
     """A change whose value is a text for a number, or the other way round."""
-    if it.is_change():
-        name, _, value = it.question.value_at(it.row)
+    if diagnostic.is_change():
+        name, _, value = diagnostic.question.value_at(diagnostic.row)
         if isinstance(value, str) and re.fullmatch(r"[+-]?\d+,\d+", value):
             yield f"{value}: is {value.replace(',', '.')} meant? Decimals have a point", True
         elif isinstance(value, str):
@@ -226,79 +226,79 @@ def changed_kind(it: Any) -> Hint:
             yield f"{name} is symbolic: give a text, not a number", True
 
 
-def almost_number(it: Any) -> Hint:
-    word = it.word().rstrip(";")
+def almost_number(diagnostic: Any) -> Hint:
+    word = diagnostic.word().rstrip(";")
     meant = word.translate(str.maketrans("OoIl", "0011"))
-    if it.text == "data" and meant != word and meant.isdigit():
+    if diagnostic.text == "data" and meant != word and meant.isdigit():
         yield f"{word}: is {meant} meant?", True
-    elif it.text == "data" and word in ("Infinity", "inf", "Inf"):
+    elif diagnostic.text == "data" and word in ("Infinity", "inf", "Inf"):
         yield "for no limit write a number that no plan reaches, or call a tool with --bounds", True
 
 
-def large_number(it: Any) -> Hint:
+def large_number(diagnostic: Any) -> Hint:
     yield "if it means no limit, write a number that no plan reaches, such as the sum of all supplies", False
 
 
-def gain(it: Any) -> Hint:
+def gain(diagnostic: Any) -> Hint:
     """A number after an end of an arc."""
-    is_end = re.search(r"\b(?:from|to)\s+\w+(?:\[[^\]]*\])?\s*$", it.before)
-    if it.text == "model" and is_end and it.word() not in declared_as(it, "node"):
+    is_end = re.search(r"\b(?:from|to)\s+\w+(?:\[[^\]]*\])?\s*$", diagnostic.before)
+    if diagnostic.text == "model" and is_end and diagnostic.word() not in declared_as(diagnostic, "node"):
         yield "a number after an end of an arc is a gain, and no network has gains: what leaves one end arrives at the other", True
 
 
-def fraction(it: Any) -> Hint:
-    word = it.word().rstrip(",;")
-    if it.text == "data" and re.fullmatch(r"[0-9]{1,3}(\.[0-9]{3})+", word):
+def fraction(diagnostic: Any) -> Hint:
+    word = diagnostic.word().rstrip(",;")
+    if diagnostic.text == "data" and re.fullmatch(r"[0-9]{1,3}(\.[0-9]{3})+", word):
         yield f"{word}: is {word.replace('.', '')} meant? A point begins decimals", False
-    if it.question is None:
+    if diagnostic.question is None:
         yield "the tools and Python take decimals: netflow-sheet plan MODEL DATA --grid", False
-    elif it.text == "data" and not it.is_change():
+    elif diagnostic.text == "data" and not diagnostic.is_change():
         yield f"decimals are scaled in values; a member or a key with a point needs quotes: '{word}'", False
 
 
-def comma_in_number(it: Any) -> Hint:
+def comma_in_number(diagnostic: Any) -> Hint:
     """A second value after a comma."""
-    before = it.before.rstrip()
-    if it.text == "data" and before.endswith(",") and re.search(r"\d\s*,$", before) and it.word()[:1].isdigit():
+    before = diagnostic.before.rstrip()
+    if diagnostic.text == "data" and before.endswith(",") and re.search(r"\d\s*,$", before) and diagnostic.word()[:1].isdigit():
         first = before.rstrip(",").split()[-1]
-        second = it.word().rstrip(";")
+        second = diagnostic.word().rstrip(";")
         if re.fullmatch(r"\d{3}", second):
             yield f"is the comma part of a number? Write {first}{second} without it", True
         else:
             yield f"is the comma part of a number? Decimals have a point: {first}.{second}", True
 
 
-def speaking(it: Any) -> Hint:
+def speaking(diagnostic: Any) -> Hint:
     """The lines of the data that name what the detail names; those with its whole key, if there are such."""
-    name, _, key = it.detail.partition("[")
+    name, _, key = diagnostic.detail.partition("[")
     members = {bare(part) for part in MEMBER.findall(key)}
-    if it.text != "model" or not name or not it.texts.get("data"):
+    if diagnostic.text != "model" or not name or not diagnostic.texts.get("data"):
         return
     rows: dict = {}
     inside, first = False, 0
-    for token in tokens(it.texts["data"]):
+    for token in tokens(diagnostic.texts["data"]):
         inside = token.text != ";" and (inside or token.text == name)
         first = first or (token.row if inside else 0)
         if inside:
             rows.setdefault(token.row, set()).add(token.bare())
     whole = [row for row, words in rows.items() if members and members <= words]
-    whole = [row for row in whole if it.question is not None and it.question.change_at(row)] or whole
+    whole = [row for row in whole if diagnostic.question is not None and diagnostic.question.change_at(row)] or whole
     some = sorted((row for row, words in rows.items() if members & words), key=lambda row: -len(members & rows[row]))
     if rows:
-        yield f"see {name} in {it.rows_text((whole or some or [first])[:3])}{'' if it.question is not None and it.question.change_at(first) else ' of the data'}", False
+        yield f"see {name} in {diagnostic.rows_text((whole or some or [first])[:3])}{'' if diagnostic.question is not None and diagnostic.question.change_at(first) else ' of the data'}", False
 
 
-def no_data(it: Any) -> Hint:
-    if it.text != "model" or list(tokens(it.texts.get("data", ""))):
+def no_data(diagnostic: Any) -> Hint:
+    if diagnostic.text != "model" or list(tokens(diagnostic.texts.get("data", ""))):
         return
-    if it.known_paths.get("data") in (None, os.devnull):
+    if diagnostic.known_paths.get("data") in (None, os.devnull):
         yield "there are no data: give a data file, or the values from Python", True
     else:
         yield "the data are empty: is the second file the right one?", True
 
 
-def failed_check(it: Any) -> Hint:
-    words = [token.text for token in it.statement()]
+def failed_check(diagnostic: Any) -> Hint:
+    words = [token.text for token in diagnostic.statement()]
     text, again = " ".join(words).replace("> =", ">=").replace("< =", "<="), "netflow-why MODEL DATA asks again without this check"
     signs = [found[0] for found in re.finditer(r"<=|>=|<>|!=|(?<!:)=|<|>", text.replace(":=", ""))]
     is_lone = len(signs) == 1 and not {"and", "or", "not", "if"} & set(words)

@@ -46,7 +46,7 @@ class Diagnostic:
         if not found:
             return None
         data = question.data or []
-        texts = {"model": question.model.text(), "data": "\n".join([*(it.text() for it in data), question.changed_text])}
+        texts = {"model": question.model.text(), "data": "\n".join([*(source.text() for source in data), question.changed_text])}
         paths, names = ([getattr(question.model, kind), getattr(data[0], kind) if data else None] for kind in ("path", "name"))
         made = cls(line, "solve", paths, names, texts)
         made.question = question
@@ -127,7 +127,7 @@ class Diagnostic:
         return [] if found and found[-1].text == ";" else found
 
     def words(self, kind: str) -> list:
-        return [it.bare() for it in tokens(self.texts.get(kind, ""))]
+        return [token.bare() for token in tokens(self.texts.get(kind, ""))]
 
     def tokens_before(self) -> list:
         """Returns the tokens of the input before the place."""
@@ -140,7 +140,7 @@ class Diagnostic:
         if self.number == "E10":
             is_first = self.word() in DECLARING
             advice = [(r"\bif\b", re.search(r"\bif\b", self.shown)), ("first word of a declaration", is_first)]
-            kept = [it for it in re.split(r"(?<=\.)\s+(?=[A-Z])", remedy) if all(fits or not re.search(about, it) for about, fits in advice)]
+            kept = [sentence for sentence in re.split(r"(?<=\.)\s+(?=[A-Z])", remedy) if all(fits or not re.search(about, sentence) for about, fits in advice)]
             remedy = " ".join(kept)
         return [means, remedy]
 
@@ -164,9 +164,9 @@ def catalogue(number: str) -> list:
     for place in PAGES:
         found = re.search(rf"(?ms)^## {number} \w+\n\n(.*?)(?=^## |\Z)", read(os.path.normpath(os.path.join(HERE, place))))
         if found:
-            said = [it.strip().replace("\n", " ") for it in re.split(r"\n\n(?:- )?|\n- ", found[1])]
-            remedy = next((REMEDY.sub("", it, count=1) for it in said if REMEDY.match(it)), "")
-            return [plain(it) for it in (said[0], remedy)]
+            said = [paragraph.strip().replace("\n", " ") for paragraph in re.split(r"\n\n(?:- )?|\n- ", found[1])]
+            remedy = next((REMEDY.sub("", paragraph, count=1) for paragraph in said if REMEDY.match(paragraph)), "")
+            return [plain(paragraph) for paragraph in (said[0], remedy)]
     return ["", ""]
 
 

@@ -31,26 +31,26 @@ SIDE = r"(?:[^,;\[\]]|\[[^\]]*\])+?"
 PAIRS = {")": "(", "]": "[", "}": "{"}
 
 
-def hints_of(it: Diagnostic) -> Hint:
+def hints_of(diagnostic: Diagnostic) -> Hint:
     """Yields the hints for an error. Some leave no doubt, and come without others, which would be wrong next to them."""
-    alone = [found for numbers, hint in (*hints_numbers.ALONE, *hints_tables.ALONE, *hints_network.ALONE) if it.number in numbers for found in hint(it)]
-    yield from alone[:1] or all_hints(it)
+    alone = [found for numbers, hint in (*hints_numbers.ALONE, *hints_tables.ALONE, *hints_network.ALONE) if diagnostic.number in numbers for found in hint(diagnostic)]
+    yield from alone[:1] or all_hints(diagnostic)
 
 
-def all_hints(it: Diagnostic) -> Hint:
+def all_hints(diagnostic: Diagnostic) -> Hint:
     for numbers, hint in (*hints_syntax.HINTS, *hints_forms.HINTS, *hints_sets.HINTS, *HINTS, *hints_keys.HINTS, *hints_values.HINTS,
                           *hints_names.HINTS, *hints_data.HINTS, *hints_sizes.HINTS):
-        if it.number in numbers:
-            yield from hint(it)
+        if diagnostic.number in numbers:
+            yield from hint(diagnostic)
 
 
-def unread_file(it: Diagnostic) -> Hint:
-    path = it.path if it.path is not None else ""
+def unread_file(diagnostic: Diagnostic) -> Hint:
+    path = diagnostic.path if diagnostic.path is not None else ""
     try:
         with open(path, "rb") as file:
             file.read(1)
     except OSError as problem:
-        yield f"{it.called}: {problem.strerror}", True
+        yield f"{diagnostic.called}: {problem.strerror}", True
         if "\\" in path:
             yield "on Linux and in WSL a path has /, as in /mnt/c/plans/x.mod", True
         folder, name = os.path.split(path)
@@ -60,38 +60,38 @@ def unread_file(it: Diagnostic) -> Hint:
                 yield f"is {os.path.join(folder, near[0])} meant?", True
 
 
-def spreadsheet(it: Diagnostic) -> str:
+def spreadsheet(diagnostic: Diagnostic) -> str:
     """Returns what to do with a spreadsheet that is given as a model or as data; an empty text if the file is none."""
-    raw = it.texts.get(it.text, "").encode("utf-8", "surrogateescape")
+    raw = diagnostic.texts.get(diagnostic.text, "").encode("utf-8", "surrogateescape")
     if raw.startswith(b"\xd0\xcf\x11\xe0"):
         return "this is a spreadsheet of an old form (.xls): save it as .xlsx, and `netflow-sheet list FILE.xlsx` makes data of it"
     if not raw.startswith(b"PK\x03\x04"):
         return ""
     if b"opendocument" in raw[:100]:
         return "this is a spreadsheet (.ods): save it as .xlsx, and `netflow-sheet list FILE.xlsx` makes data of it"
-    name = it.called if it.called and it.called.lower().endswith(".xlsx") else "FILE.xlsx"
+    name = diagnostic.called if diagnostic.called and diagnostic.called.lower().endswith(".xlsx") else "FILE.xlsx"
     return f"this is a spreadsheet (.xlsx): `netflow-sheet list {name}` makes data of it"
 
 
-def odd_character(it: Diagnostic) -> Hint:
-    character = it.at()[:1]
-    found = spreadsheet(it)
+def odd_character(diagnostic: Diagnostic) -> Hint:
+    character = diagnostic.at()[:1]
+    found = spreadsheet(diagnostic)
     if found:
         yield found, True
     elif character == "\ufeff":
         yield "the file begins with a byte order mark, which cannot be seen: save it as UTF-8 without one", True
-    elif character == "=" and it.text == "data":
+    elif character == "=" and diagnostic.text == "data":
         yield "write := for = in data", True
-    elif character == "/" and it.text == "data" and re.search(r"[:=\s]\d+$", it.before) and re.match(r"/\d+\b", it.at()):
+    elif character == "/" and diagnostic.text == "data" and re.search(r"[:=\s]\d+$", diagnostic.before) and re.match(r"/\d+\b", diagnostic.at()):
         yield "a value is one number: write 0.5 for 1/2", True
-    elif character == "/" and it.text == "data":
-        yield ("comments begin with #", True) if it.at().startswith("//") else ("quote a text with /: 'a/b'", False)
+    elif character == "/" and diagnostic.text == "data":
+        yield ("comments begin with #", True) if diagnostic.at().startswith("//") else ("quote a text with /: 'a/b'", False)
     elif character and not character.isascii():
         yield f"the character is {unicodedata.name(character, 'one without a name')} (U+{ord(character):04X})", False
 
 
-def not_utf8(it: Diagnostic) -> Hint:
-    raw, found = it.texts.get(it.text, "").encode("utf-8", "surrogateescape")[:2], spreadsheet(it)
+def not_utf8(diagnostic: Diagnostic) -> Hint:
+    raw, found = diagnostic.texts.get(diagnostic.text, "").encode("utf-8", "surrogateescape")[:2], spreadsheet(diagnostic)
     if found:
         yield found, True
     elif raw in (b"\xff\xfe", b"\xfe\xff"):
@@ -100,25 +100,25 @@ def not_utf8(it: Diagnostic) -> Hint:
         yield "the file is perhaps Latin-1 or Windows-1252: save it as UTF-8, or use iconv -f latin1 -t utf-8", False
 
 
-def replaced_word(it: Diagnostic) -> Hint:
+def replaced_word(diagnostic: Diagnostic) -> Hint:
     """A word or mark of AMPL that netflow lacks."""
-    word = it.detail if it.detail in REPLACEMENTS else it.word()
-    if it.text != "model":
+    word = diagnostic.detail if diagnostic.detail in REPLACEMENTS else diagnostic.word()
+    if diagnostic.text != "model":
         return
-    at = it.at()
-    if at.startswith("--") and not it.before.strip(" ;").endswith(tuple("+-*([{,=<>")) and not it.statement_before():
+    at = diagnostic.at()
+    if at.startswith("--") and not diagnostic.before.strip(" ;").endswith(tuple("+-*([{,=<>")) and not diagnostic.statement_before():
         yield REPLACEMENTS["//"], True
     if at.startswith("//"):
         yield REPLACEMENTS["//"], True
-    elif at.startswith("!") and it.before.endswith("="):
+    elif at.startswith("!") and diagnostic.before.endswith("="):
         return
-    elif word == "forall" and not it.statement_before():
+    elif word == "forall" and not diagnostic.statement_before():
         yield "forall: index the declaration itself: node B {j in S}: net_in = need[j]; or check {j in S}: ..", True
     elif at.startswith("/*"):
         return
-    elif word in REPLACEMENTS and not (word == "data" and it.row == 1) and is_meant(word, at):
+    elif word in REPLACEMENTS and not (word == "data" and diagnostic.row == 1) and is_meant(word, at):
         yield f"{word}: {REPLACEMENTS[word]}", True
-    elif at and (at[:2] in REPLACEMENTS or at[:1] in "/^!&") and not it.before.endswith("="):
+    elif at and (at[:2] in REPLACEMENTS or at[:1] in "/^!&") and not diagnostic.before.endswith("="):
         mark = at[:2] if at[:2] in REPLACEMENTS else at[:1]
         yield f"{mark}: {REPLACEMENTS[mark]}", True
     elif word == "s" and at.startswith("s.t"):
@@ -131,13 +131,13 @@ def is_meant(word: str, at: str) -> bool:
     return following == ["("] if word in FUNCTIONS else not (following and following[0] in DECLARING)
 
 
-def misspelt_keyword(it: Diagnostic) -> Hint:
-    word = it.word()
-    if it.text != "model" or not re.fullmatch(r"[A-Za-z_.]+", word) or word in DECLARING or word in REPLACEMENTS or it.number == "E12" and it.before.strip():
+def misspelt_keyword(diagnostic: Diagnostic) -> Hint:
+    word = diagnostic.word()
+    if diagnostic.text != "model" or not re.fullmatch(r"[A-Za-z_.]+", word) or word in DECLARING or word in REPLACEMENTS or diagnostic.number == "E12" and diagnostic.before.strip():
         return
-    declared = {name.bare() for name in tokens(it.texts["model"])}
+    declared = {name.bare() for name in tokens(diagnostic.texts["model"])}
     lower = word.lower()
-    at_start = not it.statement_before()
+    at_start = not diagnostic.statement_before()
     meant = MEANT.get(lower) or (lower if lower in KEYWORDS else None)
     if meant is None:
         near = difflib.get_close_matches(lower, KEYWORDS, 1, 0.75)
@@ -150,10 +150,10 @@ def misspelt_keyword(it: Diagnostic) -> Hint:
         yield f"{word}: is {meant} meant?", True
 
 
-def condition_word(it: Diagnostic) -> Hint:
+def condition_word(diagnostic: Diagnostic) -> Hint:
     """A node's condition without net_in, written netin or in three parts."""
-    statement = it.statement()
-    if it.text != "model" or not statement or statement[0].text != "node":
+    statement = diagnostic.statement()
+    if diagnostic.text != "model" or not statement or statement[0].text != "node":
         return
     for token in statement:
         if token.text.lower().replace("-", "_") in ("netout", "netin", "net.in", "net.out") or token.text in ("net_In", "Net_in", "Net_out"):
@@ -162,74 +162,74 @@ def condition_word(it: Diagnostic) -> Hint:
         if token.text in ("to_come", "cover", "coeff"):
             yield f"{token.text}: {REPLACEMENTS[token.text]}", True
             return
-    found = re.search(rf"(net_(?:in|out))\s*>=\s*({SIDE})\s*,\s*<=\s*({SIDE})\s*(?:;|$)", it.shown)
+    found = re.search(rf"(net_(?:in|out))\s*>=\s*({SIDE})\s*,\s*<=\s*({SIDE})\s*(?:;|$)", diagnostic.shown)
     if found:
         yield f"a range is one condition: {found[2]} <= {found[1]} <= {found[3]}", True
 
 
-def unended_declaration(it: Diagnostic) -> Hint:
-    if it.text != "model" or it.word() not in DECLARING:
+def unended_declaration(diagnostic: Diagnostic) -> Hint:
+    if diagnostic.text != "model" or diagnostic.word() not in DECLARING:
         return
-    before = [word for word in TOKEN.findall(it.before) if not word.startswith(("#", "/*"))]
-    above = max((token.row for token in tokens(it.texts["model"]) if token.row < it.row), default=0)
+    before = [word for word in TOKEN.findall(diagnostic.before) if not word.startswith(("#", "/*"))]
+    above = max((token.row for token in tokens(diagnostic.texts["model"]) if token.row < diagnostic.row), default=0)
     if before and before[-1] not in DECLARING:
-        yield f"is a ; missing before {it.word()}?", True
+        yield f"is a ; missing before {diagnostic.word()}?", True
     elif not before and above:
         yield f"is a ; missing at the end of line {above}?", True
 
 
-def unended_text(it: Diagnostic) -> Hint:
+def unended_text(diagnostic: Diagnostic) -> Hint:
     """The text ends before its last `;`."""
-    rest = [token for token in tokens(it.texts.get(it.text, ""))]
-    if rest and rest[-1].text != ";" and rest[-1].row == it.row and not list(tokens(it.at())):
+    rest = [token for token in tokens(diagnostic.texts.get(diagnostic.text, ""))]
+    if rest and rest[-1].text != ";" and rest[-1].row == diagnostic.row and not list(tokens(diagnostic.at())):
         opened = [token.text for token in rest if token.text in PAIRS.values()]
         closed = [token.text for token in rest if token.text in PAIRS]
         if len(opened) == len(closed):
-            yield f"is a ; missing at the end of {it.line_text(it.row)}?", True
+            yield f"is a ; missing at the end of {diagnostic.line_text(diagnostic.row)}?", True
 
 
-def exchanged(it: Diagnostic) -> Hint:
+def exchanged(diagnostic: Diagnostic) -> Hint:
     shaping = {"node", "arc", "minimize", "maximize"}
-    if it.text == "model" and not shaping & set(it.words("model")) and shaping & set(it.words("data")):
+    if diagnostic.text == "model" and not shaping & set(diagnostic.words("model")) and shaping & set(diagnostic.words("data")):
         yield "are the two files exchanged? The model comes first", True
 
 
-def in_braces(it: Diagnostic) -> bool:
+def in_braces(diagnostic: Diagnostic) -> bool:
     """Whether the place is inside braces of its statement."""
-    text = " ".join(token.text for token in it.statement_before())
+    text = " ".join(token.text for token in diagnostic.statement_before())
     return text.count("{") > text.count("}")
 
 
-def misplaced(it: Diagnostic) -> Hint:
+def misplaced(diagnostic: Diagnostic) -> Hint:
     """Words of a model that are right elsewhere."""
-    before, statement = it.before.rstrip(), it.statement()
-    if it.word() == "if":
+    before, statement = diagnostic.before.rstrip(), diagnostic.statement()
+    if diagnostic.word() == "if":
         yield "put an if that is an operand in parentheses: (if .. then .. else ..)", True
-    if it.word() == "=" and any(token.text == "arc" for token in statement) and it.at()[:2] not in ("=<", "=>"):
+    if diagnostic.word() == "=" and any(token.text == "arc" for token in statement) and diagnostic.at()[:2] not in ("=<", "=>"):
         yield "an arc has a lower and an upper bound: are >= and <= meant?", True
-    if it.word() == "=" and any(token.text == "param" for token in statement[:1]):
+    if diagnostic.word() == "=" and any(token.text == "param" for token in statement[:1]):
         yield "a parameter gets its value by :=, not by =", True
-    if it.word() == "in" and [token.text for token in statement[:1]] == ["set"] and not in_braces(it):
+    if diagnostic.word() == "in" and [token.text for token in statement[:1]] == ["set"] and not in_braces(diagnostic):
         yield "in: is within meant?", True
-    if it.word() == "=" and any(token.text == "set" for token in statement[:1]):
+    if diagnostic.word() == "=" and any(token.text == "set" for token in statement[:1]):
         yield "a set gets its members by :=, not by =", True
-    if before.endswith(",") and it.word() not in REPLACEMENTS and re.search(r"\bfrom\b[^,]*(\[[^\]]*\])?,$", before):
-        yield f"is a to missing before {it.detail or it.word()}?", True
-    mark = it.at()[:2]
-    if statement and statement[0].text == "arc" and mark in ("<=", ">=") and mark in before and not in_braces(it):
+    if before.endswith(",") and diagnostic.word() not in REPLACEMENTS and re.search(r"\bfrom\b[^,]*(\[[^\]]*\])?,$", before):
+        yield f"is a to missing before {diagnostic.detail or diagnostic.word()}?", True
+    mark = diagnostic.at()[:2]
+    if statement and statement[0].text == "arc" and mark in ("<=", ">=") and mark in before and not in_braces(diagnostic):
         yield f"an arc has one lower and one upper bound, and this is a second {mark}", True
 
 
-def dots(it: Diagnostic) -> Hint:
+def dots(diagnostic: Diagnostic) -> Hint:
     """Three dots for the two of a range."""
-    found = re.search(r"(\w+)\s*\.\.\.\s*(\w+)", it.shown)
-    if it.text == "model" and found and found.start() <= len(it.before) <= found.end():
+    found = re.search(r"(\w+)\s*\.\.\.\s*(\w+)", diagnostic.shown)
+    if diagnostic.text == "model" and found and found.start() <= len(diagnostic.before) <= found.end():
         yield f"is {found[1]}..{found[2]} meant?", True
 
 
-def doubled(it: Diagnostic) -> Hint:
+def doubled(diagnostic: Diagnostic) -> Hint:
     """A word that occurs twice in a row."""
-    words, here = [word[0] for word in TOKEN.finditer(it.before)][-2:], it.word()
+    words, here = [word[0] for word in TOKEN.finditer(diagnostic.before)][-2:], diagnostic.word()
     if here == ";" and words[-1:] == [";"]:
         yield "is this ; one too many?", True
     elif here and words[-1:] == [here] and re.match(r"\w", here):
@@ -238,13 +238,13 @@ def doubled(it: Diagnostic) -> Hint:
         yield f"is {words[0]} written twice?", True
 
 
-def unclosed(it: Diagnostic) -> Hint:
+def unclosed(diagnostic: Diagnostic) -> Hint:
     """A bracket that is open at the end of the declaration, or when another kind is closed, or a phrase begins."""
-    if it.text != "model":
+    if diagnostic.text != "model":
         return
-    text = "\n".join([*it.texts["model"].split("\n")[:it.row - 1], it.before])
+    text = "\n".join([*diagnostic.texts["model"].split("\n")[:diagnostic.row - 1], diagnostic.before])
     opened: list = []
-    here, is_closer = it.word(), False
+    here, is_closer = diagnostic.word(), False
     for token in tokens(text):
         if token.text in PAIRS.values():
             opened.append(token.text)
@@ -253,57 +253,57 @@ def unclosed(it: Diagnostic) -> Hint:
         elif token.text == ";":
             opened = []
     is_closer = here in PAIRS
-    if opened and (here == ";" or is_closer and PAIRS[here] != opened[-1] or not it.at().strip()):
+    if opened and (here == ";" or is_closer and PAIRS[here] != opened[-1] or not diagnostic.at().strip()):
         yield f"is the {opened[-1]} before it not closed?", True
-    elif opened and opened[-1] == "{" and not list(hints_syntax.chained(it)) and (here in ("from", "to", "obj", ":=", "default", "net_in", "net_out") or here[:1] in "<>="):
+    elif opened and opened[-1] == "{" and not list(hints_syntax.chained(diagnostic)) and (here in ("from", "to", "obj", ":=", "default", "net_in", "net_out") or here[:1] in "<>="):
         yield "is the { before it not closed?", True
     elif is_closer and not opened:
         yield f"is this {here} one too many, or its {PAIRS[here]} missing?", True
 
 
-def unopened(it: Diagnostic) -> Hint:
+def unopened(diagnostic: Diagnostic) -> Hint:
     """A second comparison inside braces: the brace is not closed before a bound."""
-    opened = it.shown.count("{") - it.shown.count("}")
-    if it.text == "model" and opened > 0 and re.search(r"\{[^}]*>=", it.shown) and it.word() not in (";",) and it.word() not in PAIRS:
+    opened = diagnostic.shown.count("{") - diagnostic.shown.count("}")
+    if diagnostic.text == "model" and opened > 0 and re.search(r"\{[^}]*>=", diagnostic.shown) and diagnostic.word() not in (";",) and diagnostic.word() not in PAIRS:
         yield "is the { before it not closed?", True
 
 
-def exchanged_words(it: Diagnostic) -> Hint:
+def exchanged_words(diagnostic: Diagnostic) -> Hint:
     """A name before the word that declares it."""
-    if it.text == "model" and it.before.strip() == "":
-        words = TOKEN.findall(it.at())[:2]
+    if diagnostic.text == "model" and diagnostic.before.strip() == "":
+        words = TOKEN.findall(diagnostic.at())[:2]
         if len(words) == 2 and words[1] in DECLARING and re.fullmatch(r"\w+", words[0]):
             yield f"are {words[0]} and {words[1]} the wrong way round?", True
 
 
-def no_colon(it: Diagnostic) -> Hint:
-    if it.word() in ("net_in", "net_out") and re.search(r"\bnode\s+\w+\s*(\{[^{}]*\})?$", it.before.rstrip()):
-        yield f"is a : missing before {it.word()}?", True
+def no_colon(diagnostic: Diagnostic) -> Hint:
+    if diagnostic.word() in ("net_in", "net_out") and re.search(r"\bnode\s+\w+\s*(\{[^{}]*\})?$", diagnostic.before.rstrip()):
+        yield f"is a : missing before {diagnostic.word()}?", True
 
 
-def bare_text(it: Diagnostic) -> Hint:
+def bare_text(diagnostic: Diagnostic) -> Hint:
     """A text without quotes in a model."""
-    statement = it.statement()
+    statement = diagnostic.statement()
     words = [token.text for token in statement]
-    if it.text == "model" and words[:1] == ["set"] and ":=" in words and "{" in words and it.word() == it.detail:
-        yield f"quote a text in a model: '{it.detail}'", True
+    if diagnostic.text == "model" and words[:1] == ["set"] and ":=" in words and "{" in words and diagnostic.word() == diagnostic.detail:
+        yield f"quote a text in a model: '{diagnostic.detail}'", True
 
 
-def unused_parameter(it: Diagnostic) -> Hint:
+def unused_parameter(diagnostic: Diagnostic) -> Hint:
     """A parameter that is declared and used nowhere, which may be the bound that was forgotten."""
-    words = [name for word in it.words("model") for name in re.findall(r"[A-Za-z_]\w*", word)]
+    words = [name for word in diagnostic.words("model") for name in re.findall(r"[A-Za-z_]\w*", word)]
     names = [words[here + 1] for here, word in enumerate(words[:-1]) if word == "param"]
     unused = [name for name in names if words.count(name) == 1]
-    if it.text == "model" and unused:
+    if diagnostic.text == "model" and unused:
         many = len(unused) > 1
         yield (f"{', '.join(unused[:3])} {'are' if many else 'is'} declared and used nowhere: "
                f"is the bound meant to be {'one of them' if many else 'it'}?"), True
-    elif it.text == "model":
+    elif diagnostic.text == "model":
         yield "the tools add a bound that no plan reaches with --bounds", False
 
 
-def empty_model(it: Diagnostic) -> Hint:
-    if not list(tokens(it.texts.get("model", ""))):
+def empty_model(diagnostic: Diagnostic) -> Hint:
+    if not list(tokens(diagnostic.texts.get("model", ""))):
         yield "the model is empty: is the first file the right one?", True
 
 

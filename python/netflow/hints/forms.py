@@ -14,20 +14,20 @@ NAME = r"[A-Za-z_]\w*"
 KINDS = {"set": "a set", "param": "a parameter", "node": "a node", "arc": "an arc", "minimize": "an objective", "maximize": "an objective"}
 
 
-def kinds(it: Any) -> dict:
+def kinds(diagnostic: Any) -> dict:
     """Returns the word that declares each name, with its row."""
-    words = list(tokens(it.texts.get("model", "")))
+    words = list(tokens(diagnostic.texts.get("model", "")))
     return {name.text: (word.text, word.row) for word, name in zip(words, words[1:]) if word.text in KINDS and re.fullmatch(NAME, name.text)}
 
 
-def statement_words(it: Any) -> list:
-    return [token.text for token in it.statement()]
+def statement_words(diagnostic: Any) -> list:
+    return [token.text for token in diagnostic.statement()]
 
 
-def no_function(it: Any) -> Hint:
+def no_function(diagnostic: Any) -> Hint:
     """`card(S)`, `max(a, b)`, `sqrt(x)`."""
-    found = re.search(rf"({NAME})\s*$", it.before)
-    if it.text != "model" or not it.at().startswith("(") or not found or found[1] in kinds(it):
+    found = re.search(rf"({NAME})\s*$", diagnostic.before)
+    if diagnostic.text != "model" or not diagnostic.at().startswith("(") or not found or found[1] in kinds(diagnostic):
         return
     name = found[1]
     if name in ("max", "min"):
@@ -40,37 +40,37 @@ def no_function(it: Any) -> Hint:
         yield f"there is no function {name}: give its values in the data", True
 
 
-def bare_sum(it: Any) -> Hint:
+def bare_sum(diagnostic: Any) -> Hint:
     """`sum supply[i]` without an index."""
-    found = re.search(r"\b(sum|min|max)\s*$", it.before)
-    if it.text == "model" and found and it.at()[:1] not in ("{", "("):
-        yield f"{found[1]} is followed by its index in braces: {found[1]} {{i in S}} {it.word()}..", True
+    found = re.search(r"\b(sum|min|max)\s*$", diagnostic.before)
+    if diagnostic.text == "model" and found and diagnostic.at()[:1] not in ("{", "("):
+        yield f"{found[1]} is followed by its index in braces: {found[1]} {{i in S}} {diagnostic.word()}..", True
 
 
-def end_in_parentheses(it: Any) -> Hint:
+def end_in_parentheses(diagnostic: Any) -> Hint:
     """`to (if t < last then Shop[t + 1])`."""
-    if it.text == "model" and re.search(r"\b(?:from|to)\s*$", it.before) and it.at().startswith("("):
+    if diagnostic.text == "model" and re.search(r"\b(?:from|to)\s*$", diagnostic.before) and diagnostic.at().startswith("("):
         yield "an end of an arc is one node: index the arc by those keys alone that have it, such as {t in 1..last - 1}", True
 
 
-def indexed_set(it: Any) -> Hint:
-    words = statement_words(it)
-    if it.text == "model" and words[:1] == ["set"] and it.at().startswith("{") and len(list(it.statement_before())) == 2:
+def indexed_set(diagnostic: Any) -> Hint:
+    words = statement_words(diagnostic)
+    if diagnostic.text == "model" and words[:1] == ["set"] and diagnostic.at().startswith("{") and len(list(diagnostic.statement_before())) == 2:
         yield f"a set has no index: declare one set of longer tuples, such as set {words[1]} dimen 3", True
 
 
-def no_net(it: Any) -> Hint:
+def no_net(diagnostic: Any) -> Hint:
     """A node's condition without net_in and net_out."""
     from .engine import condition_word
-    words = statement_words(it)
-    if it.text != "model" or words[:1] != ["node"] or ":" not in words or {"net_in", "net_out"} & set(words) or list(condition_word(it)):
+    words = statement_words(diagnostic)
+    if diagnostic.text != "model" or words[:1] != ["node"] or ":" not in words or {"net_in", "net_out"} & set(words) or list(condition_word(diagnostic)):
         return
     depth = 0
     for here, word in enumerate(words):
         depth += (word in "{[(") - (word in "}])")
         if word == ":" and not depth:
             rest = words[here + 1:]
-            known = kinds(it)
+            known = kinds(diagnostic)
             names = [part for part, after in zip(rest, [*rest[1:], ""]) if re.fullmatch(NAME, part) and part not in known and after not in ("[", "in")]
             odd = next((part for part in names if "net" in part.lower() or "flow" in part.lower() or "bal" in part.lower()), None)
             said = "a node's condition has net_in (what arrives minus what leaves) or net_out"
@@ -78,108 +78,108 @@ def no_net(it: Any) -> Hint:
             return
 
 
-def strict_bound(it: Any) -> Hint:
+def strict_bound(diagnostic: Any) -> Hint:
     """`< van` for a bound."""
-    words, sign = statement_words(it), it.at()[:1]
-    inside = [token.text for token in it.statement_before()]
-    if it.text != "model" or words[:1] not in (["arc"], ["node"]) or sign not in ("<", ">"):
+    words, sign = statement_words(diagnostic), diagnostic.at()[:1]
+    inside = [token.text for token in diagnostic.statement_before()]
+    if diagnostic.text != "model" or words[:1] not in (["arc"], ["node"]) or sign not in ("<", ">"):
         return
-    if it.at()[1:2] in ("=", "<", ">") or it.before.endswith(("=", "<")):
+    if diagnostic.at()[1:2] in ("=", "<", ">") or diagnostic.before.endswith(("=", "<")):
         return
     if inside.count("{") == inside.count("}"):
         yield f"{sign}: is {sign}= meant? Bounds include their ends", True
 
 
-def colon_in_arc(it: Any) -> Hint:
-    words = statement_words(it)
-    before = [token.text for token in it.statement_before()]
-    if it.text == "model" and before[-2:-1] == ["obj"] and it.at().startswith(":"):
+def colon_in_arc(diagnostic: Any) -> Hint:
+    words = statement_words(diagnostic)
+    before = [token.text for token in diagnostic.statement_before()]
+    if diagnostic.text == "model" and before[-2:-1] == ["obj"] and diagnostic.at().startswith(":"):
         yield "an obj phrase has no : after the objective", True
-    elif it.text == "model" and words[:1] == ["arc"] and it.at().startswith(":") and before.count("{") == before.count("}"):
+    elif diagnostic.text == "model" and words[:1] == ["arc"] and diagnostic.at().startswith(":") and before.count("{") == before.count("}"):
         yield "an arc has no : after its index; its phrases have commas between them: >= 0, <= room, from A[i], to B[j]", True
 
 
-def slices(it: Any) -> Hint:
+def slices(diagnostic: Any) -> Hint:
     """`[*,paint,*]` in data."""
-    if it.text == "data" and it.at().startswith("["):
+    if diagnostic.text == "data" and diagnostic.at().startswith("["):
         yield "data have no slices: write each row with all its keys, as in param demand := Bern paint 1 15  Bern paint 2 18;", True
 
 
-def many_keys(it: Any) -> Hint:
+def many_keys(diagnostic: Any) -> Hint:
     """Braces with more than four members."""
-    count = it.at().partition("}")[0].count(",") + 1
-    if it.text == "model" and it.at().startswith("{") and count > 4 and not {"(", ":"} & set(it.at().partition("}")[0]):
+    count = diagnostic.at().partition("}")[0].count(",") + 1
+    if diagnostic.text == "model" and diagnostic.at().startswith("{") and count > 4 and not {"(", ":"} & set(diagnostic.at().partition("}")[0]):
         yield "a key has at most four members: join two sets into one set of names, or use one model for each member", True
 
 
-def net_outside_node(it: Any) -> Hint:
-    words = statement_words(it)
-    if it.text == "model" and it.word() in ("net_in", "net_out") and words[:1] not in ([], ["node"]):
-        yield f"{it.word()} belongs to a node's condition: node A {{..}}: {it.word()} = ..", True
+def net_outside_node(diagnostic: Any) -> Hint:
+    words = statement_words(diagnostic)
+    if diagnostic.text == "model" and diagnostic.word() in ("net_in", "net_out") and words[:1] not in ([], ["node"]):
+        yield f"{diagnostic.word()} belongs to a node's condition: node A {{..}}: {diagnostic.word()} = ..", True
 
 
-def hyphen_range(it: Any) -> Hint:
+def hyphen_range(diagnostic: Any) -> Hint:
     """`t in 1-last` for `t in 1..last`."""
-    found = re.search(r"\bin\s+(\w+)\s*-\s*(\w+)\s*[,:}]", it.at().split("\n")[0])
-    if it.text == "model" and found:
+    found = re.search(r"\bin\s+(\w+)\s*-\s*(\w+)\s*[,:}]", diagnostic.at().split("\n")[0])
+    if diagnostic.text == "model" and found:
         yield f"{found[1]}-{found[2]}: is {found[1]}..{found[2]} meant?", True
 
 
-def redeclared(it: Any) -> Hint:
-    word, row = kinds_of_first(it)
+def redeclared(diagnostic: Any) -> Hint:
+    word, row = kinds_of_first(diagnostic)
     if word:
-        yield f"{it.detail} is already {KINDS[word]}, declared in line {row}", True
+        yield f"{diagnostic.detail} is already {KINDS[word]}, declared in line {row}", True
 
 
-def kinds_of_first(it: Any) -> tuple:
-    words = list(tokens(it.texts.get("model", "")))
-    return next(((word.text, word.row) for word, name in zip(words, words[1:]) if word.text in KINDS and name.text == it.detail), ("", 0))
+def kinds_of_first(diagnostic: Any) -> tuple:
+    words = list(tokens(diagnostic.texts.get("model", "")))
+    return next(((word.text, word.row) for word, name in zip(words, words[1:]) if word.text in KINDS and name.text == diagnostic.detail), ("", 0))
 
 
-def wrong_kind(it: Any) -> Hint:
+def wrong_kind(diagnostic: Any) -> Hint:
     """A name that is declared as something else than is needed."""
-    known = kinds(it)
-    wanted = re.search(r"\b(from|to|obj)\s*$", it.before)
-    if it.text == "model" and it.detail not in known and wanted and wanted[1] == "obj" and not any(KINDS[word] == "an objective" for word, _ in known.values()):
-        yield f"declare the objective: minimize {it.detail};", True
-    if it.text != "model" or it.detail not in known:
+    known = kinds(diagnostic)
+    wanted = re.search(r"\b(from|to|obj)\s*$", diagnostic.before)
+    if diagnostic.text == "model" and diagnostic.detail not in known and wanted and wanted[1] == "obj" and not any(KINDS[word] == "an objective" for word, _ in known.values()):
+        yield f"declare the objective: minimize {diagnostic.detail};", True
+    if diagnostic.text != "model" or diagnostic.detail not in known:
         return
-    kind = KINDS[known[it.detail][0]]
+    kind = KINDS[known[diagnostic.detail][0]]
     need = ("minimize", "maximize") if wanted and wanted[1] == "obj" else ("node",)
     names = [name for name, (word, _) in known.items() if word in need]
-    if wanted and known[it.detail][0] not in need:
+    if wanted and known[diagnostic.detail][0] not in need:
         what = "an objective" if wanted[1] == "obj" else "a node"
-        meant = difflib.get_close_matches(it.detail, names, 1, 0.6)
+        meant = difflib.get_close_matches(diagnostic.detail, names, 1, 0.6)
         others = f": {', '.join(names[:3])}" if names else ""
-        yield f"{it.detail} is {kind}, and {wanted[1]} takes {what}{f'; is {meant[0]} meant?' if meant else others}", True
-    elif known[it.detail][0] == "arc" and statement_words(it)[:1] == ["node"]:
-        yield f"{it.detail} is an arc: net_in already counts the arcs that arrive at the node and subtracts those that leave it", True
-    elif known[it.detail][0] == "node" and not wanted:
-        yield f"{it.detail} is a node, which has no value here", True
+        yield f"{diagnostic.detail} is {kind}, and {wanted[1]} takes {what}{f'; is {meant[0]} meant?' if meant else others}", True
+    elif known[diagnostic.detail][0] == "arc" and statement_words(diagnostic)[:1] == ["node"]:
+        yield f"{diagnostic.detail} is an arc: net_in already counts the arcs that arrive at the node and subtracts those that leave it", True
+    elif known[diagnostic.detail][0] == "node" and not wanted:
+        yield f"{diagnostic.detail} is a node, which has no value here", True
 
 
-def unknown_index(it: Any) -> Hint:
+def unknown_index(diagnostic: Any) -> Hint:
     """A short name that is no index of its declaration."""
     from .data import declared, indices, members_in_data
-    words = list(it.statement())
+    words = list(diagnostic.statement())
     found = [name for name in dict.fromkeys(indices(words)) if name not in RESERVED]
-    others = set(re.findall(NAME, it.texts.get("model", "")))
-    is_near = [name for name in others if name != it.detail and name.lower() == it.detail.lower()]
-    if it.text == "model" and len(it.detail) <= 2 and found and it.detail not in declared(it) | set(found) | members_in_data(it) and not is_near:
-        if it.detail not in set(indices(list(tokens(it.texts.get("model", ""))))):
-            yield f"{it.detail} is no index here; this declaration has {', '.join(found)}", True
+    others = set(re.findall(NAME, diagnostic.texts.get("model", "")))
+    is_near = [name for name in others if name != diagnostic.detail and name.lower() == diagnostic.detail.lower()]
+    if diagnostic.text == "model" and len(diagnostic.detail) <= 2 and found and diagnostic.detail not in declared(diagnostic) | set(found) | members_in_data(diagnostic) and not is_near:
+        if diagnostic.detail not in set(indices(list(tokens(diagnostic.texts.get("model", ""))))):
+            yield f"{diagnostic.detail} is no index here; this declaration has {', '.join(found)}", True
 
 
-def subscripts(it: Any) -> Hint:
+def subscripts(diagnostic: Any) -> Hint:
     """How many subscripts a name has, and how many are given."""
     try:
-        shapes = Shapes(parse(it.texts.get("model", "")), it.texts.get("model", ""))
+        shapes = Shapes(parse(diagnostic.texts.get("model", "")), diagnostic.texts.get("model", ""))
     except (Unparsed, ValueError):
         return
-    name = it.word()
-    if it.text != "model" or name not in shapes.keys:
+    name = diagnostic.word()
+    if diagnostic.text != "model" or name not in shapes.keys:
         return
-    words = [found[0] for found in TOKEN.finditer(it.at())][1:]
+    words = [found[0] for found in TOKEN.finditer(diagnostic.at())][1:]
     given = len(items(inside(words))) if words[:1] == ["["] else 0
     count = shapes.keys[name]
     if count != given:

@@ -18,14 +18,14 @@ MOST = 100_000
 class Sets:
     """What the model and its data say of sets and of parameters without a key; a set that is not plain is None."""
 
-    def __init__(self, it: Any) -> None:
-        decls = parse(it.texts.get("model", ""))
-        self.shapes = Shapes(decls, it.texts.get("model", ""))
+    def __init__(self, diagnostic: Any) -> None:
+        decls = parse(diagnostic.texts.get("model", ""))
+        self.shapes = Shapes(decls, diagnostic.texts.get("model", ""))
         self.decls = self.shapes.decls
         self.members: dict = {}
         self.values: dict = {}
         params = {decl.name: self.shapes.keys[decl.name] for decl in decls if decl.kind == "param"}
-        for statement in DataText(it.texts.get("data", ""), params, self.shapes.sets, True).statements:
+        for statement in DataText(diagnostic.texts.get("data", ""), params, self.shapes.sets, True).statements:
             name = statement.name if statement.kind == "set" else statement.set_name
             if name:
                 self.members[name] = statement.members
@@ -47,18 +47,18 @@ class Sets:
     def of(self, expr: Expr) -> tuple:
         """Returns a set's title and its members as tuples, or None for the members."""
         if expr.op == "..":
-            ends = [self.number(it) for it in expr.args]
+            ends = [self.number(part) for part in expr.args]
             if len(ends) == 2 and None not in ends and ends[1] - ends[0] < MOST:
-                return f"{ends[0]}..{ends[1]}", {(it,) for it in range(ends[0], ends[1] + 1)}
+                return f"{ends[0]}..{ends[1]}", {(number,) for number in range(ends[0], ends[1] + 1)}
         elif expr.op == "name" and expr.value in self.members:
             width, flat = self.shapes.sets.get(expr.value, 1), self.members[expr.value]
-            return expr.value, {tuple(flat[it:it + width]) for it in range(0, len(flat), width)}
+            return expr.value, {tuple(flat[start:start + width]) for start in range(0, len(flat), width)}
         elif expr.op == "name" and expr.value in self.decls:
             phrase = self.decls[expr.value].phrase(":=")
             title, found = self.of(phrase.exprs[0]) if phrase else ("", None)
             return f"{expr.value}{f', which is {title}' if title else ''}", found
-        elif expr.op == "braces" and expr.args and all(it.op == "text" for it in expr.args):
-            return "the braces", {(it.value[1:-1],) for it in expr.args}
+        elif expr.op == "braces" and expr.args and all(part.op == "text" for part in expr.args):
+            return "the braces", {(part.value[1:-1],) for part in expr.args}
         return "", None
 
     def of_name(self, name: str) -> list:
@@ -75,12 +75,12 @@ class Sets:
 class Key:
     """The key of an error, in the slices that the items of the declaration's braces give it."""
 
-    def __init__(self, it: Any) -> None:
-        self.name, self.key = reference(it.detail)
-        sets = Sets(it)
+    def __init__(self, diagnostic: Any) -> None:
+        self.name, self.key = reference(diagnostic.detail)
+        sets = Sets(diagnostic)
         items, self.head = sets.of_name(self.name), sets.shapes.head(self.name)
         if sum(width for width, _, _ in items) != len(self.key):
-            raise Unreadable(it.detail)
+            raise Unreadable(diagnostic.detail)
         self.items, at = [], 0
         for width, title, members in items:
             self.items.append((at, at + width, title, members))
@@ -88,11 +88,11 @@ class Key:
 
     def outside(self, key: list) -> list:
         """Returns the slices that are known to be in no set."""
-        return [it for it in self.items if it[3] is not None and tuple(key[it[0]:it[1]]) not in it[3]]
+        return [item for item in self.items if item[3] is not None and tuple(key[item[0]:item[1]]) not in item[3]]
 
     def exchanged(self) -> list:
         """Returns the key with two parts exchanged that is in all sets; an empty list if there is none."""
-        if any(it[3] is None for it in self.items):
+        if any(item[3] is None for item in self.items):
             return []
         for here in range(len(self.key)):
             for there in range(here + 1, len(self.key)):
@@ -105,79 +105,79 @@ class Key:
 
 def near(member: Any, others: list) -> list:
     """Returns the members that a text may mean: in other letters of case, misspelt, or with letters exchanged."""
-    texts = sorted({it for it in others if isinstance(it, str) and it != member})
+    texts = sorted({other for other in others if isinstance(other, str) and other != member})
     if not isinstance(member, str):
         return []
-    found = [it for it in texts if it.lower() == member.lower()] or difflib.get_close_matches(member, texts, 3, 0.7)
-    return found or [it for it in texts if len(it) == len(member) > 2 and sorted(it.lower()) == sorted(member.lower())]
+    found = [text for text in texts if text.lower() == member.lower()] or difflib.get_close_matches(member, texts, 3, 0.7)
+    return found or [text for text in texts if len(text) == len(member) > 2 and sorted(text.lower()) == sorted(member.lower())]
 
 
-def outside_set(it: Any) -> Hint:
+def outside_set(diagnostic: Any) -> Hint:
     """A key with a member that is not in its set: exchanged, misspelt, or outside."""
     try:
-        key = Key(it)
+        key = Key(diagnostic)
     except (Unreadable, Unparsed, ValueError):
         return
     from .values import missing_in_set
     other, wrong = key.exchanged(), key.outside(key.key)
-    if list(missing_in_set(it)):
+    if list(missing_in_set(diagnostic)):
         return
     if wrong and other:
-        if it.is_change():
+        if diagnostic.is_change():
             yield f"are the two members exchanged? The parts of a key are those of {key.head}", True
-        elif it.text == "data":
+        elif diagnostic.text == "data":
             yield "are the two members exchanged? In a table (tr) before the : turns rows and columns", True
         else:
             yield f"are the subscripts exchanged? {key.name}[{','.join(map(shown, other))}] is in the sets of its braces", True
         return
     for first, last, title, members in wrong:
         if last - first == 1:
-            yield from outside_one(it, key.key[first], title, sorted(part for part, in members if isinstance(part, str)), members)
+            yield from outside_one(diagnostic, key.key[first], title, sorted(part for part, in members if isinstance(part, str)), members)
         else:
             yield f"({','.join(map(shown, key.key[first:last]))}) is not in {title}", False
 
 
-def outside_one(it: Any, member: Any, title: str, texts: list, members: set) -> Hint:
+def outside_one(diagnostic: Any, member: Any, title: str, texts: list, members: set) -> Hint:
     """A member that is not in its set."""
-    is_sure = it.number != "E50"
+    is_sure = diagnostic.number != "E50"
     if isinstance(member, str) and re.fullmatch(r"-?\d+", member) and (int(member),) in members:
-        is_python = it.is_change() and not it.question.origins
+        is_python = diagnostic.is_change() and not diagnostic.question.origins
         yield f"'{member}' is a text; the number is in {title}: {f'use int({member!r})' if is_python else f'write it without quotes, {member}'}", True
         return
     found = near(member, texts)
-    words = [token.bare() for token in tokens(it.texts.get("data", ""))]
+    words = [token.bare() for token in tokens(diagnostic.texts.get("data", ""))]
     if words.count(member) > 1:
         found.sort(key=words.count)  # what nothing else names is probably misspelt itself
     if found and words.count(member) > 1 and words.count(found[0]) == 1:
-        row = next(token.row for token in tokens(it.texts["data"]) if token.bare() == found[0])
-        yield f"the set {title} has {found[0]} in {it.rows_text([row])}, which nothing else names: is {member} meant there?", is_sure
+        row = next(token.row for token in tokens(diagnostic.texts["data"]) if token.bare() == found[0])
+        yield f"the set {title} has {found[0]} in {diagnostic.rows_text([row])}, which nothing else names: is {member} meant there?", is_sure
     elif found:
         yield f"{member}: is {found[0]} meant?", is_sure
-        yield from heading_place(it, member)
+        yield from heading_place(diagnostic, member)
     else:
         kind = f", whose members are texts ({', '.join(texts[:3])}{', ..' if len(texts) > 3 else ''})" if texts and not isinstance(member, str) else ""
         yield f"{shown(member)} is not in {title}{kind}", is_sure
-        yield from heading_place(it, str(member))
+        yield from heading_place(diagnostic, str(member))
 
 
-def heading_place(it: Any, member: str) -> Hint:
+def heading_place(diagnostic: Any, member: str) -> Hint:
     """The line of the misspelt member, if it is in another line than the error, as in a heading."""
-    rows = [token.row for token in tokens(it.texts.get("data", "")) if token.bare() == member]
-    if rows and it.row not in rows and it.text == "data":
-        yield f"it is in {it.rows_text(rows[:1])}", True
+    rows = [token.row for token in tokens(diagnostic.texts.get("data", "")) if token.bare() == member]
+    if rows and diagnostic.row not in rows and diagnostic.text == "data":
+        yield f"it is in {diagnostic.rows_text(rows[:1])}", True
 
 
-def unquoted_member(it: Any) -> Hint:
+def unquoted_member(diagnostic: Any) -> Hint:
     """A name in the model that is not declared, and is a member in the data."""
-    if it.text == "model" and it.detail and [token.text for token in it.statement()][:1] != ["set"]:
-        members = {token.bare() for row in set_rows(it) for token in row}
-        if it.detail in members:
-            yield f"{it.detail} is a member in the data: write it with quotes, '{it.detail}'", True
+    if diagnostic.text == "model" and diagnostic.detail and [token.text for token in diagnostic.statement()][:1] != ["set"]:
+        members = {token.bare() for row in set_rows(diagnostic) for token in row}
+        if diagnostic.detail in members:
+            yield f"{diagnostic.detail} is a member in the data: write it with quotes, '{diagnostic.detail}'", True
 
 
-def set_rows(it: Any) -> list:
+def set_rows(diagnostic: Any) -> list:
     from .data import listed
-    return list(listed(it).values())
+    return list(listed(diagnostic).values())
 
 
 HINTS: tuple = (

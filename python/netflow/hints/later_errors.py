@@ -52,7 +52,7 @@ def further_errors(first: Diagnostic, options: Sequence[str] = ()) -> list:
                 break
             last = first.another(line)
             names.append(name_of(last))
-            new = [it for it in last.hints() if it not in hints]
+            new = [hint for hint in last.hints() if hint not in hints]
             if names.count(name_of(last)) <= OF_ONE_NAME and (new or not last.hints()):
                 found.append(last)
             hints.update(new)
@@ -70,7 +70,7 @@ class Places:
     def __init__(self, model: str, data: str) -> None:
         decls = parse(model)
         shapes = Shapes(decls)
-        self.data = DataText(data, {it.name: shapes.keys[it.name] for it in decls if it.kind == "param"}, shapes.sets)
+        self.data = DataText(data, {decl.name: shapes.keys[decl.name] for decl in decls if decl.kind == "param"}, shapes.sets)
         self.letters: list = list(data)
         self.seen: set = set()
         self.starts = [0]
@@ -84,12 +84,12 @@ class Places:
         """Empties the cell, the member or the statement that has the error; returns whether one was found."""
         self.seen.add((error.row, error.column))
         at = self.starts[error.row - 1] + len(error.before)
-        statement = next((it for it in self.data.statements if it.start <= at < it.end), None)
+        statement = next((statement for statement in self.data.statements if statement.start <= at < statement.end), None)
         if statement is None:
             return False
         if error.number == "E30" or statement.kind == "set":
             return self.clear_name(error, statement, at)
-        cell = next((it for it in statement.cells if it.token.start >= at and is_of(error, it)), None)
+        cell = next((cell for cell in statement.cells if cell.token.start >= at and is_of(error, cell)), None)
         if cell is None:
             return False
         self.put(cell.token.start, cell.token.end, ".")
@@ -125,7 +125,7 @@ def further_lines(first: Diagnostic, options: Sequence[str] = ()) -> list:
     """Returns a line for each further error, as editors take it: the place, the error, and the best hint."""
     found = further_errors(first, options)
     lines = []
-    for it in found:
-        hint = next(iter(it.hints()), "")
-        lines.append(f"{it.place()}: {it.number} {it.name} {it.detail}".rstrip() + (f": {hint}" if hint else ""))
+    for error in found:
+        hint = next(iter(error.hints()), "")
+        lines.append(f"{error.place()}: {error.number} {error.name} {error.detail}".rstrip() + (f": {hint}" if hint else ""))
     return ["More errors in the data:", *lines] if found else []

@@ -25,7 +25,7 @@ class Memberships:
         self.model, self.shapes = model, Shapes(parse(model))
         self.members: dict = {}
         self.values: dict = {}
-        params = {name: self.shapes.keys[name] for name, it in self.shapes.decls.items() if it.kind == "param"}
+        params = {name: self.shapes.keys[name] for name, decl in self.shapes.decls.items() if decl.kind == "param"}
         for statement in DataText(data, params, self.shapes.sets, True).statements:
             name = statement.name if statement.kind == "set" else statement.set_name
             if name:
@@ -34,7 +34,7 @@ class Memberships:
 
     def tuples(self, name: str, members: list) -> list:
         width = self.shapes.sets.get(name, 1)
-        return [tuple(members[it:it + width]) for it in range(0, len(members), width)]
+        return [tuple(members[start:start + width]) for start in range(0, len(members), width)]
 
     def text(self, expr: Expr) -> str:
         return " ".join(self.model[expr.start:expr.end].split())
@@ -44,8 +44,8 @@ class Memberships:
         if expr.op == "group":
             return self.missing(expr.args[0], row, env)
         if expr.op == "cross":
-            parts = self.split(row, [(self.shapes.of_set(it), it) for it in expr.args])
-            return next((said for said in (self.missing(it, part, env) for part, it in parts) if said), "")
+            parts = self.split(row, [(self.shapes.of_set(part), part) for part in expr.args])
+            return next((said for said in (self.missing(value, part, env) for part, value in parts) if said), "")
         if expr.op == "braces" and self.is_indexed(expr):
             return self.missing_index(expr, row, dict(env))
         if expr.op == "name" and expr.value not in self.members and self.source(expr.value):
@@ -64,24 +64,24 @@ class Memberships:
         if sum(width for width, _ in items) != len(row):
             raise Unknown
         found, at = [], 0
-        for width, it in items:
-            found.append((row[at:at + width], it))
+        for width, item in items:
+            found.append((row[at:at + width], item))
             at += width
         return found
 
     def is_indexed(self, expr: Expr) -> bool:
-        return any(it.op == "in" or it.op == "name" and it.value in self.shapes.sets for it in expr.args)
+        return any(part.op == "in" or part.op == "name" and part.value in self.shapes.sets for part in expr.args)
 
     def missing_index(self, expr: Expr, row: tuple, env: dict) -> str:
         """The same for braces with indices, which are given the members of the tuple."""
         items = expr.args[:-1] if expr.value else expr.args
-        widths = [(len(it.args[0].args) if it.args[0].op == "tuple" else 1) if it.op == "in" else self.shapes.of_set(it) for it in items]
+        widths = [(len(item.args[0].args) if item.args[0].op == "tuple" else 1) if item.op == "in" else self.shapes.of_set(item) for item in items]
         for part, item in self.split(row, list(zip(widths, items))):
             if item.op == "in":
                 names = item.args[0].args if item.args[0].op == "tuple" else [item.args[0]]
-                if any(it.op != "name" or it.args or it.value in env or it.value in self.shapes.decls for it in names):
+                if any(name.op != "name" or name.args or name.value in env or name.value in self.shapes.decls for name in names):
                     raise Unknown
-                env.update(zip((it.value for it in names), part))
+                env.update(zip((name.value for name in names), part))
             said = self.missing(item.args[1] if item.op == "in" else item, part, env)
             if said:
                 return said
@@ -91,13 +91,13 @@ class Memberships:
         if expr.op == "name" and expr.value in self.members:
             return row in self.members[expr.value]
         if expr.op in ("union", "inter", "diff", "symdiff"):
-            first, second = (not self.missing(it, row, env) for it in expr.args)
+            first, second = (not self.missing(part, row, env) for part in expr.args)
             return {"union": first or second, "inter": first and second, "diff": first and not second, "symdiff": first != second}[expr.op]
         if expr.op == ".." and len(expr.args) == 2 and len(row) == 1:
-            low, high = (self.value(it, env) for it in expr.args)
+            low, high = (self.value(part, env) for part in expr.args)
             return isinstance(row[0], int) and low <= row[0] <= high
         if expr.op == "braces" and not expr.value:
-            return row in [tuple(self.value(part, env) for part in (it.args if it.op == "tuple" else [it])) for it in expr.args]
+            return row in [tuple(self.value(part, env) for part in (member.args if member.op == "tuple" else [member])) for member in expr.args]
         raise Unknown
 
     def holds(self, expr: Expr, env: dict) -> bool:
@@ -109,11 +109,11 @@ class Memberships:
             return first if first == (expr.op == "or") else self.holds(expr.args[1], env)
         if expr.op == "in":
             left, right = expr.args
-            row = tuple(self.value(it, env) for it in (left.args if left.op == "tuple" else [left]))
+            row = tuple(self.value(part, env) for part in (left.args if left.op == "tuple" else [left]))
             return (not self.missing(right, row, env)) != ("not" in self.model[left.end:right.start].split())
         if expr.op not in COMPARED:
             raise Unknown
-        first, second = (self.value(it, env) for it in expr.args)
+        first, second = (self.value(part, env) for part in expr.args)
         if isinstance(first, str) != isinstance(second, str):
             if expr.op in ("=", "==", "<>", "!="):
                 return expr.op in ("<>", "!=")
@@ -133,13 +133,13 @@ class Memberships:
         if expr.op == "name":
             return self.parameter(expr, env)
         if expr.op in COMPUTED:
-            numbers = [self.value(it, env) for it in expr.args]
-            if all(isinstance(it, int) for it in numbers):
+            numbers = [self.value(part, env) for part in expr.args]
+            if all(isinstance(number, int) for number in numbers):
                 return COMPUTED[expr.op](*numbers)
         raise Unknown
 
     def parameter(self, expr: Expr, env: dict) -> Any:
-        key = tuple(self.value(it, env) for it in expr.args)
+        key = tuple(self.value(part, env) for part in expr.args)
         found = self.values.get((expr.value, key))
         source = self.source(expr.value) if found is None and not key else None
         found = self.value(source, {}) if source else found
@@ -150,5 +150,5 @@ class Memberships:
 
 def row_text(row: tuple) -> str:
     """Returns a tuple as data have it; a text has quotes only if it has the form of a number."""
-    parts = [shown(it) if isinstance(it, str) and re.fullmatch(r"-?\d+", it) else str(it) for it in row]
+    parts = [shown(member) if isinstance(member, str) and re.fullmatch(r"-?\d+", member) else str(member) for member in row]
     return parts[0] if len(parts) == 1 else f"({','.join(parts)})"

@@ -16,49 +16,49 @@ NAME = r"[A-Za-z_]\w*"
 PLACES = ((r"\bin\s+$", ("set",)), (r"\b(?:from|to)\s+$", ("node",)), (r"\bobj\s+$", ("minimize", "maximize")))
 
 
-def wanted_kinds(it: Any) -> tuple:
+def wanted_kinds(diagnostic: Any) -> tuple:
     """Returns the words that declare the kind of name that is needed here; none if any kind can be."""
-    if it.text == "data":
-        return tuple(token.text for token in it.statement_before()[:1])
-    return next((kinds for before, kinds in PLACES if re.search(before, it.before)), ())
+    if diagnostic.text == "data":
+        return tuple(token.text for token in diagnostic.statement_before()[:1])
+    return next((kinds for before, kinds in PLACES if re.search(before, diagnostic.before)), ())
 
 
 def nearest(name: str, others: list) -> list:
     return [other for other in others if other.lower() == name.lower()] or difflib.get_close_matches(name, others, 1, 0.7)
 
 
-def respelled(it: Any) -> Hint:
+def respelled(diagnostic: Any) -> Hint:
     """Names near one that is not known; indices of other declarations are not known here."""
-    name = it.detail.partition("[")[0]
-    if it.number == "E12" and (declared_below(it, name) or name in members_in_data(it)) or name in REPLACEMENTS:
+    name = diagnostic.detail.partition("[")[0]
+    if diagnostic.number == "E12" and (declared_below(diagnostic, name) or name in members_in_data(diagnostic)) or name in REPLACEMENTS:
         return
-    known = list(dict.fromkeys(it.words("model")))
-    gone = set(indices(list(tokens(it.texts.get("model", "")))))  - set(indices(it.statement())) - declared(it) if it.number == "E12" else set()
+    known = list(dict.fromkeys(diagnostic.words("model")))
+    gone = set(indices(list(tokens(diagnostic.texts.get("model", "")))))  - set(indices(diagnostic.statement())) - declared(diagnostic) if diagnostic.number == "E12" else set()
     same = [other for other in known if other in gone and other.lower() == name.lower()]
-    fitting = [other for kind in wanted_kinds(it) for other in known if other in declared_as(it, kind)]
+    fitting = [other for kind in wanted_kinds(diagnostic) for other in known if other in declared_as(diagnostic, kind)]
     others = [other for other in known if other != name and other not in DECLARING | gone and other[:1].isalnum()]
-    found = nearest(name, fitting) or (fitting if re.search(r"\bobj\s+$", it.before) and len(fitting) == 1 else nearest(name, others))
+    found = nearest(name, fitting) or (fitting if re.search(r"\bobj\s+$", diagnostic.before) and len(fitting) == 1 else nearest(name, others))
     if found:
         yield f"{name}: is {found[0]} meant?", True
-    elif same and not list(equals_in_braces(it)):
+    elif same and not list(equals_in_braces(diagnostic)):
         yield f"{same[0]} is an index of another declaration and ends with it: index this one too, as in {{{same[0]} in ..}}", True
 
 
-def equals_in_braces(it: Any) -> Hint:
+def equals_in_braces(diagnostic: Any) -> Hint:
     """`{s = SHOPS}`."""
-    found = re.match(rf"({NAME})\s*=\s*({NAME})", it.at())
-    words = [token.text for token in it.statement_before()]
-    if it.text == "model" and found and words[-1:] in (["{"], [","]) and words.count("{") > words.count("}") and found[2] in declared_as(it, "set"):
+    found = re.match(rf"({NAME})\s*=\s*({NAME})", diagnostic.at())
+    words = [token.text for token in diagnostic.statement_before()]
+    if diagnostic.text == "model" and found and words[-1:] in (["{"], [","]) and words.count("{") > words.count("}") and found[2] in declared_as(diagnostic, "set"):
         yield f"an index is named with its set by in: {found[1]} in {found[2]}", True
 
 
-def odd_name(it: Any) -> Hint:
+def odd_name(diagnostic: Any) -> Hint:
     """`arc Drive-out`, `param max.load`, `from 'Bakery'[b]`, `param {S} a`, `param 0 <= a`."""
-    words, at = [token.text for token in it.statement_before()], it.at()
+    words, at = [token.text for token in diagnostic.statement_before()], diagnostic.at()
     rest, before = re.match(r"[-.](\w+)", at), re.match(rf"(\{{[^}}]*\}})\s*({NAME})", at)
     quoted = re.match(rf"(['\"])({NAME})\1\s*[\[{{]", at)
     bound = re.match(rf"([\w.]+)\s*(<=|<)\s*({NAME})", at)
-    if it.text != "model" or not words:
+    if diagnostic.text != "model" or not words:
         return
     if rest and len(words) == 2 and re.fullmatch(NAME, words[1]):
         yield f"a name has letters, digits and _: {words[1]}_{rest[1]}", True
@@ -70,42 +70,42 @@ def odd_name(it: Any) -> Hint:
         yield f"the name comes first: param {bound[3]} {bound[2].replace('<', '>')} {bound[1]}", True
 
 
-def two_names(it: Any) -> Hint:
+def two_names(diagnostic: Any) -> Hint:
     """`param van, truck;`"""
-    words = [token.text for token in it.statement_before()]
-    if it.text == "model" and words[2:] == [","] and words[0] in ("set", "param", "node", "arc") and re.match(NAME, it.at()):
-        yield f"each declaration has one name: {words[0]} {words[1]}; {words[0]} {it.word()};", True
+    words = [token.text for token in diagnostic.statement_before()]
+    if diagnostic.text == "model" and words[2:] == [","] and words[0] in ("set", "param", "node", "arc") and re.match(NAME, diagnostic.at()):
+        yield f"each declaration has one name: {words[0]} {words[1]}; {words[0]} {diagnostic.word()};", True
 
 
-def no_obj(it: Any) -> Hint:
+def no_obj(diagnostic: Any) -> Hint:
     """`to Shop[s], Total cost[b,s]`: the word obj is missing."""
-    words = [token.text for token in it.statement_before()]
-    if it.text == "model" and words[:1] == ["arc"] and words[-1:] == [","] and it.word() in declared_as(it, "minimize") | declared_as(it, "maximize"):
-        phrase = re.match(r"(?:\[[^\]]*\]|[^,;])*", it.at())
-        yield f"is obj missing before {it.word()}? obj {phrase[0].strip() if phrase else it.word()}", True
+    words = [token.text for token in diagnostic.statement_before()]
+    if diagnostic.text == "model" and words[:1] == ["arc"] and words[-1:] == [","] and diagnostic.word() in declared_as(diagnostic, "minimize") | declared_as(diagnostic, "maximize"):
+        phrase = re.match(r"(?:\[[^\]]*\]|[^,;])*", diagnostic.at())
+        yield f"is obj missing before {diagnostic.word()}? obj {phrase[0].strip() if phrase else diagnostic.word()}", True
 
 
-def no_to(it: Any) -> Hint:
+def no_to(diagnostic: Any) -> Hint:
     """`from Bakery[b] Shop[s]`, and `between A and B`."""
-    if it.text == "model" and it.number == "E15" and it.word() in declared_as(it, "node"):
-        yield f"is , to missing before {it.word()}?", True
-    found = re.match(r"(?:between|connects)\s+([^,;]*?)\s+(?:and|to)\s+([^,;]*)", it.at())
-    if it.text == "model" and it.number != "E15" and found:
+    if diagnostic.text == "model" and diagnostic.number == "E15" and diagnostic.word() in declared_as(diagnostic, "node"):
+        yield f"is , to missing before {diagnostic.word()}?", True
+    found = re.match(r"(?:between|connects)\s+([^,;]*?)\s+(?:and|to)\s+([^,;]*)", diagnostic.at())
+    if diagnostic.text == "model" and diagnostic.number != "E15" and found:
         yield f"the ends of an arc are two phrases: from {found[1]}, to {found[2].strip()}", True
 
 
-def early_end(it: Any) -> Hint:
+def early_end(diagnostic: Any) -> Hint:
     """A `;` before the last phrase of an arc."""
-    above = [token for token in it.tokens_before()]
-    if it.text == "model" and not it.statement_before() and above and re.match(r"(?:from|to|obj)\b|[<>]=", it.at()):
-        yield f"is the ; at the end of {it.line_text(above[-1].row)} one too many, or meant as a comma?", True
+    above = [token for token in diagnostic.tokens_before()]
+    if diagnostic.text == "model" and not diagnostic.statement_before() and above and re.match(r"(?:from|to|obj)\b|[<>]=", diagnostic.at()):
+        yield f"is the ; at the end of {diagnostic.line_text(above[-1].row)} one too many, or meant as a comma?", True
 
 
-def two_conditions(it: Any) -> Hint:
+def two_conditions(diagnostic: Any) -> Hint:
     """`net_in >= 2, net_in <= 5`."""
-    found = re.search(r"(net_in|net_out)\s*>=\s*([^,;]*?)\s*$", it.before)
-    after = re.match(r",\s*(?:(net_in|net_out)\s*)?<=\s*([^,;]*)", it.at())
-    if it.text == "model" and found and after and after[1] in (None, found[1]) and after[1]:
+    found = re.search(r"(net_in|net_out)\s*>=\s*([^,;]*?)\s*$", diagnostic.before)
+    after = re.match(r",\s*(?:(net_in|net_out)\s*)?<=\s*([^,;]*)", diagnostic.at())
+    if diagnostic.text == "model" and found and after and after[1] in (None, found[1]) and after[1]:
         yield f"a node has one condition: {found[2]} <= {found[1]} <= {after[2].strip()}", True
 
 

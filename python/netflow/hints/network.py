@@ -12,10 +12,10 @@ NAME = r"[A-Za-z_]\w*"
 KEY = r"(?:\s*\[[^\]]*\])?"
 
 
-def node_with(it: Any, name: str) -> Any:
+def node_with(diagnostic: Any, name: str) -> Any:
     """Returns the match of the node in whose condition a name is a term, with its `node`, `braces`, `net`, `sign` and `key`; None if there
     is none."""
-    model = re.sub(r"#[^\n]*", "", it.texts.get("model", ""))
+    model = re.sub(r"#[^\n]*", "", diagnostic.texts.get("model", ""))
     head = rf"\bnode\s+(?P<node>{NAME})\s*(?P<braces>\{{[^{{}}]*\}})?\s*:\s*(?P<net>net_in|net_out)\s*="
     term = rf"(?P<sign>[-+]?)\s*(?:sum\s*\{{[^{{}}]*\}}\s*)?\b{re.escape(name)}\b\s*(?:\[(?P<key>[^\]]*)\])?"
     return re.search(rf"{head}[^;]*?{term}[^;]*;", model)
@@ -27,13 +27,13 @@ def indices_of(braces: str | None) -> list:
     return [part.strip("() ") if is_in else "" for part, is_in, _ in (item.partition(" in ") for item in inside.split(","))] if inside.strip() else []
 
 
-def variable_in_condition(it: Any) -> Hint:
+def variable_in_condition(diagnostic: Any) -> Hint:
     """`var Feed {p in PLANTS}` or `arc Feed`, and `node Plant {p in PLANTS}: net_out = Feed[p]`."""
-    name = it.detail if it.number == "E12" else (TOKEN.findall(it.at())[1:2] or [""])[0]
-    if it.text != "model" or not re.fullmatch(NAME, name) or not (it.number == "E12" or it.word() == "var"):
+    name = diagnostic.detail if diagnostic.number == "E12" else (TOKEN.findall(diagnostic.at())[1:2] or [""])[0]
+    if diagnostic.text != "model" or not re.fullmatch(NAME, name) or not (diagnostic.number == "E12" or diagnostic.word() == "var"):
         return
-    declared = re.search(rf"\b(?:var|arc)\s+{re.escape(name)}\b\s*(\{{[^{{}}]*\}})?[^;]*", it.texts["model"])
-    found = node_with(it, name)
+    declared = re.search(rf"\b(?:var|arc)\s+{re.escape(name)}\b\s*(\{{[^{{}}]*\}})?[^;]*", diagnostic.texts["model"])
+    found = node_with(diagnostic, name)
     if found is None or declared is None or re.search(r"\b(?:from|to)\b", declared[0]):  # an arc with ends has been understood
         return
     # The indices of the arc, by those of the term that the node's indices are.
@@ -42,15 +42,15 @@ def variable_in_condition(it: Any) -> Hint:
     subscripts = ",".join(names.get(index, index) for index in indices_of(found["braces"]))
     enters = (found["net"] == "net_out") != (found["sign"] == "-")
     end, without = (f"{word} {found['node']}{f'[{subscripts}]' if subscripts else ''}" for word in (("to", "from") if enters else ("from", "to")))
-    is_var = "var " if it.number == "E14" else ""
+    is_var = "var " if diagnostic.number == "E14" else ""
     yield (f"{is_var}{name} is a term of the condition of {found['node']}: write an arc {end} without {without.partition(' ')[0]}, and leave {name} out of "
            f"the condition: arc {name}{' ' + declared[1] if declared[1] else ''} .., {end}"), True
 
 
-def coefficient(it: Any) -> Hint:
+def coefficient(diagnostic: Any) -> Hint:
     """`coeff Shop[s] 1` and `coeff Shop[s] -1`."""
-    found = re.match(rf"coeff\s+({NAME}{KEY})\s*(-?\s*[\d.]*)", it.at())
-    if it.text != "model" or not found:
+    found = re.match(rf"coeff\s+({NAME}{KEY})\s*(-?\s*[\d.]*)", diagnostic.at())
+    if diagnostic.text != "model" or not found:
         return
     number = found[2].replace(" ", "")
     if number in ("1", "-1"):
@@ -59,49 +59,49 @@ def coefficient(it: Any) -> Hint:
         yield "coeff N 1 is `to N`, and coeff N -1 is `from N`; another coefficient is a gain, which no network has", True
 
 
-def equals_after_objective(it: Any) -> Hint:
+def equals_after_objective(diagnostic: Any) -> Hint:
     """`obj Total = cost[b,s]`."""
-    found = re.search(rf"\bobj\s+({NAME})\s*$", it.before)
-    if it.text == "model" and found and it.at().startswith(("=", ":=")):
-        price = re.match(r":?=\s*((?:\[[^\]]*\]|[^,;\[])*)", it.at())
+    found = re.search(rf"\bobj\s+({NAME})\s*$", diagnostic.before)
+    if diagnostic.text == "model" and found and diagnostic.at().startswith(("=", ":=")):
+        price = re.match(r":?=\s*((?:\[[^\]]*\]|[^,;\[])*)", diagnostic.at())
         yield f"no = comes after the objective's name: obj {found[1]} {price[1].strip() if price else '..'}", True
 
 
-def end_with_parentheses(it: Any) -> Hint:
+def end_with_parentheses(diagnostic: Any) -> Hint:
     """`from Bakery(b)`."""
-    found = re.search(rf"\b(?:from|to)\s+({NAME})\s*$", it.before)
-    inside = re.match(rf"\(((?:\s*{NAME}\s*,?)+)\)", it.at())
-    has_index = found and re.search(rf"\bnode\s+{found[1]}\s*\{{", it.texts["model"])
-    if it.text == "model" and found and has_index and inside:
+    found = re.search(rf"\b(?:from|to)\s+({NAME})\s*$", diagnostic.before)
+    inside = re.match(rf"\(((?:\s*{NAME}\s*,?)+)\)", diagnostic.at())
+    has_index = found and re.search(rf"\bnode\s+{found[1]}\s*\{{", diagnostic.texts["model"])
+    if diagnostic.text == "model" and found and has_index and inside:
         yield f"subscripts are in brackets: {found[1]}[{','.join(part.strip() for part in inside[1].split(','))}]", True
 
 
-def second_brackets(it: Any) -> Hint:
+def second_brackets(diagnostic: Any) -> Hint:
     """`cost[b][s]`."""
-    found, after = re.search(rf"({NAME})\s*\[([^\[\]]*)\]\s*$", it.before), re.match(r"((?:\[[^\[\]]*\]\s*)+)", it.at())
-    if it.text == "model" and found and after:
+    found, after = re.search(rf"({NAME})\s*\[([^\[\]]*)\]\s*$", diagnostic.before), re.match(r"((?:\[[^\[\]]*\]\s*)+)", diagnostic.at())
+    if diagnostic.text == "model" and found and after:
         rest = re.findall(r"\[([^\[\]]*)\]", after[1])
         yield f"subscripts are in one pair of brackets: {found[1]}[{','.join([found[2], *rest])}]", True
 
 
-def index_in_brackets(it: Any) -> Hint:
+def index_in_brackets(diagnostic: Any) -> Hint:
     """`arc Drive [b in BAKERIES]`."""
-    words = [token.text for token in it.statement_before()]
-    inside = re.match(r"\[([^\[\]]*)\]", it.at())
-    if it.text == "model" and len(words) == 2 and words[0] in ("arc", "node", "param") and it.at().startswith("["):
+    words = [token.text for token in diagnostic.statement_before()]
+    inside = re.match(r"\[([^\[\]]*)\]", diagnostic.at())
+    if diagnostic.text == "model" and len(words) == 2 and words[0] in ("arc", "node", "param") and diagnostic.at().startswith("["):
         yield f"an index is in braces: {words[0]} {words[1]} {{{inside[1].strip() if inside else '..'}}}", True
 
 
-def comma_in_braces(it: Any) -> Hint:
+def comma_in_braces(diagnostic: Any) -> Hint:
     """`{BAKERIES SHOPS}` and `{b in BAKERIES s in SHOPS}`."""
-    words = [token.text for token in it.statement_before()]
+    words = [token.text for token in diagnostic.statement_before()]
     is_operand = words and (words[-1] in (")", "}") or re.fullmatch(r"\w+", words[-1]) and words[-1] not in RESERVED)
-    is_next = re.fullmatch(NAME, it.word()) and it.word() not in RESERVED
-    if it.text == "model" and is_operand and is_next and words.count("{") > words.count("}") and words.count("[") == words.count("]"):
-        declared = {following for word, following in zip(it.words("model"), it.words("model")[1:]) if word == "set"}
-        after = [token.text for token in tokens(it.at())][1:2]
-        if it.word() in declared or after == ["in"]:
-            yield f"is a , missing before {it.word()}?", True
+    is_next = re.fullmatch(NAME, diagnostic.word()) and diagnostic.word() not in RESERVED
+    if diagnostic.text == "model" and is_operand and is_next and words.count("{") > words.count("}") and words.count("[") == words.count("]"):
+        declared = {following for word, following in zip(diagnostic.words("model"), diagnostic.words("model")[1:]) if word == "set"}
+        after = [token.text for token in tokens(diagnostic.at())][1:2]
+        if diagnostic.word() in declared or after == ["in"]:
+            yield f"is a , missing before {diagnostic.word()}?", True
 
 
 # As in hints_tables.

@@ -14,20 +14,20 @@ COMMA, BLANK = r"(?<![\w.,+-])[+-]?\d+,\d+(?![\w.]|,\S)", r"(?<![\w.,+-])[+-]?[1
 POINTS = re.compile(r"[+-]?\d{1,3}(?:\.\d{3}){2,}")
 
 
-def error_value(it: Any) -> Hint:
+def error_value(diagnostic: Any) -> Hint:
     """`#N/A` and `#DIV/0!` in data."""
-    text = it.texts.get("data", "")
-    for found in ERROR_LINE.finditer(text) if it.text == "data" else ():
+    text = diagnostic.texts.get("data", "")
+    for found in ERROR_LINE.finditer(text) if diagnostic.text == "data" else ():
         row = text.count("\n", 0, found.start(1)) + 1
-        said = f"{found[1]} in {it.rows_text([row])} is an error value of a spreadsheet, and # begins a comment"
+        said = f"{found[1]} in {diagnostic.rows_text([row])} is an error value of a spreadsheet, and # begins a comment"
         yield f"{said}: write the number, or a point if there is none", True
         return
 
 
-def quoted_number(it: Any) -> Hint:
+def quoted_number(diagnostic: Any) -> Hint:
     """`hill "30"`."""
-    found = re.match(r"(['\"])([+-]?\d+(?:\.\d+)?)\1", it.at())
-    if it.text == "data" and found and not it.is_change():
+    found = re.match(r"(['\"])([+-]?\d+(?:\.\d+)?)\1", diagnostic.at())
+    if diagnostic.text == "data" and found and not diagnostic.is_change():
         yield f"{found[0]} is a text: write {found[2]}", True
 
 
@@ -38,17 +38,17 @@ def number_of(text: str) -> str:
     return f"is {text.replace(',', '.')} meant? Decimals have a point"
 
 
-def grouped_in_list(it: Any) -> Hint:
+def grouped_in_list(diagnostic: Any) -> Hint:
     """`hill 30,5` and `hill 1 030` in a list: with them as one number its cells fit, and without they do not."""
-    if it.text != "data" or it.is_change():
+    if diagnostic.text != "data" or diagnostic.is_change():
         return
-    words = it.statement()
+    words = diagnostic.statement()
     head = [token.text for token in words[:3]]
-    lines = it.texts["data"].split("\n")
+    lines = diagnostic.texts["data"].split("\n")
     if head[:1] != ["param"] or head[2:] != [":="]:
         return
     try:
-        model = it.texts.get("model", "")
+        model = diagnostic.texts.get("model", "")
         size = Shapes(parse(model), model).keys[head[1]] + 1
     except (Unparsed, ValueError, KeyError):
         return
@@ -58,7 +58,7 @@ def grouped_in_list(it: Any) -> Hint:
         found = re.search(pattern, body)
         if found and size > 1 and has_values(re.sub(pattern, "0", body), size) and not has_values(body, size):
             row = next(row for row in range(words[0].row, words[-1].row + 1) if found[0] in lines[row - 1])
-            yield f"{found[0]} in {it.rows_text([row])}: {number_of(found[0])}", True
+            yield f"{found[0]} in {diagnostic.rows_text([row])}: {number_of(found[0])}", True
             return
 
 
@@ -68,10 +68,10 @@ def has_values(body: str, size: int) -> bool:
     return len(cells) % size == 0 and all(re.match(r"[+-]?[.\d]", cell) for cell in cells[size - 1::size])
 
 
-def many_points(it: Any) -> Hint:
+def many_points(diagnostic: Any) -> Hint:
     """`1.200.000`."""
-    word = it.word().rstrip(";,")
-    if it.text == "data" and POINTS.fullmatch(word):
+    word = diagnostic.word().rstrip(";,")
+    if diagnostic.text == "data" and POINTS.fullmatch(word):
         yield f"{word}: is {word.replace('.', '')} meant? A point begins decimals", True
 
 

@@ -20,9 +20,9 @@ def member(token: Token) -> Any:
     return token.bare() if is_text else int(token.text)
 
 
-def set_words(it: Any, name: str) -> list:
+def set_words(diagnostic: Any, name: str) -> list:
     """Returns the tokens of the members that the last statement `set NAME :=` lists."""
-    words, found = list(tokens(it.texts.get("data", ""))), []
+    words, found = list(tokens(diagnostic.texts.get("data", ""))), []
     for here in range(len(words) - 2):
         if [words[here].text, words[here + 1].bare(), words[here + 2].text] == ["set", name, ":="]:
             rest = words[here + 3:]
@@ -30,9 +30,9 @@ def set_words(it: Any, name: str) -> list:
     return [token for token in found if token.text not in ("(", ")", ",")]
 
 
-def listed_rows(it: Any, world: Memberships, name: str) -> list:
+def listed_rows(diagnostic: Any, world: Memberships, name: str) -> list:
     """Returns the tuples of a set in the data, each with its line."""
-    words, text = set_words(it, name), it.texts.get("data", "")
+    words, text = set_words(diagnostic, name), diagnostic.texts.get("data", "")
     width = world.shapes.sets.get(name, 1)
     found = [(tuple(map(member, words[here:here + width])), words[here].row) for here in range(0, len(words), width)]
     params = {decl: size for decl, size in world.shapes.keys.items() if world.shapes.decls[decl].kind == "param"}
@@ -44,16 +44,16 @@ def listed_rows(it: Any, world: Memberships, name: str) -> list:
     return list(dict.fromkeys(found))
 
 
-def outside(it: Any) -> Hint:
+def outside(diagnostic: Any) -> Hint:
     """Members of a set that its `within` excludes, and which part of the restriction lacks them."""
     try:
-        world = Memberships(it.texts.get("model", ""), it.texts.get("data", ""))
-        decl = world.shapes.decls.get(it.detail)
-        if it.text != "model" or decl is None or decl.kind != "set":
+        world = Memberships(diagnostic.texts.get("model", ""), diagnostic.texts.get("data", ""))
+        decl = world.shapes.decls.get(diagnostic.detail)
+        if diagnostic.text != "model" or decl is None or decl.kind != "set":
             return
         limits = [phrase.exprs[0] for phrase in decl.phrases if phrase.word == "within"]
         wrong = []
-        for row, line in listed_rows(it, world, it.detail):
+        for row, line in listed_rows(diagnostic, world, diagnostic.detail):
             missing = [(limit, said) for limit, said in ((limit, world.missing(limit, row, {})) for limit in limits) if said]
             wrong += [(row, line, *missing[0])] if missing else []
     except (Unparsed, Unknown, ValueError, IndexError, TypeError):
@@ -61,8 +61,8 @@ def outside(it: Any) -> Hint:
     for row, line, limit, said in wrong[:NAMED]:
         title = world.text(limit)
         reason = "" if said == f"{title} has no {row_text(row)}" else f": {said}"
-        change = it.question.change_at(line) if it.question is not None else ""
-        yield f"{change or f'{row_text(row)} in {it.rows_text([line])}'} is not in {title}{reason}", True
+        change = diagnostic.question.change_at(line) if diagnostic.question is not None else ""
+        yield f"{change or f'{row_text(row)} in {diagnostic.rows_text([line])}'} is not in {title}{reason}", True
 
 
 def slice_pairs(words: list) -> list:
@@ -83,14 +83,14 @@ def slice_pairs(words: list) -> list:
     return [f"({','.join(row)})" for row in found]
 
 
-def set_slices(it: Any) -> Hint:
+def set_slices(diagnostic: Any) -> Hint:
     """`set LINKS := (Linz,*) Wien Enns;`"""
-    words = it.statement()
+    words = diagnostic.statement()
     head = [token.text for token in words[:3]]
-    if it.text != "data" or head[:1] != ["set"] or head[2:] != [":="] or it.word() != "*":
+    if diagnostic.text != "data" or head[:1] != ["set"] or head[2:] != [":="] or diagnostic.word() != "*":
         return
-    found = re.search(r"\([^()]*$", it.before)
-    template = f"{found[0] if found else '('}{it.at().partition(')')[0]})"
+    found = re.search(r"\([^()]*$", diagnostic.before)
+    template = f"{found[0] if found else '('}{diagnostic.at().partition(')')[0]})"
     pairs = slice_pairs([token for token in words[3:] if token.text != ";"])
     yield f"{template} is a slice of AMPL, which netflow does not have: write whole tuples{statement_text(head[1], pairs)}", True
 
@@ -109,11 +109,11 @@ def table_pairs(words: list) -> list:
     return [f"({','.join(reversed(pair) if is_turned else pair)})" for pair in pairs]
 
 
-def set_table(it: Any) -> Hint:
+def set_table(diagnostic: Any) -> Hint:
     """`set LINKS: Wien Enns := Linz + - Graz - +;`"""
-    words = it.statement()
+    words = diagnostic.statement()
     head, marks = [token.text for token in words[:3]], {token.text for token in words}
-    if it.text == "data" and head[:1] == ["set"] and head[2:] in ([":"], ["("]) and {":=", ":"} <= marks and marks & {"+", "-"}:
+    if diagnostic.text == "data" and head[:1] == ["set"] and head[2:] in ([":"], ["("]) and {":=", ":"} <= marks and marks & {"+", "-"}:
         pairs = table_pairs([token for token in words[2:] if token.text != ";"])
         yield f"a set table with + and - is part of AMPL alone: list the pairs that have a +{statement_text(head[1], pairs)}", True
 

@@ -26,10 +26,10 @@ def size(sets: Sets, expr: Expr) -> int:
     return size(sets, phrase.exprs[0]) if phrase else 0
 
 
-def at_place(sets: Sets, it: Any) -> tuple:
+def at_place(sets: Sets, diagnostic: Any) -> tuple:
     """Returns the declaration with the error and its braces or cross product at the place; (None, None) if there are none."""
-    model = it.texts["model"]
-    place = sum(len(line) + 1 for line in model.split("\n")[:it.row - 1]) + len(it.before)
+    model = diagnostic.texts["model"]
+    place = sum(len(line) + 1 for line in model.split("\n")[:diagnostic.row - 1]) + len(diagnostic.before)
     for decl in sets.decls.values():
         if decl.start <= place <= decl.end:
             whole = [decl.braces, *(expr for phrase in decl.phrases for expr in phrase.exprs)]
@@ -40,11 +40,11 @@ def at_place(sets: Sets, it: Any) -> tuple:
     return None, None
 
 
-def too_many(it: Any) -> Hint:
+def too_many(diagnostic: Any) -> Hint:
     """How many keys the braces at the place, or those of the declaration, have, if their sets are plain."""
     try:
-        sets = Sets(it)
-        decl, found = at_place(sets, it) if it.text == "model" else (sets.decls.get(it.detail), None)
+        sets = Sets(diagnostic)
+        decl, found = at_place(sets, diagnostic) if diagnostic.text == "model" else (sets.decls.get(diagnostic.detail), None)
     except (Unparsed, ValueError, IndexError):
         return
     if decl is None or found is None:
@@ -55,8 +55,8 @@ def too_many(it: Any) -> Hint:
         return
     condition = found.args[-1] if found.op == "braces" and found.value else None
     total = f"{' x '.join(f'{count:,}' for count in sizes)} = {math.prod(sizes):,}"
-    said = MOST[it.number].replace(",", " before the condition is evaluated,", 1) if condition is not None else MOST[it.number]
-    smaller = fewer(sets, it.texts["model"], items, condition)
+    said = MOST[diagnostic.number].replace(",", " before the condition is evaluated,", 1) if condition is not None else MOST[diagnostic.number]
+    smaller = fewer(sets, diagnostic.texts["model"], items, condition)
     yield f"{decl.name or decl.kind} has {total} {said}: {f'write {smaller}' if smaller else 'index it by a set of the tuples that exist'}", True
 
 

@@ -13,19 +13,19 @@ BOUND = re.compile(rf"(?P<low>{OPERAND})\s*<=\s*(?:{NAME}(?:\[[^\]]*\])?\s*<=\s*
 RANGE = re.compile(r"(?P<low>[^:;]*?)\s*(?P<one><=|>=|=)\s*(?P<net>net_in|net_out)\s*(?P<two><=|>=|=)\s*(?P<high>[^;]*)")
 
 
-def declared(it: Any, *kinds: str) -> set:
+def declared(diagnostic: Any, *kinds: str) -> set:
     """Returns the names that the model declares by these words."""
-    words = it.words("model")
+    words = diagnostic.words("model")
     return {words[here + 1] for here in range(len(words) - 1) if words[here] in kinds}
 
 
-def chained(it: Any) -> Hint:
+def chained(diagnostic: Any) -> Hint:
     """A second comparison of the same expression inside braces or a check: `1 <= t <= n`."""
-    if it.text != "model" or not it.at().startswith(("<", ">", "=")):
+    if diagnostic.text != "model" or not diagnostic.at().startswith(("<", ">", "=")):
         return
-    found = re.search(rf"({OPERAND})\s*(<=?|>=?)\s*({OPERAND})\s*$", it.before)
-    after = re.match(rf"(<=?|>=?)\s*({OPERAND})", it.at())
-    words = [token.text for token in it.statement_before()]
+    found = re.search(rf"({OPERAND})\s*(<=?|>=?)\s*({OPERAND})\s*$", diagnostic.before)
+    after = re.match(rf"(<=?|>=?)\s*({OPERAND})", diagnostic.at())
+    words = [token.text for token in diagnostic.statement_before()]
     is_inside = words.count("{") > words.count("}")
     if not found or not after or not (is_inside or words[:1] == ["check"]):
         return
@@ -37,57 +37,57 @@ def chained(it: Any) -> Hint:
         yield f"write two comparisons: {left} {first} {middle} and {middle} {second} {right}", True
 
 
-def reversed_sign(it: Any) -> Hint:
+def reversed_sign(diagnostic: Any) -> Hint:
     """`=<` and `=>`."""
-    place = len(it.before)
+    place = len(diagnostic.before)
     for wrong, right in (("=<", "<="), ("=>", ">="), ("=!", "!=")):
-        if it.text == "model" and wrong in (it.shown[place:place + 2], it.shown[max(place - 1, 0):place + 1]):
+        if diagnostic.text == "model" and wrong in (diagnostic.shown[place:place + 2], diagnostic.shown[max(place - 1, 0):place + 1]):
             yield f"{wrong}: is {right} meant?", True
 
 
-def round_subscripts(it: Any) -> Hint:
+def round_subscripts(diagnostic: Any) -> Hint:
     """`needed{p,t}` and `needed(p,t)`."""
-    name = re.search(rf"({NAME})\s*$", it.before)
-    mark = it.at()[:1]
-    if it.text != "model" or not name or mark not in ("{", "(") or name[1] not in declared(it, "param", "node", "arc", "set"):
+    name = re.search(rf"({NAME})\s*$", diagnostic.before)
+    mark = diagnostic.at()[:1]
+    if diagnostic.text != "model" or not name or mark not in ("{", "(") or name[1] not in declared(diagnostic, "param", "node", "arc", "set"):
         return
-    inside = re.match(r"[{(]([^{}()]*)[})]", it.at())
+    inside = re.match(r"[{(]([^{}()]*)[})]", diagnostic.at())
     yield f"subscripts are in square brackets: {name[1]}[{inside[1].strip() if inside else '..'}]", True
 
 
-def missing_comma(it: Any) -> Hint:
+def missing_comma(diagnostic: Any) -> Hint:
     """Two subscripts without a comma."""
-    if it.text == "model" and re.search(r"\[[^\]{};]*\w\s+$", it.before) and re.match(r"[\w']", it.at()):
-        yield f"is a , missing before {it.word()}?", True
+    if diagnostic.text == "model" and re.search(r"\[[^\]{};]*\w\s+$", diagnostic.before) and re.match(r"[\w']", diagnostic.at()):
+        yield f"is a , missing before {diagnostic.word()}?", True
 
 
-def bounds_in_one(it: Any) -> Hint:
+def bounds_in_one(diagnostic: Any) -> Hint:
     """`0 <= yard[p]` or `0 <= Lease <= 5` for the bounds of an arc."""
-    words = [token.text for token in it.statement_before()]
-    if it.text != "model" or words[:1] != ["arc"] or words.count("{") > words.count("}") or not re.search(r"(?:[},]|\w)\s*$", it.before):
+    words = [token.text for token in diagnostic.statement_before()]
+    if diagnostic.text != "model" or words[:1] != ["arc"] or words.count("{") > words.count("}") or not re.search(r"(?:[},]|\w)\s*$", diagnostic.before):
         return
-    found = BOUND.match(it.at())
+    found = BOUND.match(diagnostic.at())
     if found:
         yield f"the bounds of an arc are two phrases: >= {found['low']}, <= {found['high']}", True
 
 
-def mixed_range(it: Any) -> Hint:
+def mixed_range(diagnostic: Any) -> Hint:
     """`5 <= net_in >= 10`."""
-    statement = it.statement()
-    if it.text != "model" or not statement or statement[0].text != "node":
+    statement = diagnostic.statement()
+    if diagnostic.text != "model" or not statement or statement[0].text != "node":
         return
-    line = it.shown[it.shown.rfind(":", 0, len(it.before)) + 1:]
+    line = diagnostic.shown[diagnostic.shown.rfind(":", 0, len(diagnostic.before)) + 1:]
     found = RANGE.search(line)
     if found and found["low"].strip() and found["one"] != found["two"]:
         yield f"both signs of a range are the same: {found['low'].strip()} <= {found['net']} <= {found['high'].strip()}", True
 
 
-def comma_for_colon(it: Any) -> Hint:
+def comma_for_colon(diagnostic: Any) -> Hint:
     """A condition after a comma in braces."""
-    if it.text != "model" or not it.at().startswith("{"):
+    if diagnostic.text != "model" or not diagnostic.at().startswith("{"):
         return
     depth, inside = 0, []
-    for word in [token.text for token in it.statement()[len(it.statement_before()):]]:
+    for word in [token.text for token in diagnostic.statement()[len(diagnostic.statement_before()):]]:
         depth += (word in CLOSING) - (word in CLOSING.values())
         if depth == 0:
             break
@@ -101,52 +101,52 @@ def comma_for_colon(it: Any) -> Hint:
             return
 
 
-def no_objective(it: Any) -> Hint:
+def no_objective(diagnostic: Any) -> Hint:
     """`obj freight[p,q]`: the objective's name is missing."""
-    names = sorted(declared(it, "minimize", "maximize"))
-    found = re.search(rf"\bobj\s+(?:({NAME})\s*)?$", it.before)
-    if it.text != "model" or not found or not names:
+    names = sorted(declared(diagnostic, "minimize", "maximize"))
+    found = re.search(rf"\bobj\s+(?:({NAME})\s*)?$", diagnostic.before)
+    if diagnostic.text != "model" or not found or not names:
         return
-    word = re.match(NAME, it.at())
-    head = found[1] or (word[0] if word and it.number == "E12" and it.detail not in names else "")
-    is_price = head in declared(it, "param") if head else re.match(r"[\d(]", it.at()) is not None
+    word = re.match(NAME, diagnostic.at())
+    head = found[1] or (word[0] if word and diagnostic.number == "E12" and diagnostic.detail not in names else "")
+    is_price = head in declared(diagnostic, "param") if head else re.match(r"[\d(]", diagnostic.at()) is not None
     if is_price:
-        price = (found[1] or "") + re.match(r"(?:\[[^\]]*\]|[^,;])*", it.at())[0].strip()  # type: ignore[index]
+        price = (found[1] or "") + re.match(r"(?:\[[^\]]*\]|[^,;])*", diagnostic.at())[0].strip()  # type: ignore[index]
         price = re.sub(rf"\s+(?:{'|'.join(names)})$", "", price)
         yield f"the objective's name comes after obj: obj {names[0]} {price}", True
 
 
-def check_without_colon(it: Any) -> Hint:
-    if it.text == "model" and [token.text for token in it.statement_before()] == ["check"] and not it.at().startswith((":", "{")):
+def check_without_colon(diagnostic: Any) -> Hint:
+    if diagnostic.text == "model" and [token.text for token in diagnostic.statement_before()] == ["check"] and not diagnostic.at().startswith((":", "{")):
         yield "is a : missing after check?", True
 
 
-def colon_range(it: Any) -> Hint:
+def colon_range(diagnostic: Any) -> Hint:
     """`{1:last}` and `{t in 1:last}`."""
-    found = re.match(rf"\{{?\s*(?:{NAME}\s+in\s+)?(\w+)\s*:\s*(\w+)\s*[}},]", it.at())
-    if it.text == "model" and found and not found[1].isidentifier():
+    found = re.match(rf"\{{?\s*(?:{NAME}\s+in\s+)?(\w+)\s*:\s*(\w+)\s*[}},]", diagnostic.at())
+    if diagnostic.text == "model" and found and not found[1].isidentifier():
         yield f"{found[1]}:{found[2]}: is {found[1]}..{found[2]} meant?", True
 
 
-def nothing_after(it: Any) -> Hint:
+def nothing_after(diagnostic: Any) -> Hint:
     """`default;`, `>= ,`: a phrase without its value."""
-    found = re.search(r"(\bdefault|\bwithin|\bdimen|\bobj|\bfrom|\bto|:=|<=|>=|[-+*=:(\[])\s*$", it.before)
-    if it.text == "model" and found and it.at()[:1] in (";", ",", "}", "]", ")"):
+    found = re.search(r"(\bdefault|\bwithin|\bdimen|\bobj|\bfrom|\bto|:=|<=|>=|[-+*=:(\[])\s*$", diagnostic.before)
+    if diagnostic.text == "model" and found and diagnostic.at()[:1] in (";", ",", "}", "]", ")"):
         yield f"what comes after {found[1]} is missing", True
 
 
-def tuple_without_comma(it: Any) -> Hint:
+def tuple_without_comma(diagnostic: Any) -> Hint:
     """`(GOA HAM)` in data."""
-    found = re.search(r"\(\s*([^\s,()]+)\s+$", it.before)
-    if it.text == "data" and found and it.word() not in (",", ")", ";"):
-        yield f"the members of a tuple have commas between them: ({found[1]},{it.word()})", True
+    found = re.search(r"\(\s*([^\s,()]+)\s+$", diagnostic.before)
+    if diagnostic.text == "data" and found and diagnostic.word() not in (",", ")", ";"):
+        yield f"the members of a tuple have commas between them: ({found[1]},{diagnostic.word()})", True
 
 
-def braces_in_data(it: Any) -> Hint:
-    if it.text == "data" and it.at()[:1] in ("{", "}"):
-        inside = re.match(r"\{([^}]*)\}", it.at())
+def braces_in_data(diagnostic: Any) -> Hint:
+    if diagnostic.text == "data" and diagnostic.at()[:1] in ("{", "}"):
+        inside = re.match(r"\{([^}]*)\}", diagnostic.at())
         members = " ".join(re.split(r"[\s,]+", inside[1].strip())) if inside else ""
-        whole = [word[0] for word in TOKEN.finditer(it.before)][-3:]
+        whole = [word[0] for word in TOKEN.finditer(diagnostic.before)][-3:]
         name = whole[1] if whole[:1] == ["set"] and whole[-1] == ":=" else ""
         yield f"data have no braces{f': set {name} := {members};' if name and members else ''}", True
 

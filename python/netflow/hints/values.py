@@ -18,13 +18,13 @@ QUOTES = "\u2018\u2019\u201a\u201b\u201c\u201d\u201e\u201f\u00ab\u00bb\u2039\u20
 DASHES = "\u2010\u2011\u2012\u2013\u2014\u2212"
 
 
-def character(it: Any) -> Hint:
+def character(diagnostic: Any) -> Hint:
     """Typographic quotes and dashes, units, and marks that begin comments elsewhere."""
-    mark = it.at()[:1]
+    mark = diagnostic.at()[:1]
     name = unicodedata.name(mark, "a character without a name") if mark else ""
-    if mark in ("%", "!", "\\", "\"") and not it.before.strip():
+    if mark in ("%", "!", "\\", "\"") and not diagnostic.before.strip():
         yield "comments begin with #", True
-    elif mark == "%" and re.search(r"\d\s*$", it.before):
+    elif mark == "%" and re.search(r"\d\s*$", diagnostic.before):
         yield "write the number without %", True
     elif mark and mark in QUOTES:
         yield f"the character is {name} (U+{ord(mark):04X}): write ' for it", True
@@ -36,42 +36,42 @@ def character(it: Any) -> Hint:
         yield f"the character is {name} (U+{ord(mark):04X}), a blank that looks like a plain one: write a plain one", True
 
 
-def unit(it: Any) -> Hint:
+def unit(diagnostic: Any) -> Hint:
     """`40km`, or `40 loaves` for a parameter with one value."""
-    word = it.word().rstrip(",;")
+    word = diagnostic.word().rstrip(",;")
     found = re.fullmatch(r"([+-]?\d+(?:\.\d+)?)[^\W\d_]+", word)
-    if it.text != "data" or it.is_change():
+    if diagnostic.text != "data" or diagnostic.is_change():
         return
-    if it.number == "E36" and found and not word.translate(str.maketrans("OoIl", "0011")).isdigit():
+    if diagnostic.number == "E36" and found and not word.translate(str.maketrans("OoIl", "0011")).isdigit():
         yield f"{word}: write the number without its unit, {found[1]}", True
-    elif it.number == "E31" and "[" not in it.detail and re.search(r":=\s*\d{1,3}(?:\s\d{3})*\s$", it.before) and re.match(r"\d{3}\b", it.at()):
-        digits = re.search(r":=\s*([\d\s]+)$", it.before)
-        yield f"{it.detail} has one value: is {''.join(digits[1].split())}{it.at()[:3]} meant? Digits are not grouped", True  # type: ignore[index]
-    elif it.number == "E31" and "[" not in it.detail and re.search(r"\d\s*$", it.before) and re.match(r"[^\W\d]", word):
-        yield f"{it.detail} has one value: is {word} a unit? Leave it out", True
+    elif diagnostic.number == "E31" and "[" not in diagnostic.detail and re.search(r":=\s*\d{1,3}(?:\s\d{3})*\s$", diagnostic.before) and re.match(r"\d{3}\b", diagnostic.at()):
+        digits = re.search(r":=\s*([\d\s]+)$", diagnostic.before)
+        yield f"{diagnostic.detail} has one value: is {''.join(digits[1].split())}{diagnostic.at()[:3]} meant? Digits are not grouped", True  # type: ignore[index]
+    elif diagnostic.number == "E31" and "[" not in diagnostic.detail and re.search(r"\d\s*$", diagnostic.before) and re.match(r"[^\W\d]", word):
+        yield f"{diagnostic.detail} has one value: is {word} a unit? Leave it out", True
 
 
-def one_number(it: Any) -> Hint:
+def one_number(diagnostic: Any) -> Hint:
     """`30-45` for a value."""
-    if it.text == "data" and re.fullmatch(r"\d+-\d+", it.word()):
-        yield f"{it.word()} is no number, and a value is one number; a range needs two parameters, a least and a most", True
+    if diagnostic.text == "data" and re.fullmatch(r"\d+-\d+", diagnostic.word()):
+        yield f"{diagnostic.word()} is no number, and a value is one number; a range needs two parameters, a least and a most", True
 
 
-def keys_as_tuples(it: Any) -> Hint:
+def keys_as_tuples(diagnostic: Any) -> Hint:
     """`param cost := (north,hill) 4`."""
-    words = [token.text for token in it.statement_before()]
-    found = re.match(r"\(([^()]*)\)\s*(\S+)", it.at())
-    if it.text == "data" and words[:1] == ["param"] and words[-1:] == [":="] and found:
+    words = [token.text for token in diagnostic.statement_before()]
+    found = re.match(r"\(([^()]*)\)\s*(\S+)", diagnostic.at())
+    if diagnostic.text == "data" and words[:1] == ["param"] and words[-1:] == [":="] and found:
         yield f"the keys of a value have no parentheses: {' '.join(part.strip() for part in found[1].split(','))} {found[2].rstrip(';')}", True
 
 
-def short_item(it: Any) -> Hint:
+def short_item(diagnostic: Any) -> Hint:
     """`hill 30, lake, mill 25`: an item between commas without its value."""
-    text = "\n".join(it.texts.get("data", "").split("\n")[:it.row])
-    start = text.rfind(":=", 0, len(text) - len(it.at()))
-    if it.text != "data" or it.is_change() or start < 0:
+    text = "\n".join(diagnostic.texts.get("data", "").split("\n")[:diagnostic.row])
+    start = text.rfind(":=", 0, len(text) - len(diagnostic.at()))
+    if diagnostic.text != "data" or diagnostic.is_change() or start < 0:
         return
-    rest = it.texts["data"][start + 2:].partition(";")[0]
+    rest = diagnostic.texts["data"][start + 2:].partition(";")[0]
     sizes = [len(part.split()) for part in rest.split(",")]
     usual = max(sizes, key=sizes.count)
     short = [part.split() for part in rest.split(",") if 0 < len(part.split()) == usual - 1]
@@ -79,32 +79,32 @@ def short_item(it: Any) -> Hint:
         yield f"is the value of {' '.join(short[0])} missing?", True
 
 
-def misspelt_statement(it: Any) -> Hint:
+def misspelt_statement(diagnostic: Any) -> Hint:
     """`parm` for `param`, `defualt` for `default`."""
-    word = it.word().lower()
-    if it.text != "data" or not re.fullmatch(r"[a-z]+", word):
+    word = diagnostic.word().lower()
+    if diagnostic.text != "data" or not re.fullmatch(r"[a-z]+", word):
         return
-    is_first = len(it.statement_before()) == 0
+    is_first = len(diagnostic.statement_before()) == 0
     known = ("set", "param", "data", "end") if is_first else ("default",)
     meant = "set" if word in ("sets", "let") else next(iter(difflib.get_close_matches(word, known, 1, 0.7)), "")
-    if meant and meant != it.word():
-        yield f"{it.word()}: is {meant} meant?", True
+    if meant and meant != diagnostic.word():
+        yield f"{diagnostic.word()}: is {meant} meant?", True
 
 
-def missing_mark(it: Any) -> Hint:
+def missing_mark(diagnostic: Any) -> Hint:
     """`param van 40;`"""
-    before = [token.text for token in it.statement_before()]
-    if it.text == "data" and before[:1] in (["set"], ["param"]) and len(before) == 2 and re.match(r"[\w'\"(.+-]", it.at()) \
-            and not list(misspelt_statement(it)) and it.word() != "default":
-        yield f"is := missing before {it.word().rstrip(';')}?", True
+    before = [token.text for token in diagnostic.statement_before()]
+    if diagnostic.text == "data" and before[:1] in (["set"], ["param"]) and len(before) == 2 and re.match(r"[\w'\"(.+-]", diagnostic.at()) \
+            and not list(misspelt_statement(diagnostic)) and diagnostic.word() != "default":
+        yield f"is := missing before {diagnostic.word().rstrip(';')}?", True
 
 
-def cells_of(it: Any) -> list:
+def cells_of(diagnostic: Any) -> list:
     """Returns the data's cells, also those with a missing-value dot, each with its row; none if the texts cannot be parsed."""
     try:
-        shapes = Shapes(parse(it.texts.get("model", "")))
+        shapes = Shapes(parse(diagnostic.texts.get("model", "")))
         params = {decl.name: shapes.keys[decl.name] for decl in shapes.decls.values() if decl.kind == "param"}
-        text = it.texts.get("data", "")
+        text = diagnostic.texts.get("data", "")
         found = DataText(text, params, shapes.sets, is_joined=True)
     except (Unparsed, ValueError, IndexError):
         return []
@@ -119,52 +119,52 @@ def is_dot(cell: Any) -> bool:
     return cell.token.text == "." and cell.token.kind == "word"
 
 
-def named_cells(it: Any, dots: bool = False) -> list:
+def named_cells(diagnostic: Any, dots: bool = False) -> list:
     """Returns the cells that the error's detail names: those with a value, or those with a missing-value dot."""
-    name, bracket, rest = it.detail.partition("[")
+    name, bracket, rest = diagnostic.detail.partition("[")
     key = members(rest[:-1]) if bracket else []
-    return [(cell, row) for cell, row in cells_of(it) if key is not None and cell.name == name and list(cell.key) == list(key) and is_dot(cell) == dots]
+    return [(cell, row) for cell, row in cells_of(diagnostic) if key is not None and cell.name == name and list(cell.key) == list(key) and is_dot(cell) == dots]
 
 
-def cell_place(it: Any, cell: Any, row: int) -> str:
+def cell_place(diagnostic: Any, cell: Any, row: int) -> str:
     """Returns the line and the column of a cell in words."""
-    text = it.texts["data"]
+    text = diagnostic.texts["data"]
     before = text[text.rfind("\n", 0, cell.token.start) + 1:cell.token.start]
-    return f"{it.rows_text([row])}, column {len(before.encode('utf-8', 'surrogateescape')) + 1}"
+    return f"{diagnostic.rows_text([row])}, column {len(before.encode('utf-8', 'surrogateescape')) + 1}"
 
 
-def restricted(it: Any) -> Hint:
+def restricted(diagnostic: Any) -> Hint:
     """The value that a restriction rejects."""
-    found = named_cells(it)
-    if it.text == "model" and found:
+    found = named_cells(diagnostic)
+    if diagnostic.text == "model" and found:
         cell, row = found[-1]
-        change = it.question.change_at(row) if it.question is not None else ""
-        value, place = (it.question.value_at(row)[2], change) if change else (cell.token.text, cell_place(it, cell, row))
-        phrase = re.match(r"[^,;]*", it.at())
-        sign = re.search(r"(<=|>=|<>|!=|<|>|\bin|\bwithin)\s*$", it.before)
+        change = diagnostic.question.change_at(row) if diagnostic.question is not None else ""
+        value, place = (diagnostic.question.value_at(row)[2], change) if change else (cell.token.text, cell_place(diagnostic, cell, row))
+        phrase = re.match(r"[^,;]*", diagnostic.at())
+        sign = re.search(r"(<=|>=|<>|!=|<|>|\bin|\bwithin)\s*$", diagnostic.before)
         said = f"; the model has {sign[1]} {phrase[0].strip()}" if sign and phrase else ""
-        yield f"{it.detail} is {value} in {place}{said}", True
+        yield f"{diagnostic.detail} is {value} in {place}{said}", True
 
 
-def missing_value(it: Any) -> Hint:
+def missing_value(diagnostic: Any) -> Hint:
     """The dot of a value that is missing, or the values with the nearest keys."""
-    name, bracket, rest = it.detail.partition("[")
+    name, bracket, rest = diagnostic.detail.partition("[")
     key = members(rest[:-1]) if bracket else None
-    if it.text != "model" or not key:
+    if diagnostic.text != "model" or not key:
         return
-    dots = named_cells(it, dots=True)
+    dots = named_cells(diagnostic, dots=True)
     if dots:
-        yield f"{it.detail} is a missing-value dot in {cell_place(it, *dots[-1])}", True
+        yield f"{diagnostic.detail} is a missing-value dot in {cell_place(diagnostic, *dots[-1])}", True
         return
-    near = [(nearness(cell.key, key), cell, row) for cell, row in cells_of(it) if cell.name == name and len(cell.key) == len(key) and not is_dot(cell)]
+    near = [(nearness(cell.key, key), cell, row) for cell, row in cells_of(diagnostic) if cell.name == name and len(cell.key) == len(key) and not is_dot(cell)]
     best = max((found for found, _, _ in near), default=(0, 0))
-    if near and it.question is not None and it.question.is_from_python():
+    if near and diagnostic.question is not None and diagnostic.question.is_from_python():
         keys = [repr(cell.key[0] if len(cell.key) == 1 else cell.key) for found, cell, _ in near if found == best]
         yield f"{name} has no value at {key[0] if len(key) == 1 else tuple(key)!r}; it has values at {few(keys, 3)}", True
         return
-    listed = [f"{name}[{','.join(map(shown, cell.key))}] in {it.rows_text([row])}" for found, cell, row in near if found == best][:3]
+    listed = [f"{name}[{','.join(map(shown, cell.key))}] in {diagnostic.rows_text([row])}" for found, cell, row in near if found == best][:3]
     if near:
-        yield f"the data have no row of {it.detail}; {'the nearest: ' + ', '.join(listed) if best[0] else f'{name} is in {it.rows_text([near[0][2]])}'}", True
+        yield f"the data have no row of {diagnostic.detail}; {'the nearest: ' + ', '.join(listed) if best[0] else f'{name} is in {diagnostic.rows_text([near[0][2]])}'}", True
 
 
 def nearness(key: tuple, wanted: list) -> tuple:
@@ -173,57 +173,57 @@ def nearness(key: tuple, wanted: list) -> tuple:
     return sum(same), same.index(False) if False in same else len(same)
 
 
-def given_twice(it: Any) -> Hint:
+def given_twice(diagnostic: Any) -> Hint:
     """Both places of a value or a member that is given twice."""
-    found = named_cells(it)
-    if it.text == "data" and len(found) > 1 and "[" in it.detail:
+    found = named_cells(diagnostic)
+    if diagnostic.text == "data" and len(found) > 1 and "[" in diagnostic.detail:
         (first, row), (second, other) = found[:2]
-        yield f"{it.detail} is {first.token.text} in {it.rows_text([row])} and {second.token.text} in {it.rows_text([other])}: remove one of the two", True
-    elif it.text == "data" and not found and it.detail and "[" not in it.detail:
-        yield from listed_twice(it)
+        yield f"{diagnostic.detail} is {first.token.text} in {diagnostic.rows_text([row])} and {second.token.text} in {diagnostic.rows_text([other])}: remove one of the two", True
+    elif diagnostic.text == "data" and not found and diagnostic.detail and "[" not in diagnostic.detail:
+        yield from listed_twice(diagnostic)
 
 
-def crossed(it: Any) -> Hint:
+def crossed(diagnostic: Any) -> Hint:
     """Both bounds of an arc whose lower one is above its upper one, with their lines."""
     try:
-        world, (name, key) = Memberships(it.texts.get("model", ""), it.texts.get("data", "")), reference(it.detail)
+        world, (name, key) = Memberships(diagnostic.texts.get("model", ""), diagnostic.texts.get("data", "")), reference(diagnostic.detail)
         decl = world.shapes.decls[name]
         indices = [part.value for item in decl.braces.args if item.op == "in" for part in item.args[0].walk() if part.op == "name"] if decl.braces else []
-        sides = [bound_text(it, world, decl.phrase(sign), dict(zip(indices, key))) for sign in (">=", "<=")]
+        sides = [bound_text(diagnostic, world, decl.phrase(sign), dict(zip(indices, key))) for sign in (">=", "<=")]
     except (Unparsed, Unknown, Unreadable, ValueError, KeyError, IndexError, TypeError):
         return
     yield f"the lower bound, {sides[0]}, is above the upper bound, {sides[1]}", True
 
 
-def bound_text(it: Any, world: Memberships, phrase: Any, env: dict) -> str:
+def bound_text(diagnostic: Any, world: Memberships, phrase: Any, env: dict) -> str:
     """Returns a bound with its value and the line of the data that gives it, such as `van, is 40 in line 5`."""
     expr = phrase.exprs[0]
     value, text = world.value(expr, env), world.text(expr)
     if expr.op != "name":
         return str(value) if text == str(value) else f"{text}, which is {value}"
     key = [world.value(part, env) for part in expr.args]
-    rows = [row for cell, row in cells_of(it) if cell.name == expr.value and list(cell.key) == key]
+    rows = [row for cell, row in cells_of(diagnostic) if cell.name == expr.value and list(cell.key) == key]
     title = f"{expr.value}[{','.join(map(shown, key))}]" if key else expr.value
-    return f"{title} = {value}{f' in {it.rows_text(rows[-1:])}' if rows else ''}"
+    return f"{title} = {value}{f' in {diagnostic.rows_text(rows[-1:])}' if rows else ''}"
 
 
-def second_statement(it: Any) -> Hint:
+def second_statement(diagnostic: Any) -> Hint:
     """A set or parameter with two statements, as in two data files that were joined."""
-    name, words = it.detail.partition("[")[0], list(tokens(it.texts.get("data", "")))
+    name, words = diagnostic.detail.partition("[")[0], list(tokens(diagnostic.texts.get("data", "")))
     rows = [word.row for word, following in zip(words, words[1:]) if word.text in ("set", "param") and following.bare() == name]
-    if it.text != "data" or it.is_change():
+    if diagnostic.text != "data" or diagnostic.is_change():
         return
-    if "[" not in it.detail and re.match(rf"{re.escape(name)}\s+default\b", it.at()):
-        yield f"{name} has a default in an earlier statement: its statements are in {it.rows_text(rows)}; keep one default", True
-    elif len(rows) > 1 and rows[0] < it.row:
-        yield f"its first statement is in {it.rows_text(rows[:1])}; are two data files joined? Give both to the tools", True
+    if "[" not in diagnostic.detail and re.match(rf"{re.escape(name)}\s+default\b", diagnostic.at()):
+        yield f"{name} has a default in an earlier statement: its statements are in {diagnostic.rows_text(rows)}; keep one default", True
+    elif len(rows) > 1 and rows[0] < diagnostic.row:
+        yield f"its first statement is in {diagnostic.rows_text(rows[:1])}; are two data files joined? Give both to the tools", True
 
 
-def listed_twice(it: Any) -> Hint:
+def listed_twice(diagnostic: Any) -> Hint:
     """A member, or a tuple, that a set's statement lists twice."""
-    words = list(tokens(it.texts.get("data", "")))
+    words = list(tokens(diagnostic.texts.get("data", "")))
     for here in range(len(words) - 2):
-        if words[here].text == "set" and words[here + 1].text == it.detail:
+        if words[here].text == "set" and words[here + 1].text == diagnostic.detail:
             rest = words[here + 3:]
             rest = rest[:next((at for at, token in enumerate(rest) if token.text == ";"), len(rest))]
             text = " ".join(token.text for token in rest)
@@ -232,48 +232,48 @@ def listed_twice(it: Any) -> Hint:
                 seen[part] = seen.get(part, 0) + 1
             twice = [part.replace(" ", "") for part, count in seen.items() if count > 1]
             if twice:
-                yield f"{it.detail} has {twice[0]} twice: remove one of the two", True
+                yield f"{diagnostic.detail} has {twice[0]} twice: remove one of the two", True
             return
 
 
-def no_value(it: Any) -> Hint:
+def no_value(diagnostic: Any) -> Hint:
     """A name that the data do not have at all."""
-    name = it.detail.partition("[")[0]
-    words = [token.text for token in tokens(it.texts.get("data", ""))]
-    if it.text != "model" or not name or not words:
+    name = diagnostic.detail.partition("[")[0]
+    words = [token.text for token in tokens(diagnostic.texts.get("data", ""))]
+    if diagnostic.text != "model" or not name or not words:
         return
-    if it.question is not None and it.question.is_from_python() and (name not in words or "[" not in it.detail and name in it.question.changed.params):
+    if diagnostic.question is not None and diagnostic.question.is_from_python() and (name not in words or "[" not in diagnostic.detail and name in diagnostic.question.changed.params):
         given = "is given without a value, as None or NaN" if name in words else "has no value"
         yield f"{name} {given}: give it to solve as {name}=.., or in a data file", True
     elif name not in words:
         yield f"the data have no statement for {name}", True
 
 
-def missing_in_set(it: Any) -> Hint:
+def missing_in_set(diagnostic: Any) -> Hint:
     """A member that the data use in several statements, and its set does not list."""
-    name, bracket, rest = it.detail.partition("[")
-    if it.text != "data" or not bracket:
+    name, bracket, rest = diagnostic.detail.partition("[")
+    if diagnostic.text != "data" or not bracket:
         return
     from .keys import Key, near
     try:
-        key = Key(it)
+        key = Key(diagnostic)
     except (Unreadable, Unparsed, ValueError):
         return
     for first, last, title, known in key.outside(key.key):
         if last - first == 1 and isinstance(key.key[first], str) and re.fullmatch(r"[A-Za-z_]\w*", title):
-            words = list(tokens(it.texts["data"]))
+            words = list(tokens(diagnostic.texts["data"]))
             used = [token for token in words if token.bare() == key.key[first]]
-            statements = {statement_of(it, token.row) for token in used}
+            statements = {statement_of(diagnostic, token.row) for token in used}
             others = near(key.key[first], [part for part, in known if isinstance(part, str)])
             is_misspelt = any(sum(token.bare() == other for token in words) == 1 for other in others)
             if len(statements) > 1 and not is_misspelt and not key.exchanged():
                 rows = list(dict.fromkeys(token.row for token in used))
-                yield f"{key.key[first]} is not in {title}, and the data name it in {it.rows_text(rows[:3])}: is it missing in the set {title}?", True
+                yield f"{key.key[first]} is not in {title}, and the data name it in {diagnostic.rows_text(rows[:3])}: is it missing in the set {title}?", True
 
 
-def statement_of(it: Any, row: int) -> int:
+def statement_of(diagnostic: Any, row: int) -> int:
     """Returns how many statements end before a row."""
-    return sum(token.text == ";" for token in tokens("\n".join(it.texts["data"].split("\n")[:row - 1])))
+    return sum(token.text == ";" for token in tokens("\n".join(diagnostic.texts["data"].split("\n")[:row - 1])))
 
 
 HINTS: tuple = (

@@ -32,7 +32,7 @@ def grouped_lines(model: str, data: Iterable[tuple], changes: Iterable[str] = ()
 
 
 def lines_of_question(question: Any) -> list:
-    data = [(it.name if len(question.data) > 1 else None, it.text()) for it in question.data]
+    data = [(source.name if len(question.data) > 1 else None, source.text()) for source in question.data]
     return grouped_lines(question.model.text(), data, question.origins.values())
 
 

@@ -68,9 +68,9 @@ class Question:
             return
         self.is_ready = True
         self.session.options = self.options
-        for it in (self.model, *self.data):
-            if it.path is not None:
-                it.path = self.session.lasting(it.path)
+        for source in (self.model, *self.data):
+            if source.path is not None:
+                source.path = self.session.lasting(source.path)
         if not self.data:
             self.split_model()
         if self.changes or self.scale or self.add_bounds or len(self.data) > 1:
@@ -88,7 +88,7 @@ class Question:
     def split_model(self) -> None:
         """Makes the data that follow `data;` in the model the data text, with each word in its line and column."""
         text = self.model.text()
-        start = next((it.start("data") for it in SECTION.finditer(text) if it["data"]), None)
+        start = next((match.start("data") for match in SECTION.finditer(text) if match["data"]), None)
         if start is not None:
             column = start - text.rfind("\n", 0, start) - 1
             name, data = self.model.name, "\n" * text.count("\n", 0, start) + " " * column + text[start:]
@@ -96,29 +96,29 @@ class Question:
 
     def report_text(self, kinds: re.Pattern) -> None:
         """Raises the program's error for the model, or for the data text `parsed`, besides its decimals."""
-        above = sum(it.text().count("\n") + 1 for it in self.data[:self.parsed])
-        it = self.data[self.parsed] if self.parsed < len(self.data) else None
-        self.use_files(it)
+        above = sum(source.text().count("\n") + 1 for source in self.data[:self.parsed])
+        source = self.data[self.parsed] if self.parsed < len(self.data) else None
+        self.use_files(source)
         problem = next_error(self.session, kinds)
         if problem is None:
             return
         found = PLACE.fullmatch(problem.message)
-        if not above or it is None or found is None or found[2] == "model":
+        if not above or source is None or found is None or found[2] == "model":
             raise problem
         row, rest = int(found[3]), f"{found[4]}{found[5].rstrip()}"
-        raise ProgramError(problem.status, f"{found[1]} {row}:{rest}\nin {it.name or 'the text'}:{row}:{found[4]}\n", f"{found[1]} {row + above}:{rest}\n")
+        raise ProgramError(problem.status, f"{found[1]} {row}:{rest}\nin {source.name or 'the text'}:{row}:{found[4]}\n", f"{found[1]} {row + above}:{rest}\n")
 
     def require_files(self) -> None:
         """Raises the error of the program for the first file that cannot be read."""
-        for kind, it in (("model", self.model), *(("data", it) for it in self.data)):
-            reason = unreadable(it.path) if it.path is not None else ""
+        for kind, source in (("model", self.model), *(("data", source) for source in self.data)):
+            reason = unreadable(source.path) if source.path is not None else ""
             if reason:
-                raise ProgramError(UNREADABLE_FILE, f"E90 ReadFault {kind}: {it.path}: {reason}\n")
+                raise ProgramError(UNREADABLE_FILE, f"E90 ReadFault {kind}: {source.path}: {reason}\n")
 
     def use_files(self, data: Input | None = None) -> None:
         """Gives the program the model and one data text, the first if none is given, as they are."""
         data = data or (self.data[0] if self.data else Input(os.devnull))
-        self.session.files = [it.path if it.path is not None else self.session.write(it.text()) for it in (self.model, data)]
+        self.session.files = [source.path if source.path is not None else self.session.write(source.text()) for source in (self.model, data)]
 
     def ask(self, command: str) -> Answer:
         """Calls `solve` or `compile`. When the program meets a decimal, the texts are scaled, or have another error, which is reported."""
@@ -149,7 +149,7 @@ class Question:
     def placed(self, problem: ProgramError) -> ProgramError:
         """Returns the error with its place in the text that the user gave."""
         if problem.message.startswith("E90 "):
-            path = self.model.path if " model" in problem.message else next((it.path for it in self.data if it.path), None)
+            path = self.model.path if " model" in problem.message else next((source.path for source in self.data if source.path), None)
             return ProgramError(problem.status, f"{problem.message.rstrip()}: {path}: {unreadable(path)}\n") if path else problem
         found = PLACE.fullmatch(problem.message)
         edited = self.edited.get(found[2]) if found else None
@@ -183,7 +183,7 @@ class Question:
         return (self.data[-1].name if self.data else None), row
 
     def rows_of_data(self) -> int:
-        return sum(it.text().count("\n") + 1 for it in self.data)
+        return sum(source.text().count("\n") + 1 for source in self.data)
 
     def change_at(self, row: int) -> str:
         """Returns in words which change a line of the joined data is; an empty text for a line of a file."""
@@ -251,14 +251,14 @@ class Question:
         model = self.model.text()
         decls = parse(model)
         shapes = Shapes(decls, model)
-        params = {it.name: shapes.keys[it.name] for it in decls if it.kind == "param"}
+        params = {decl.name: shapes.keys[decl.name] for decl in decls if decl.kind == "param"}
         pieces: list = []
-        for it in self.data:
-            pieces.append(DataText(it.text(), params, shapes.sets))
+        for source in self.data:
+            pieces.append(DataText(source.text(), params, shapes.sets))
             self.parsed += 1
         # On the command line quotes say what is a text.
         changes = PythonData(self.changes, shapes.sets, params, None if self.origins else texts_of(model, pieces), shapes)
-        edits = [Overrides(pieces, changes).edits(it) for it in pieces]
+        edits = [Overrides(pieces, changes).edits(piece) for piece in pieces]
         needed = self.needed(pieces, changes, edits)
         unknown = {name: factor for name, factor in needed.items() if name not in params}
         for name, factor in self.scale.items():
@@ -269,12 +269,12 @@ class Question:
         self.factors = factors
         # Decimals of names that the model lacks are scaled too, so that the program reports the name.
         scaled = {**unknown, **factors.parameters}
-        model_edits += [self.dropped(model, it) for it in decls if it.name in self.changes and it.phrase(":=")]
+        model_edits += [self.dropped(model, decl) for decl in decls if decl.name in self.changes and decl.phrase(":=")]
         self.edited = {"model": [EditedText(model, model_edits)], "data": []}
         for piece, made in zip(pieces, edits):
             self.edited["data"].append(EditedText(piece.text, made + self.scaled_cells(piece, made, scaled)))
         self.changed, self.changed_text = changes, changes.text(self.factors.parameters, self.add_bounds)
-        text = "\n".join([*(it.text for it in self.edited["data"]), self.changed_text])
+        text = "\n".join([*(text.text for text in self.edited["data"]), self.changed_text])
         self.session.files = [self.session.write(self.edited["model"][0].text), self.session.write(text)]
 
     @staticmethod
@@ -294,7 +294,7 @@ class Question:
                 number = parse_numeral(token.text) if token.start not in gone and MAYBE_DECIMAL.search(token.text) else None
                 if number is not None:
                     values.setdefault(name, []).append(number)
-        return {name: common_factor(it) for name, it in values.items()}
+        return {name: common_factor(numbers) for name, numbers in values.items()}
 
     def scaled_cells(self, piece: DataText, made: list, factors: dict) -> list:
         gone, found = {start for start, _, _ in made}, []
@@ -325,7 +325,7 @@ def unreadable(path: str) -> str:
 def tokens_with_numbers(piece: DataText) -> list:
     found = []
     for statement in piece.statements:
-        found += [(it.name, it.token) for it in statement.cells if it.token.kind == "word"]
+        found += [(cell.name, cell.token) for cell in statement.cells if cell.token.kind == "word"]
         if statement.default is not None:
             found.append((statement.name, statement.default))
     return found
@@ -333,7 +333,7 @@ def tokens_with_numbers(piece: DataText) -> list:
 
 def texts_of(model: str, pieces: list) -> set:
     """Returns the texts that a model and its data have as members."""
-    return {it.text[1:-1].replace(it.text[0] * 2, it.text[0]) for it in tokens_of(model) if it.text[0] in "'\""} | \
+    return {token.text[1:-1].replace(token.text[0] * 2, token.text[0]) for token in tokens_of(model) if token.text[0] in "'\""} | \
         {part for piece in pieces for statement in piece.statements for part in statement.members}
 
 
@@ -347,20 +347,20 @@ class Overrides:
         """Returns the edits that take out of a data text what later ones say, and its frame, `data;` and `end;`."""
         cells, sets, defaults = set(), set(self.changes.sets), set()
         cells |= {(name, key) for name, rows in self.changes.params.items() for key in rows}
-        for it in self.pieces[self.pieces.index(piece) + 1:]:
-            cells |= {(cell.name, cell.key) for cell in it.cells()}
-            sets |= {st.name if st.kind == "set" else st.set_name for st in it.statements}
-            defaults |= {st.name for st in it.statements if st.default is not None}
-        found = [blank(piece.text, it.start, it.end) for it in piece.frame]
+        for later in self.pieces[self.pieces.index(piece) + 1:]:
+            cells |= {(cell.name, cell.key) for cell in later.cells()}
+            sets |= {st.name if st.kind == "set" else st.set_name for st in later.statements}
+            defaults |= {st.name for st in later.statements if st.default is not None}
+        found = [blank(piece.text, token.start, token.end) for token in piece.frame]
         for statement in piece.statements:
             if statement.kind == "set" and statement.name in sets:
                 found += blanks(piece.text, statement.start, statement.end)
                 continue
             if statement.set_name and statement.set_name in sets:
-                found += [blank(piece.text, it.start, it.end) for it in statement.set_tokens]
+                found += [blank(piece.text, token.start, token.end) for token in statement.set_tokens]
             if statement.default is not None and statement.name in defaults:
-                found += [blank(piece.text, it.start, it.end) for it in (statement.default_word, statement.default)]
-            found += [(it.token.start, it.token.end, ".") for it in statement.cells if (it.name, it.key) in cells]
+                found += [blank(piece.text, token.start, token.end) for token in (statement.default_word, statement.default)]
+            found += [(cell.token.start, cell.token.end, ".") for cell in statement.cells if (cell.name, cell.key) in cells]
         return found
 
 

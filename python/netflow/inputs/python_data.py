@@ -45,17 +45,17 @@ class PythonData:
         kept = None if texts is None else texts | {part for rows in self.sets.values() for row in rows for part in row}
         for name, given in layers.items():
             if name in keys:
-                self.params[name] = {key: it for value in given for key, it in rows_of(name, value, keys[name], kept, shapes.head(name)).items()}
+                self.params[name] = {key: leaf for value in given for key, leaf in rows_of(name, value, keys[name], kept, shapes.head(name)).items()}
             elif name not in sets:
                 raise DataError(f"{name}: the model declares no such set or parameter{declared_text(shapes, name, 'set', 'param')}")
 
     def numbers(self, name: str) -> list:
-        return [it for it in self.params[name].values() if isinstance(it, Fraction)]
+        return [number for number in self.params[name].values() if isinstance(number, Fraction)]
 
     def text(self, factors: dict, add_bounds: bool) -> str:
         """Returns the statements, the numbers times the factors of their parameters."""
         parts = [set_statement(name, members) for name, members in self.sets.items()]
-        self.origins = [(name, it) for name, rows in (*self.sets.items(), *self.params.items()) for it in (None, *rows, None)]
+        self.origins = [(name, key) for name, rows in (*self.sets.items(), *self.params.items()) for key in (None, *rows, None)]
         for name, rows in self.params.items():
             factor = factors.get(name, 1)
             lines = [" ".join([*map(member_text, key), self.value_text(name, value, factor, add_bounds)]) for key, value in rows.items()]
@@ -93,14 +93,14 @@ def members_of(name: str, value: Any, size: int) -> list:
         if len(value.columns) != size:
             raise DataError(f"set {name}: the table has {parts(value.columns, 'column')}; expected {size}, one for each part of a member")
         value = value.itertuples(index=False, name=None)
-    found = [tuple(plain(part, f"set {name}") for part in (it if is_row(it) else (it,))) for it in value]
+    found = [tuple(plain(part, f"set {name}") for part in (row if is_row(row) else (row,))) for row in value]
     seen = set()
-    for it in found:
-        if len(it) != size:
-            raise DataError(f"set {name}: the member {key_text(it)} has {parts(it)}; expected {size}")
-        if it in seen:
-            raise DataError(f"set {name}: the member {key_text(it)} is given twice")
-        seen.add(it)
+    for member in found:
+        if len(member) != size:
+            raise DataError(f"set {name}: the member {key_text(member)} has {parts(member)}; expected {size}")
+        if member in seen:
+            raise DataError(f"set {name}: the member {key_text(member)} is given twice")
+        seen.add(member)
     return found
 
 
@@ -126,7 +126,7 @@ def parts(row: Any, what: str = "part") -> str:
 
 def declared_text(shapes: Shapes, name: str, *kinds: str) -> str:
     """Returns which name of the model is probably meant by an unknown one, or what the model declares by these words."""
-    known = [it for kind in kinds for it in shapes.names(kind)]
+    known = [name for kind in kinds for name in shapes.names(kind)]
     meant = difflib.get_close_matches(name, known, 1, 0.6)
     if meant:
         return f"; is {meant[0]} meant?"
@@ -143,7 +143,7 @@ def rows_of(name: str, value: Any, size: int, texts: set | None, head: str) -> d
     the name with the braces of its declaration."""
     found: dict = {}
     seen = set()
-    for key, it in pairs_of(name, value, size):
+    for key, item in pairs_of(name, value, size):
         key = tuple(key_part(plain(part, f"param {name}"), texts) for part in key)
         if len(key) != size:
             raise DataError(f"param {name}: the key {key_text(key)} has {parts(key)}; expected {size}, one member for each index of {head}" if size else
@@ -151,7 +151,7 @@ def rows_of(name: str, value: Any, size: int, texts: set | None, head: str) -> d
         if key in seen:
             raise DataError(f"param {name}: the key {key_text(key)} is given twice")
         seen.add(key)
-        made = value_of(name, it)
+        made = value_of(name, item)
         if made is not None:
             found[key] = made
     return found
@@ -203,7 +203,7 @@ def pairs_of(name: str, value: Any, size: int) -> Iterable[tuple]:
     if is_frame(value):
         return frame_pairs(name, value, size)
     if size == 0 and hasattr(value, "items") and hasattr(value, "index") and len(value) == 1:
-        return [((), it) for it in value]  # a Series with one value
+        return [((), item) for item in value]  # a Series with one value
     if hasattr(value, "items"):
         return flat(value, size)
     if size == 0:
@@ -215,12 +215,12 @@ def pairs_of(name: str, value: Any, size: int) -> Iterable[tuple]:
 
 def flat(value: Any, size: int) -> Iterable[tuple]:
     """The entries of a dict, or of dicts in a dict."""
-    for key, it in value.items():
+    for key, item in value.items():
         key = tuple(key) if isinstance(key, (tuple, list)) else (key,)
-        if hasattr(it, "items"):
-            yield from ((key + inner, leaf) for inner, leaf in flat(it, size - len(key)))
+        if hasattr(item, "items"):
+            yield from ((key + inner, leaf) for inner, leaf in flat(item, size - len(key)))
         else:
-            yield key, it
+            yield key, item
 
 
 def frame_pairs(name: str, frame: Any, size: int) -> Iterable[tuple]:
@@ -234,12 +234,12 @@ def frame_pairs(name: str, frame: Any, size: int) -> Iterable[tuple]:
         if size and (index.nlevels >= size if has_keys else len(columns) <= size):
             return flat(frame[name], size)
         frame = frame.reset_index() if has_keys and size else frame
-        keys = [it for it in frame.columns if it != name][:size]
+        keys = [column for column in frame.columns if column != name][:size]
         return [(row[:-1], row[-1]) for row in frame[[*keys, name]].itertuples(index=False, name=None)]
     if len(columns) == 1:
         return flat(frame[columns[0]], size)
-    if size == 2 and index.nlevels == 1 and (has_keys or all(isinstance(it, int) for it in columns)):
-        return [((row, column), it) for column in columns for row, it in frame[column].items()]
+    if size == 2 and index.nlevels == 1 and (has_keys or all(isinstance(column, int) for column in columns)):
+        return [((row, column), item) for column in columns for row, item in frame[column].items()]
     grid = ", or make the first key the index of a grid" if size == 2 else ""
     raise DataError(f"param {name}: the table has no column {name!r}: give the column of its values this name{grid}")
 
@@ -247,7 +247,7 @@ def frame_pairs(name: str, frame: Any, size: int) -> Iterable[tuple]:
 def row_pairs(name: str, rows: Iterable, size: int) -> Iterable[tuple]:
     for row in rows:
         if hasattr(row, "items"):
-            keys = [it for title, it in row.items() if title != name]
+            keys = [value for title, value in row.items() if title != name]
             if name not in row:
                 raise DataError(f"param {name}: the row {row!r} has no column {name!r}; expected the value in a column of this name")
             if len(keys) < size:

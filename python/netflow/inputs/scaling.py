@@ -40,12 +40,12 @@ class Scaler:
 
     def __init__(self, decls: list, needed: dict, objective: str | None, add_bounds: bool = False) -> None:
         self.decls, self.needed, self.add_bounds = decls, needed, add_bounds
-        self.arcs = {it.name for it in decls if it.kind == "arc"}
+        self.arcs = {decl.name for decl in decls if decl.kind == "arc"}
         self.params: dict = {}
         self.edits: list = []
         self.flow = 1
-        objectives = [it for it in decls if it.kind in ("minimize", "maximize")]
-        self.chosen = next((it for it in objectives if objective in (None, it.name)), None)
+        objectives = [decl for decl in decls if decl.kind in ("minimize", "maximize")]
+        self.chosen = next((decl for decl in objectives if objective in (None, decl.name)), None)
 
     def scale(self) -> tuple:
         """Returns the factors and the edits of the model."""
@@ -58,7 +58,7 @@ class Scaler:
         cost = self.cost_factor()
         for decl in self.decls:
             self.edit(decl, cost)
-        whole = [it.name for it in self.decls if it.kind == "arc" and it.phrase("integer")]
+        whole = [decl.name for decl in self.decls if decl.kind == "arc" and decl.phrase("integer")]
         if self.flow > 1 and whole:
             raise ScaleError(f"arc {whole[0]} is integer, but a bound or a condition has decimals", whole[0], self.flow)
         return Factors(self.flow, cost, dict(self.params), self.in_flows()), self.edits
@@ -85,7 +85,7 @@ class Scaler:
     def bound_factors(self, decl: Decl) -> list:
         if decl.kind == "node":
             return [self.factor(term) for side in decl.phrases[0].exprs[0].args for term in terms(side) if not is_net(term)]
-        return [self.factor(it.exprs[0]) for it in decl.phrases if it.word in (">=", "<=") and not is_infinite(it.exprs[0])]
+        return [self.factor(phrase.exprs[0]) for phrase in decl.phrases if phrase.word in (">=", "<=") and not is_infinite(phrase.exprs[0])]
 
     def cost_factor(self) -> int:
         """The factor of prices of the chosen objective."""

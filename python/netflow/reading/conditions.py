@@ -8,7 +8,7 @@ from .output import Network
 def mark_open_sides(net: Network, model: str) -> None:
     """Marks the open sides of the nodes; leaves a network as it is if the model cannot be parsed."""
     try:
-        sides = {it.name: open_sides(it.phrases[0].exprs[0]) for it in parse(model) if it.kind == "node" and it.phrases}
+        sides = {decl.name: open_sides(decl.phrases[0].exprs[0]) for decl in parse(model) if decl.kind == "node" and decl.phrases}
     except Unparsed:
         return
     for node in net.nodes:
@@ -20,7 +20,7 @@ def open_sides(condition: Expr) -> tuple:
     relation = condition.value
     if relation not in ("<=", ">="):
         return False, False
-    left, right = (net_sign(it) for it in condition.args)
+    left, right = (net_sign(part) for part in condition.args)
     sign = left or -right
     is_high = (relation == "<=") == (sign > 0)  # whether the condition is an upper bound of the net inflow
     return bool(sign) and is_high, bool(sign) and not is_high

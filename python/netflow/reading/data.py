@@ -91,7 +91,7 @@ class DataText:
         self.text, self.keys, self.sets, self.is_joined = text, keys, sets, is_joined
         self.statements: list = []
         self.frame: list = []
-        self.read([it for it in tokens_of(text) if it.text != "," or it.kind != "mark"])
+        self.read([token for token in tokens_of(text) if token.text != "," or token.kind != "mark"])
 
     def read(self, tokens: list) -> None:
         """Reads all statements; `frame` gets the tokens of `data;` and `end;`."""
@@ -101,7 +101,7 @@ class DataText:
             if stop is None:
                 raise Unparsed(len(self.text))
             words = tokens[at:stop]
-            if [it.text for it in words] in (["data"], ["end"]):
+            if [word.text for word in words] in (["data"], ["end"]):
                 if not self.is_joined and (at if words[0].text == "data" else stop + 1 < len(tokens)):
                     raise Unparsed(words[0].start)
                 self.frame += [*words, tokens[stop]]
@@ -113,11 +113,11 @@ class DataText:
         if not words or words[0].text not in ("set", "param"):
             raise Unparsed(words[0].start if words else last.start)
         made = Statement(words[0].text, "", words[0].start, last.end)
-        cut = next((here for here, it in enumerate(words) if is_mark(it, ":=")), None)
+        cut = next((here for here, word in enumerate(words) if is_mark(word, ":=")), None)
         if cut is None:
             raise Unparsed(last.start)
         if made.kind == "set":
-            made.name, made.members = words[1].member(), [it.member() for it in words[cut + 1:] if it.kind != "mark"]
+            made.name, made.members = words[1].member(), [word.member() for word in words[cut + 1:] if word.kind != "mark"]
             return made
         head, body = words[1:cut], words[cut + 1:]
         at = 0
@@ -126,7 +126,7 @@ class DataText:
         if at + 1 < len(head) and head[at].text == "default":
             made.default_word, made.default = head[at], head[at + 1]
             at += 2
-        is_turned = [it.text for it in head[at:at + 3]] == ["(", "tr", ")"]
+        is_turned = [token.text for token in head[at:at + 3]] == ["(", "tr", ")"]
         self.rows(made, head[at + 3 * is_turned:], body, is_turned)
         return made
 
@@ -135,14 +135,14 @@ class DataText:
         if not heading:
             size = self.keys.get(made.name, 0) + 1
             for row in groups(body, size):
-                made.cells.append(Cell(made.name, tuple(it.member() for it in row[:-1]), row[-1]))
+                made.cells.append(Cell(made.name, tuple(token.member() for token in row[:-1]), row[-1]))
             return
-        marks = [here for here, it in enumerate(heading) if is_mark(it, ":")]
+        marks = [here for here, token in enumerate(heading) if is_mark(token, ":")]
         columns = heading[marks[-1] + 1:] if marks else []
         if not columns:
             raise Unparsed(heading[0].start)
         if made.name:
-            titles = [it.member() for it in columns]
+            titles = [column.member() for column in columns]
             for row in groups(body, 1 + len(columns)):
                 head = row[0].member()
                 keys = [(title, head) if is_turned else (head, title) for title in titles]
@@ -152,14 +152,14 @@ class DataText:
             made.set_name, made.set_tokens = heading[1].text, heading[1:3]
         count = self.sets.get(made.set_name, 1) if made.set_name else self.keys.get(columns[0].text, 1)
         for row in groups(body, count + len(columns)):
-            key = tuple(it.member() for it in row[:count])
+            key = tuple(token.member() for token in row[:count])
             made.members += key if made.set_name else ()
             made.cells += [Cell(column.text, key, cell) for column, cell in zip(columns, row[count:])]
 
     def cells(self) -> Iterator[Cell]:
         """Yields each cell that has a value."""
         for statement in self.statements:
-            yield from (it for it in statement.cells if it.token.text != "." or it.token.kind != "word")
+            yield from (cell for cell in statement.cells if cell.token.text != "." or cell.token.kind != "word")
 
 
 def is_mark(token: Token, text: str) -> bool:
@@ -168,10 +168,10 @@ def is_mark(token: Token, text: str) -> bool:
 
 def groups(tokens: list, size: int) -> Iterator[list]:
     """Cuts the tokens of a body into rows; brackets of tuples are left out."""
-    plain = [it for it in tokens if it.kind != "mark"]
+    plain = [token for token in tokens if token.kind != "mark"]
     if len(plain) % size:
         raise Unparsed(plain[-1].start if plain else 0)
-    return (plain[it:it + size] for it in range(0, len(plain), size))
+    return (plain[start:start + size] for start in range(0, len(plain), size))
 
 
 # Writing
@@ -187,14 +187,14 @@ def member_text(member: Any) -> str:
         return str(member)
     if PLAIN_NAME.fullmatch(member):
         return member
-    if any(ord(it) < 32 or ord(it) == 127 for it in member):
+    if any(ord(character) < 32 or ord(character) == 127 for character in member):
         raise ValueError(f"{member!r} is no member: it has a control character")
     return "'" + member.replace("'", "''") + "'"
 
 
 def set_statement(name: str, members: Sequence[tuple]) -> str:
     """Returns the statement of a set, its members as tuples."""
-    rows = [member_text(it[0]) if len(it) == 1 else f"({','.join(map(member_text, it))})" for it in members]
+    rows = [member_text(member[0]) if len(member) == 1 else f"({','.join(map(member_text, member))})" for member in members]
     return "\n".join([f"set {name} :=", *rows, ";"]) + "\n"
 
 

@@ -10,15 +10,15 @@ class EditedText:
 
     def __init__(self, text: str, edits: Iterable[tuple], path: str | None = None) -> None:
         self.original, self.path = text, path
-        self.edits = sorted(edits, key=lambda it: (it[0], it[1]))
+        self.edits = sorted(edits, key=lambda edit: (edit[0], edit[1]))
         parts, at = [], 0
         for start, end, new in self.edits:
             parts += [text[at:start], new]
             at = end
         self.text = "".join([*parts, text[at:]])
         self.starts = [0]
-        for it in self.original.split("\n")[:-1]:
-            self.starts.append(self.starts[-1] + len(it) + 1)
+        for line in self.original.split("\n")[:-1]:
+            self.starts.append(self.starts[-1] + len(line) + 1)
 
     def original_place(self, row: int, column: int) -> tuple:
         """Returns the row and the byte column in the original of a place in the edited text."""

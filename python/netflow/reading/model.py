@@ -49,8 +49,8 @@ class Expr:
 
     def walk(self) -> Iterator["Expr"]:
         yield self
-        for it in self.args:
-            yield from it.walk()
+        for part in self.args:
+            yield from part.walk()
 
 
 @dataclasses.dataclass
@@ -76,7 +76,7 @@ class Decl:
     end: int = 0
 
     def phrase(self, word: str) -> Phrase | None:
-        return next((it for it in self.phrases if it.word == word), None)
+        return next((phrase for phrase in self.phrases if phrase.word == word), None)
 
 
 def tokens_of(text: str) -> list:
@@ -310,7 +310,7 @@ class Shapes:
 
     def __init__(self, decls: list, text: str = "") -> None:
         self.text = text
-        self.decls, self.sets, self.keys = {it.name: it for it in decls if it.name}, {}, {}
+        self.decls, self.sets, self.keys = {decl.name: decl for decl in decls if decl.name}, {}, {}
         for decl in decls:
             if decl.kind == "set":
                 self.sets[decl.name] = self.of_declared(decl)
@@ -324,7 +324,7 @@ class Shapes:
 
     def names(self, kind: str) -> list:
         """Returns the names that the model declares by a word such as `param`."""
-        return [name for name, it in self.decls.items() if it.kind == kind]
+        return [name for name, decl in self.decls.items() if decl.kind == kind]
 
     def of_declared(self, decl: Decl) -> int:
         for phrase in decl.phrases:
@@ -341,16 +341,16 @@ class Shapes:
         if expr.op == "name":
             return self.sets.get(expr.value, 1)
         if expr.op == "cross":
-            return sum(self.of_set(it) for it in expr.args)
+            return sum(self.of_set(part) for part in expr.args)
         if expr.op in ("union", "diff", "symdiff", "inter", "group"):
-            return max(self.of_set(it) for it in expr.args)
+            return max(self.of_set(part) for part in expr.args)
         if expr.op == "if":
-            return max(self.of_set(it) for it in expr.args[1:])
+            return max(self.of_set(part) for part in expr.args[1:])
         if expr.op == "braces":
             items = expr.args[:-1] if expr.value else expr.args
             if items and items[0].op == "tuple":
                 return len(items[0].args)
-            is_index = any(it.op == "in" or (it.op == "name" and it.value in self.sets) for it in items)
+            is_index = any(item.op == "in" or (item.op == "name" and item.value in self.sets) for item in items)
             return self.of_braces(expr) if is_index else min(len(items), 1)
         return 1
 

@@ -117,10 +117,10 @@ class Network:
             return
         self.value = divided(self.value, factors.value)
         for arc in self.arcs:
-            arc.lower, arc.upper, arc.flow = (divided(it, factors.flow) for it in (arc.lower, arc.upper, arc.flow))
+            arc.lower, arc.upper, arc.flow = (divided(amount, factors.flow) for amount in (arc.lower, arc.upper, arc.flow))
             arc.price = divided(arc.price, factors.cost)
         for node in self.nodes:
-            node.low, node.high, node.inflow = (divided(it, factors.flow) for it in (node.low, node.high, node.inflow))
+            node.low, node.high, node.inflow = (divided(amount, factors.flow) for amount in (node.low, node.high, node.inflow))
             node.fewest, node.greatest = divided(node.fewest, factors.flow), divided(node.greatest, factors.flow)
 
     def end(self, number):
@@ -163,9 +163,9 @@ def members(text):
     return Members().key(text)
 
 
-def shown(it):
+def shown(member):
     """Returns a member as netflow prints it."""
-    return str(it) if isinstance(it, int) else "'" + it.replace("'", "''") + "'"
+    return str(member) if isinstance(member, int) else "'" + member.replace("'", "''") + "'"
 
 
 def reference(text):
@@ -230,7 +230,7 @@ def read_compiled(text):
             read_link(line, net)
     arcs = beginning(text, "a ", start)
     drawn = columns(text[arcs:], "a", 5)
-    place_arcs(net, [it[4] for it in links], numbers([it[3] for it in links]), drawn)
+    place_arcs(net, [link[4] for link in links], numbers([link[3] for link in links]), drawn)
     nodes, amounts = columns(text[text.find("\n", start) + 1:arcs], "n", 2)
     place_nodes(net, dict(zip(nodes, amounts)), zip(drawn[0][len(links):], drawn[3][len(links):]))
     return net
@@ -252,14 +252,14 @@ def read_link(line, net):
 def place_arcs(net, texts, offsets, drawn):
     """Makes the arcs from their names and offsets: ends, bounds without the offsets, prices, and what they allow at each node."""
     outside, sign = len(net.nodes), net.sign
-    srcs, dsts, leasts, mosts, costs = (it[:len(texts)] for it in drawn)
+    srcs, dsts, leasts, mosts, costs = (column[:len(texts)] for column in drawn)
     if len(costs) < len(texts):
         raise Unreadable("the problem has fewer arcs than the model")
     if any(offsets):
-        leasts, mosts = (list(map(operator.add, it, offsets)) for it in (leasts, mosts))
-    prices = costs if sign > 0 else [sign * it for it in costs]
+        leasts, mosts = (list(map(operator.add, bounds, offsets)) for bounds in (leasts, mosts))
+    prices = costs if sign > 0 else [sign * cost for cost in costs]
     place = [*range(-1, outside), *[None] * (max(srcs + dsts, default=0) - outside)]  # of the ends, which are counted from 1
-    ends = ([place[it] for it in side] for side in (srcs, dsts))
+    ends = ([place[end] for end in side] for side in (srcs, dsts))
     net.arcs = list(map(Arc, texts, *references(texts), *ends, leasts, mosts, prices))
     low, fewest, greatest = ([0] * len(place) for _ in range(3))
     for src, dst, least, most, offset in zip(srcs, dsts, leasts, mosts, offsets):
@@ -293,14 +293,14 @@ def read_plan(text, net):
         name, is_table = lines[line][:-3], lines[line].endswith(" :=")
         if is_table:
             count = next((here for here in range(at, len(arcs)) if arcs[here].name != name), len(arcs)) - at
-            found = [it.rpartition(" ") for it in lines[line + 1:line + 1 + count]]
-            keys, flows = [it[0] for it in found], [it[2] for it in found]
+            found = [row.rpartition(" ") for row in lines[line + 1:line + 1 + count]]
+            keys, flows = [row[0] for row in found], [row[2] for row in found]
             if lines[line + 1 + count:line + 2 + count] != [";"]:
                 raise Unreadable(f"the table of {name} does not end after {count} arcs")
         else:
             name, flow = valued(lines[line])
             count, keys, flows = 1, [""], [flow]
-        if "\n".join(keys) != plan_keys(arcs[at:at + count]) or not is_table and [it.name for it in arcs[at:at + 1]] != [name]:
+        if "\n".join(keys) != plan_keys(arcs[at:at + count]) or not is_table and [arc.name for arc in arcs[at:at + 1]] != [name]:
             raise Unreadable(f"the plan has other arcs of {name} than the model")
         net.declarations.append((name, is_table))
         take_flows(net, arcs[at:at + count], numbers(flows))
@@ -312,11 +312,11 @@ def read_plan(text, net):
 def plan_keys(arcs):
     """Returns the keys of a declaration's arcs as a plan prints them, one a line."""
     start = len(arcs[0].name) + 1 if arcs else 0
-    keys = "\n".join([it.text[start:-1] for it in arcs])
-    if keys.count(",") <= sum([len(it.key) for it in arcs]) - len(arcs):
+    keys = "\n".join([arc.text[start:-1] for arc in arcs])
+    if keys.count(",") <= sum([len(arc.key) for arc in arcs]) - len(arcs):
         return keys.replace(",", " ")
     # A comma inside a member stays a comma.
-    return "\n".join([" ".join(map(shown, it.key)) for it in arcs])
+    return "\n".join([" ".join(map(shown, arc.key)) for arc in arcs])
 
 
 def take_flows(net, arcs, flows):
@@ -342,7 +342,7 @@ def divided_cut(text: str, net: Network) -> str:
     """Returns a cut in netflow's form, its two numbers divided by the factor of flows."""
     first, second, *nodes = text.split("\n")
     side, *numbers = second.split(" ")
-    return "\n".join([first, " ".join([side, *(str(divided(int(it), net.factors.flow)) for it in numbers)]), *nodes])
+    return "\n".join([first, " ".join([side, *(str(divided(int(number), net.factors.flow)) for number in numbers)]), *nodes])
 
 
 def read_cut(text, net):
@@ -352,7 +352,7 @@ def read_cut(text, net):
     if lines[:1] != ["infeasible"] or not re.fullmatch(rf"(?:over|under) {NUMBER} {NUMBER}", lines[1]):
         raise Unreadable("a cut was expected")
     places = {node.text: number for number, node in enumerate(net.nodes)}
-    side, inside = lines[1].split(" ")[0], {places[it[5:]] for it in lines[2:] if it.startswith("node ")}
+    side, inside = lines[1].split(" ")[0], {places[line[5:]] for line in lines[2:] if line.startswith("node ")}
     if lines[-1] != "outside":
         return side, inside
     return {"over": "under", "under": "over"}[side], set(range(len(net.nodes))) - inside
@@ -363,11 +363,11 @@ def read_prices(certificate, net):
     found = columns(certificate[beginning(certificate, "v "):], "v", 2)[1]
     if len(found) != len(net.nodes) + 1:
         raise Unreadable("the certificate has another number of potentials than there are nodes")
-    worths = [divided(it - found[-1], net.factors.cost) for it in found]
-    for number, (node, it) in enumerate(zip(net.nodes, worths)):
+    worths = [divided(potential - found[-1], net.factors.cost) for potential in found]
+    for number, (node, worth) in enumerate(zip(net.nodes, worths)):
         # A side that is open limits nothing: all arcs of the node are at a bound there, so that a price of 0 proves the plan as well.
         is_at_most, is_at_least = node.is_high_open and node.inflow == node.high, node.is_low_open and node.inflow == node.low
-        worths[number] = node.worth = 0 if it < 0 and is_at_most or it > 0 and is_at_least else it
+        worths[number] = node.worth = 0 if worth < 0 and is_at_most or worth > 0 and is_at_least else worth
     sign = net.sign
     for arc in net.arcs:
         src, dst = arc.src, arc.dst
@@ -380,7 +380,7 @@ def written(net):
     for name, is_table in net.declarations:
         arcs = declared.get(name, [])
         if is_table:
-            lines += [f"{name} :=", *("".join(f"{shown(it)} " for it in arc.key) + str(arc.flow) for arc in arcs), ";"]
+            lines += [f"{name} :=", *("".join(f"{shown(member)} " for member in arc.key) + str(arc.flow) for arc in arcs), ";"]
         else:
             lines.append(f"{name} = {arcs[0].flow}")
-    return "".join(f"{it}\n" for it in lines)
+    return "".join(f"{line}\n" for line in lines)

@@ -50,7 +50,7 @@ def read(path):
 
 def braces_of(text, name):
     """Returns the words between the braces of a declaration of arcs, without a condition; none if it has no braces."""
-    words = [it.text for it in tokens(text)]
+    words = [token.text for token in tokens(text)]
     for here in range(len(words) - 3):
         if words[here] == "arc" and words[here + 1] == name and words[here + 2] == "{":
             return list(before_condition(words[here + 3:]))
@@ -88,34 +88,34 @@ def headings(text, name, count):
     found, lone = [], []
     for item in items(braces_of(text, name)):
         cut = item.index("in") if "in" in item else 0
-        dummies, a_set = [it for it in item[:cut] if NAME.fullmatch(it)], " ".join(item[cut and cut + 1:])
+        dummies, a_set = [word for word in item[:cut] if NAME.fullmatch(word)], " ".join(item[cut and cut + 1:])
         lone += [a_set] if not dummies and NAME.fullmatch(a_set) else []
         is_named = len(dummies) <= 1 and NAME.fullmatch(a_set)
-        found += [(a_set if is_named else it, it) for it in dummies or [a_set]]
+        found += [(a_set if is_named else dummy, dummy) for dummy in dummies or [a_set]]
     more = count - len(found)
     if more > 0 and len(lone) == 1:
         # A set of tuples without dummies has as many parts as are left.
         place = found.index((lone[0], lone[0]))
-        found[place:place + 1] = [(f"{lone[0]} {it + 1}",) * 2 for it in range(more + 1)]
-    sets = [it for it, _ in found]
+        found[place:place + 1] = [(f"{lone[0]} {index + 1}",) * 2 for index in range(more + 1)]
+    sets = [name for name, _ in found]
     # Either all titles are sets, or all are dummies: a mixture of `GRADES` and `t` reads badly.
-    are_sets = len(set(sets)) == len(sets) and all(NAME.fullmatch(it) for it, _ in found)
+    are_sets = len(set(sets)) == len(sets) and all(NAME.fullmatch(name) for name, _ in found)
     titles = sets if are_sets else [dummy for _, dummy in found]
-    return titles if len(titles) == count and all(titles) and len(set(titles)) == count else [f"key {it + 1}" for it in range(count)]
+    return titles if len(titles) == count and all(titles) and len(set(titles)) == count else [f"key {index + 1}" for index in range(count)]
 
 
 def compared_texts(model, data):
     """Returns what a reader may miss: a numeral in quotes that the model compares with something, and that no data text has in quotes.
     It equals no number, and netflow takes it as it is."""
     compared, before = [], ""
-    for it in tokens(model):
-        if before in ("=", ">") and re.fullmatch(r"(['\"])-?\d+\1", it.text):
-            compared.append(it)
-        before = it.text
+    for token in tokens(model):
+        if before in ("=", ">") and re.fullmatch(r"(['\"])-?\d+\1", token.text):
+            compared.append(token)
+        before = token.text
     # Data can be long, and few models compare such texts.
-    known = {it.text for text in data for it in tokens(text)} if compared else ()
-    return [f"{it.text} in line {it.row} of the model is a text, which equals no number: is {it.bare()} meant?"
-            for it in compared if it.text not in known]
+    known = {token.text for text in data for token in tokens(text)} if compared else ()
+    return [f"{token.text} in line {token.row} of the model is a text, which equals no number: is {token.bare()} meant?"
+            for token in compared if token.text not in known]
 
 
 COMMENT = re.compile(r"(?P<gap>\s*)(?:#+[ \t]*(?P<line>[^\n]*)|/\*+\s*(?P<block>.*?)\s*\**\*/)", re.S)

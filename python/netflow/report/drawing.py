@@ -41,15 +41,15 @@ def split(whole):
     groups = components(whole.nodes, whole.arcs)
     if len(groups) < 2:
         return []
-    part = {it: number for number, nodes in enumerate(groups) for it in nodes}
+    part = {node: number for number, nodes in enumerate(groups) for node in nodes}
     shown, known = [[] for _ in groups], [[] for _ in groups]
     for arcs, parts in ((whole.arcs, shown), (whole.net.arcs, known)):
         for arc in arcs:
-            ends = {part.get(it) for it in (arc.src, arc.dst) if it is not None}
+            ends = {part.get(end) for end in (arc.src, arc.dst) if end is not None}
             if len(ends) == 1 and None not in ends:
                 parts[ends.pop()].append(arc)
     is_small = max(map(len, shown)) <= LABELLED
-    return [Picture(whole.net, shown[it], whole.marked, whole.across, nodes=nodes, known=known[it], is_small=is_small) for it, nodes in enumerate(groups)]
+    return [Picture(whole.net, shown[index], whole.marked, whole.across, nodes=nodes, known=known[index], is_small=is_small) for index, nodes in enumerate(groups)]
 
 
 class Picture:
@@ -59,16 +59,16 @@ class Picture:
 
     def __init__(self, net, arcs, marked=frozenset(), across=frozenset(), alone=False, is_down=False, nodes=None, known=None, is_small=None):
         self.net, self.arcs, self.marked, self.across, self.is_down, self.parts = net, arcs, marked, across, is_down, []
-        ends = {it for arc in arcs for it in (arc.src, arc.dst) if it is not None}
+        ends = {end for arc in arcs for end in (arc.src, arc.dst) if end is not None}
         self.nodes = nodes or (list(range(len(net.nodes))) if alone else sorted(ends | set(marked if len(marked) <= 80 else ())))
         self.is_small = len(arcs) <= LABELLED if is_small is None else is_small
-        self.links = [it for it in arcs if None not in (it.src, it.dst) and it.src != it.dst]
+        self.links = [arc for arc in arcs if None not in (arc.src, arc.dst) and arc.src != arc.dst]
         self.stubs = {}
         for arc in arcs:
             if (arc.src is None) != (arc.dst is None):
                 self.stubs.setdefault((arc.src, arc.dst), []).append(arc)
         self.layer = layers(self.nodes, net.arcs if known is None else known)
-        level = sum(self.layer[it.src] == self.layer[it.dst] for it in self.links)
+        level = sum(self.layer[arc.src] == self.layer[arc.dst] for arc in self.links)
         if 3 * level > len(self.links) and not has_cycle(self.nodes, self.links):
             # If arcs lead from anywhere to anywhere, only those that are drawn have an order.
             self.layer = layers(self.nodes, self.links)
@@ -91,12 +91,12 @@ class Picture:
         key = rest[:-1].replace("''", "\u2019").replace("'", "").replace(",", " ")
         named = key if bracket and key.lower().startswith(name.lower()) else f"{name} {key}" if bracket else name
         wish = node.wish() if self.is_small else ""
-        return [it if columns(it) <= 34 else it[:33] + "\u2026" for it in (named, wish) if it] or [name]
+        return [line if columns(line) <= 34 else line[:33] + "\u2026" for line in (named, wish) if line] or [name]
 
     def measure(self):
         """Sets the width and height of each node: room for its name, and for the ends of its arcs on each side."""
-        self.wide = {it: 22 + self.text_width(max(self.label(it), key=columns)) for it in self.nodes}
-        self.tall = {it: 40 if self.is_small and len(self.label(it)) > 1 else 24 if self.is_small else 19 for it in self.nodes}
+        self.wide = {number: 22 + self.text_width(max(self.label(number), key=columns)) for number in self.nodes}
+        self.tall = {number: 40 if self.is_small and len(self.label(number)) > 1 else 24 if self.is_small else 19 for number in self.nodes}
         self.sides = {}
         for arc in self.links:
             is_forward = self.layer[arc.dst] > self.layer[arc.src]
@@ -119,17 +119,17 @@ class Picture:
         return BARE_PORT if not text else self.text_width(text) + 8 if self.is_down else PORT
 
     def stub_step(self, alike):
-        return PORT if self.is_down else STUB + self.text_width(max((self.number(it) for it in alike), key=len))
+        return PORT if self.is_down else STUB + self.text_width(max((self.number(arc) for arc in alike), key=len))
 
-    def extent(self, it):
+    def extent(self, vertex):
         """Returns how much of `v` a node or a bend takes, with the gap to the next."""
-        if isinstance(it, Bend):
+        if isinstance(vertex, Bend):
             return 14
-        stub_room = self.stub_room(it)
-        return (self.wide if self.is_down else self.tall)[it] + (18 if self.is_small else 7) + stub_room
+        stub_room = self.stub_room(vertex)
+        return (self.wide if self.is_down else self.tall)[vertex] + (18 if self.is_small else 7) + stub_room
 
     def stub_room(self, number):
-        alike = [it for ends in ((None, number), (number, None)) for it in self.stubs.get(ends, [])]
+        alike = [arc for ends in ((None, number), (number, None)) for arc in self.stubs.get(ends, [])]
         if not alike or not self.is_small:
             return 0
         return 2 * (STUB + (self.text_width(max(map(self.number, alike), key=len)) if self.is_down else 0))
@@ -139,21 +139,21 @@ class Picture:
     def place(self):
         near, rows = self.paths()
         self.order(rows, near)
-        v = {it: here * 30.0 for row in rows for here, it in enumerate(row)}
+        v = {vertex: here * 30.0 for row in rows for here, vertex in enumerate(row)}
         for turn in range(SETTLINGS):
             for row in rows if turn % 2 else reversed(rows):
-                wanted = [mean([v[there] for there in near.get(it, [])], v[it]) for it in row]
-                v.update(zip(row, apart(wanted, [self.extent(it) for it in row])))
+                wanted = [mean([v[there] for there in near.get(vertex, [])], v[vertex]) for vertex in row]
+                v.update(zip(row, apart(wanted, [self.extent(vertex) for vertex in row])))
         u, left = {}, 62.0
         for here, row in enumerate(rows):
-            along = max((self.tall if self.is_down else self.wide).get(it, 0) for it in row)
-            u.update({it: left + along / 2 for it in row})
+            along = max((self.tall if self.is_down else self.wide).get(vertex, 0) for vertex in row)
+            u.update({vertex: left + along / 2 for vertex in row})
             left += along + self.gap(here, rows)
-        half = {it: (self.extent(it) / 2) for it in v}
-        first = min((v[it] - half[it] for it in v), default=0) - 14
-        self.u, self.v = u, {it: place - first for it, place in v.items()}
-        last = max((u[it] + (self.tall if self.is_down else self.wide).get(it, 0) / 2 for it in u), default=0) + 62
-        far = max((self.v[it] + half[it] for it in v), default=0) + 14
+        half = {vertex: (self.extent(vertex) / 2) for vertex in v}
+        first = min((v[vertex] - half[vertex] for vertex in v), default=0) - 14
+        self.u, self.v = u, {vertex: place - first for vertex, place in v.items()}
+        last = max((u[vertex] + (self.tall if self.is_down else self.wide).get(vertex, 0) / 2 for vertex in u), default=0) + 62
+        far = max((self.v[vertex] + half[vertex] for vertex in v), default=0) + 14
         self.sheet = (far, last) if self.is_down else (last, far)
         self.ports = self.spread_ports()
 
@@ -161,10 +161,10 @@ class Picture:
         """Returns the room between two layers: more for more arcs and for numbers."""
         if not self.is_small:
             return min(90 + 14 * math.sqrt(len(rows[here])), 280) if not self.is_down else 70
-        crossing = sum(min(self.layer[it.src], self.layer[it.dst]) <= here < max(self.layer[it.src], self.layer[it.dst]) for it in self.links)
+        crossing = sum(min(self.layer[arc.src], self.layer[arc.dst]) <= here < max(self.layer[arc.src], self.layer[arc.dst]) for arc in self.links)
         if self.is_down:
             return min(64 + 4 * crossing, 140)
-        text = max((self.text_width(self.number(it)) for it in self.links), default=0)
+        text = max((self.text_width(self.number(arc)) for arc in self.links), default=0)
         return min(96 + text + 9 * crossing, 420)
 
     def paths(self):
@@ -181,17 +181,17 @@ class Picture:
             for one, two in zip(path, path[1:]):
                 near.setdefault(one, []).append(two)
                 near.setdefault(two, []).append(one)
-        for it, number in layer.items():
-            rows.setdefault(number, []).append(it)
-        return near, [rows[it] for it in sorted(rows)]
+        for vertex, number in layer.items():
+            rows.setdefault(number, []).append(vertex)
+        return near, [rows[number] for number in sorted(rows)]
 
     def order(self, rows, near):
         """Orders each layer by the means of the neighbours, which keeps arcs short."""
-        at = {it: (here + 0.5) / len(row) for row in rows for here, it in enumerate(row)}
+        at = {vertex: (here + 0.5) / len(row) for row in rows for here, vertex in enumerate(row)}
         for turn in range(SWEEPS):
             for row in rows if turn % 2 else reversed(rows):
-                row.sort(key=lambda it: mean([at[there] for there in near.get(it, [])], at[it]))
-                at.update({it: (here + 0.5) / len(row) for here, it in enumerate(row)})
+                row.sort(key=lambda vertex: mean([at[there] for there in near.get(vertex, [])], at[vertex]))
+                at.update({vertex: (here + 0.5) / len(row) for here, vertex in enumerate(row)})
 
     def spread_ports(self):
         """Returns for each end of an arc its distance from the middle of its node's side, in the order of the other ends."""
@@ -203,7 +203,7 @@ class Picture:
                 return self.v[(bends[0] if is_tail else bends[-1]) if bends else arc.dst if is_tail else arc.src]
             ends.sort(key=other)
             room = (self.wide if self.is_down else self.tall)[number] - 10
-            pitches = [self.pitch(*it) for it in ends]
+            pitches = [self.pitch(*end) for end in ends]
             scale = min(1.0, room / sum(pitches)) if self.is_small else min(1.0, max(room, 1) / sum(pitches))
             at = -sum(pitches) * scale / 2
             for (arc, is_tail), size in zip(ends, pitches):
@@ -233,10 +233,10 @@ class Picture:
         side = 1 if self.layer[arc.src] < self.layer[arc.dst] else -1
         first = (self.u[arc.src] + side * self.half(arc.src), self.v[arc.src] + self.ports[id(arc), True])
         last = (self.u[arc.dst] - side * (self.half(arc.dst) + 4), self.v[arc.dst] + self.ports[id(arc), False])
-        path = [first, *((self.u[it], self.v[it]) for it in self.bends[id(arc)]), last]
+        path = [first, *((self.u[bend], self.v[bend]) for bend in self.bends[id(arc)]), last]
         found = []
         for (u, v), (s, w) in zip(path, path[1:]):
-            found.append(tuple(self.xy(*it) for it in ((u, v), ((u + s) / 2, v), ((u + s) / 2, w), (s, w))))
+            found.append(tuple(self.xy(*point) for point in ((u, v), ((u + s) / 2, v), ((u + s) / 2, w), (s, w))))
         return found
 
     def arch(self, arc):
@@ -246,13 +246,13 @@ class Picture:
         bow = self.u[arc.src] + side * high
         first = (self.u[arc.src] + side * self.half(arc.src), self.v[arc.src])
         last = (self.u[arc.dst] + side * (self.half(arc.dst) + 4), self.v[arc.dst])
-        return [tuple(self.xy(*it) for it in (first, (bow, first[1]), (bow, last[1]), last))]
+        return [tuple(self.xy(*point) for point in (first, (bow, first[1]), (bow, last[1]), last))]
 
     def stub(self, arc):
         """Returns an arc from or to the outside: across the layers in a small picture, along them in a large one."""
         number, is_in = (arc.dst, True) if arc.src is None else (arc.src, False)
         alike, side = self.stubs[arc.src, arc.dst], -1 if is_in else 1
-        here = [id(it) for it in alike].index(id(arc)) - (len(alike) - 1) / 2
+        here = [id(arc) for arc in alike].index(id(arc)) - (len(alike) - 1) / 2
         u, v = self.u[number], self.v[number]
         if self.is_small:
             u += here * self.stub_step(alike)
@@ -261,7 +261,7 @@ class Picture:
         else:
             u += side * self.half(number)
             ends = [(u + side * 26, v), (u + side * 3, v)]
-        first, last = (self.xy(*it) for it in (ends if is_in else ends[::-1]))
+        first, last = (self.xy(*point) for point in (ends if is_in else ends[::-1]))
         return [(first, first, last, last)]
 
     def text_place(self, arc, text, curves):
@@ -283,7 +283,7 @@ class Picture:
         for part in (0.5, 0.4, 0.6, 0.3, 0.7, 0.22, 0.78, 0.15, 0.85):
             x, y = along(curves[0], part)
             box = (x - wide / 2, y - 8, x + wide / 2, y + 8)
-            hits = sum(overlaps(box, it) for it in self.boxes)
+            hits = sum(overlaps(box, other) for other in self.boxes)
             if best is None or hits < best[0]:
                 best = (hits, x, y, box)
             if not hits:
@@ -305,7 +305,7 @@ class Picture:
         path = f"M{spot(curves[0][0])}" + "".join(f"C{spot(b)} {spot(c)} {spot(d)}" for _, b, c, d in curves)
         thick = 4.8 if most > 1 else 0.8
         width = 1.2 + thick * math.sqrt(float(flow / most)) if flow else 2.5 if kind == "across" else 1.2
-        ends = " ".join(f"n{it}" for it in sorted({arc.src, arc.dst} - {None}))
+        ends = " ".join(f"n{number}" for number in sorted({arc.src, arc.dst} - {None}))
         said = f"{arc.text}: {self.net.end(arc.src)} to {self.net.end(arc.dst)}, {arc.flow} of {arc.lower} to {arc.most()}, price {arc.price}"
         made = f'<g class="arc {kind} {ends}"><title>{escape(said)}</title><path d="{path}" stroke-width="{width:.1f}" marker-end="url(#{kind})"/></g>'
         text = self.number(arc)
@@ -323,7 +323,7 @@ class Picture:
         wish = node.wish().partition(" ")[0]
         kind = "marked" if number in self.marked else wish if wish in ("gives", "needs") else "plain"
         first = y + 4 - 7.5 * (len(lines) - 1)
-        texts = "".join(f'<text class="line{here}" x="{x:.0f}" y="{first + 15 * here:.0f}">{escape(it)}</text>' for here, it in enumerate(lines))
+        texts = "".join(f'<text class="line{here}" x="{x:.0f}" y="{first + 15 * here:.0f}">{escape(line)}</text>' for here, line in enumerate(lines))
         said = f"{node.text}: {node.wish() or 'passes on what it gets'}"
         rect = f'<rect x="{x - wide / 2:.0f}" y="{y - high / 2:.0f}" width="{wide:.0f}" height="{high:.0f}" rx="5"/>'
         return f'<g class="node {kind}" id="n{number}" tabindex="0"><title>{escape(said)}</title>{rect}{texts}</g>'
@@ -335,27 +335,27 @@ class Picture:
 
     def svg(self, is_alone=False):
         """Returns the text of the picture, or of its parts; one that is a file of its own has its style in it, and is whole."""
-        most = max([abs(it.flow or 0) for it in self.arcs] + [1])
-        heads = "".join(f'<marker id="{it}" class="head {it}" viewBox="0 0 8 8" refX="6" refY="4" markerUnits="userSpaceOnUse" markerWidth="9" '
-                        'markerHeight="9" orient="auto"><path d="M0,0L8,4L0,8z"/></marker>' for it in ("idle", "used", "full", "across"))
+        most = max([abs(arc.flow or 0) for arc in self.arcs] + [1])
+        heads = "".join(f'<marker id="{kind}" class="head {kind}" viewBox="0 0 8 8" refX="6" refY="4" markerUnits="userSpaceOnUse" markerWidth="9" '
+                        'markerHeight="9" orient="auto"><path d="M0,0L8,4L0,8z"/></marker>' for kind in ("idle", "used", "full", "across"))
         defs = f"{f'<style>{DRAWING_STYLE}</style>' * is_alone}<defs>{heads}</defs>"
         if is_alone or not self.parts:
             return self.sheet_svg(most, defs)
-        return "\n".join(it.sheet_svg(most, "" if here else defs) for here, it in enumerate(self.parts))
+        return "\n".join(part.sheet_svg(most, "" if here else defs) for here, part in enumerate(self.parts))
 
     def sheet_svg(self, most, defs):
         """Returns one picture, cut to what it shows; an arc that carries `most` has the thickest line."""
-        self.boxes = [self.box(it) for it in self.nodes]
+        self.boxes = [self.box(number) for number in self.nodes]
         self.reach = list(self.boxes)
-        drawn = sorted(self.arcs, key=lambda it: (id(it) in self.across, abs(it.flow or 0)))
+        drawn = sorted(self.arcs, key=lambda arc: (id(arc) in self.across, abs(arc.flow or 0)))
         # Numbers are placed from the largest flow on; arcs are drawn from the smallest.
-        arcs = {id(it): self.arc_svg(it, most) for it in reversed(drawn)}
+        arcs = {id(arc): self.arc_svg(arc, most) for arc in reversed(drawn)}
         left, top, right, low = (math.floor(pick(sides)) for pick, sides in zip((min, min, max, max), zip(*self.reach)))
         wide, high = right - left + 2 * MARGIN, low - top + 2 * MARGIN
         large = "" if self.is_small else 'class="large" '
         sheet = f'{large}width="{wide}" height="{high}" viewBox="{left - MARGIN} {top - MARGIN} {wide} {high}" style="--wide:{wide}px"'
         return (f'<svg xmlns="http://www.w3.org/2000/svg" role="img" aria-label="the network" {sheet}>{defs}'
-                + "\n".join([*(arcs[id(it)][0] for it in drawn), *(arcs[id(it)][1] for it in drawn), *map(self.node_svg, self.nodes)]) + "</svg>")
+                + "\n".join([*(arcs[id(arc)][0] for arc in drawn), *(arcs[id(arc)][1] for arc in drawn), *map(self.node_svg, self.nodes)]) + "</svg>")
 
 
 def grouped(number):
@@ -372,7 +372,7 @@ def grouped(number):
 
 def columns(text):
     """Returns the width of a text in letters; those of East Asia take nearly two."""
-    return sum(1.8 if ord(it) > 0x2E80 else 1 for it in text)
+    return sum(1.8 if ord(letter) > 0x2E80 else 1 for letter in text)
 
 
 def along(curve, part):

@@ -14,8 +14,8 @@ def layers(nodes, arcs):
     into, out = neighbours(nodes, arcs)
     order, back = walked(nodes, into, out)
     longest = {}
-    for it in order:
-        longest[it] = 1 + max((longest[before] for before in into[it] if (before, it) not in back), default=-1)
+    for node in order:
+        longest[node] = 1 + max((longest[before] for before in into[node] if (before, node) not in back), default=-1)
     if back and max(longest.values(), default=0) > 3 + 2 * math.sqrt(len(nodes)):
         return nearest(nodes, into, out)
     return pulled(longest, out, back)
@@ -24,7 +24,7 @@ def layers(nodes, arcs):
 def walked(nodes, into, out):
     """Returns the nodes in topological order, and the steps that close cycles and are left out of it."""
     order, back, state = [], set(), {}
-    for start in sorted(nodes, key=lambda it: (len(into[it]) > 0, it)):
+    for start in sorted(nodes, key=lambda node: (len(into[node]) > 0, node)):
         way = [] if start in state else [(start, iter(out[start]))]
         state.setdefault(start, 1)
         while way:
@@ -44,27 +44,27 @@ def walked(nodes, into, out):
 
 def nearest(nodes, into, out):
     """Returns layers by the number of arcs from the sources."""
-    line = [it for it in nodes if not into[it]] or list(nodes)[:1]
+    line = [node for node in nodes if not into[node]] or list(nodes)[:1]
     found = dict.fromkeys(line, 0)
     for rest in ([], nodes):
-        for it in [it for it in rest if it not in found]:
-            if it not in found:
-                found[it] = 0
-                line.append(it)
-        for it in line:
-            for there in out[it]:
+        for node in [node for node in rest if node not in found]:
+            if node not in found:
+                found[node] = 0
+                line.append(node)
+        for node in line:
+            for there in out[node]:
                 if there not in found:
-                    found[there] = found[it] + 1
+                    found[there] = found[node] + 1
                     line.append(there)
     return found
 
 
 def pulled(found, out, back):
     """Moves a node that nothing leads to just before the first node that it leads to."""
-    for it in found:
-        if found[it] == 0:
-            after = [found[there] for there in out[it] if (it, there) not in back]
-            found[it] = max(0, min(after) - 1) if after else 0
+    for node in found:
+        if found[node] == 0:
+            after = [found[there] for there in out[node] if (node, there) not in back]
+            found[node] = max(0, min(after) - 1) if after else 0
     return found
 
 
@@ -81,24 +81,24 @@ def apart(wanted, sizes):
             (first, many), (second, more) = blocks[-2:]
             blocks[-2:] = [[(first * many + second * more) / (many + more), many + more]]
     flat = [mean for mean, many in blocks for _ in range(many)]
-    return [it + shift for it, shift in zip(flat, shifts)]
+    return [place + shift for place, shift in zip(flat, shifts)]
 
 
 def components(nodes, arcs):
     """Returns the sets of nodes that the arcs connect, each in order."""
-    head = {it: it for it in nodes}
+    head = {node: node for node in nodes}
 
-    def top(it):
-        while head[it] != it:
-            head[it] = it = head[head[it]]
-        return it
+    def top(node):
+        while head[node] != node:
+            head[node] = node = head[head[node]]
+        return node
     for arc in arcs:
         if arc.src in head and arc.dst in head:
             one, two = sorted((top(arc.src), top(arc.dst)))
             head[two] = one
     found = {}
-    for it in nodes:
-        found.setdefault(top(it), []).append(it)
+    for node in nodes:
+        found.setdefault(top(node), []).append(node)
     return list(found.values())
 
 
@@ -109,7 +109,7 @@ def has_cycle(nodes, arcs):
 
 
 def neighbours(nodes, arcs):
-    into, out = {it: [] for it in nodes}, {it: [] for it in nodes}
+    into, out = {node: [] for node in nodes}, {node: [] for node in nodes}
     for arc in arcs:
         if arc.src in into and arc.dst in into and arc.src != arc.dst:
             out[arc.src].append(arc.dst)

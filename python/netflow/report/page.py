@@ -17,8 +17,8 @@ HIDDEN_FROM = 5_000
 FOUND_FROM, TOTALS = 15, 200
 
 
-def text(it):
-    return escape(str(it), quote=True)
+def text(value):
+    return escape(str(value), quote=True)
 
 
 def cell(value, kind):
@@ -46,7 +46,7 @@ def table(head, rows, classes=""):
     """Returns a table whose columns a click sorts; a column is (title, class), a row its own class and its cells."""
     titles = "".join(f'<th class="{kind}" scope="col"><button type="button">{text(title)}</button></th>' for title, kind in head)
     columns = [Cells(kind) for _, kind in head]
-    lines = ["".join([column[it] for it, column in zip(cells, columns)]) for _, cells in rows]
+    lines = ["".join([column[cell] for cell, column in zip(cells, columns)]) for _, cells in rows]
     body = "\n".join(f'<tr class="{kind}">{line}</tr>' for (kind, _), line in zip(rows, lines))
     return f'<div class="scroll"><table class="{classes}"><thead><tr>{titles}</tr></thead><tbody>\n{body}\n</tbody></table></div>'
 
@@ -56,7 +56,7 @@ def section(title, inner, name=""):
 
 
 def bullets(lines):
-    return "<ul>" + "".join(f"<li>{text(it)}</li>" for it in lines) + "</ul>" if lines else ""
+    return "<ul>" + "".join(f"<li>{text(line)}</li>" for line in lines) + "</ul>" if lines else ""
 
 
 class Arcs:
@@ -65,15 +65,15 @@ class Arcs:
 
     def __init__(self, net, name, keys, arcs, lead, has_plan):
         self.net, self.name, self.keys, self.arcs, self.lead, self.has_plan = net, name, keys, arcs, lead, has_plan
-        self.has_least = any(it.lower for it in arcs)
-        self.has_worth = has_plan and any(it.worth and self.gain(it) for it in arcs)
-        self.has_price = any(it.price for it in arcs)
+        self.has_least = any(arc.lower for arc in arcs)
+        self.has_worth = has_plan and any(arc.worth and self.gain(arc) for arc in arcs)
+        self.has_price = any(arc.price for arc in arcs)
 
     def gain(self, arc):
         return max(0, -arc.worth if arc.is_full() else arc.worth if arc.is_lowest() else 0)
 
     def head(self):
-        titles = [(it, "") for it in self.keys]
+        titles = [(key, "") for key in self.keys]
         titles += [("from", "end"), ("to", "end")] + ([("flow", "number flow")] if self.has_plan else [])
         titles += ([("least", "number")] if self.has_least else []) + [("most", "number")] + ([("price", "number")] if self.has_price else [])
         titles += [("flow × price", "number")] if self.has_plan and self.has_price else []
@@ -89,13 +89,13 @@ class Arcs:
         return f"{bound}{'' if id(arc) in self.lead else ' more'}".strip(), cells
 
     def summary(self):
-        used, count = sum(it.flow != 0 for it in self.arcs), len(self.arcs)
+        used, count = sum(arc.flow != 0 for arc in self.arcs), len(self.arcs)
         if not self.has_plan:
-            across = sum(id(it) in self.lead for it in self.arcs)
+            across = sum(id(arc) in self.lead for arc in self.arcs)
             return f"{count} {arcs_word(count)}, {across or 'none'} of them to or from the places in red." if self.lead else \
                 f"{count} {arcs_word(count)}, all of them between these places."
-        full, lowest = sum(it.is_tight() for it in self.arcs), sum(it.is_lowest() for it in self.arcs)
-        spent = f" Flow × price: {grouped(sum(it.flow * it.price for it in self.arcs))}." if self.has_price else ""
+        full, lowest = sum(arc.is_tight() for arc in self.arcs), sum(arc.is_lowest() for arc in self.arcs)
+        spent = f" Flow × price: {grouped(sum(arc.flow * arc.price for arc in self.arcs))}." if self.has_price else ""
         bounds = (full, "full", "full, and more would help"), (lowest, "lowest", "at the least")
         marks = "".join(f', {many} <span class="{kind}">{what}</span>' for many, kind, what in bounds if many)
         return f"{count} {arcs_word(count)}, {used} in use{marks}.{spent}"
@@ -104,7 +104,7 @@ class Arcs:
         """Returns a line to find rows by their texts, and the full ones alone."""
         if count < FOUND_FROM:
             return ""
-        full = '<label><input type="checkbox"> full only</label>' if self.has_plan and any(it.is_tight() for it in self.arcs) else ""
+        full = '<label><input type="checkbox"> full only</label>' if self.has_plan and any(arc.is_tight() for arc in self.arcs) else ""
         return f'<p class="find"><label>find <input type="search"></label>{full}<span class="dim"></span></p>'
 
     def totals(self):
@@ -112,11 +112,11 @@ class Arcs:
         if not self.has_plan or len(self.keys) < 2:
             return ""
         made = [self.total(place, title) for place, title in enumerate(self.keys)]
-        made = [it for it in made if it]
+        made = [item for item in made if item]
         return f'<details><summary>totals</summary><div class="pair">{"".join(made)}</div></details>' if made else ""
 
     def total(self, place, title):
-        sums = dict.fromkeys([it.key[place] for it in self.arcs], (0, 0))
+        sums = dict.fromkeys([arc.key[place] for arc in self.arcs], (0, 0))
         if not 1 < len(sums) <= TOTALS or len(sums) == len(self.arcs):
             return ""
         for arc in self.arcs:
@@ -127,13 +127,13 @@ class Arcs:
         return f'<div>{table(head, [("", [member, *pair][:len(head)]) for member, pair in sums.items()])}</div>'
 
     def html(self, grid=""):
-        shown = sorted(self.arcs, key=lambda it: id(it) not in self.lead)
-        hidden = sum(id(it) not in self.lead for it in self.arcs)
+        shown = sorted(self.arcs, key=lambda arc: id(arc) not in self.lead)
+        hidden = sum(id(arc) not in self.lead for arc in self.arcs)
         what = f"the {hidden} that {'carries' if hidden == 1 else 'carry'} nothing" if self.has_plan else f"the {hidden} other{'s' * (hidden > 1)}"
         note = f'<button type="button" class="toggle" aria-expanded="false">show {what}</button>' if hidden else ""
         if hidden and len(self.net.arcs) > HIDDEN_FROM:
             shown, note = shown[:len(shown) - hidden], f"{capital(what)} are left out of this page; netflow-sheet writes them all."
-        made = table(self.head(), [self.row(it) for it in shown], "numbers") if shown else ""
+        made = table(self.head(), [self.row(arc) for arc in shown], "numbers") if shown else ""
         # If every row is hidden, the heading is too.
         made = made if hidden < len(self.arcs) else f'<div class="later">{made}</div>'
         return section(self.name, f"<p>{self.summary()} {note}</p>{self.finding(len(shown))}{made}{grid}{self.totals()}")
@@ -142,17 +142,17 @@ class Arcs:
 def places_html(net, marginal=None):
     """Returns the table of the places: inflow, outflow, and what one more unit that they need or give costs, as netflow-why says."""
     came, went = [0] * len(net.nodes), [0] * len(net.nodes)
-    for arc in (it for it in net.arcs if it.flow):
+    for arc in (arc for arc in net.arcs if arc.flow):
         for counts, number, is_forward in ((came, arc.dst, arc.flow > 0), (went, arc.src, arc.flow > 0)):
             if number is not None:
                 (counts if is_forward else went if counts is came else came)[number] += abs(arc.flow)
     places = [Place(net, marginal, number) for number in range(len(net.nodes))] if marginal else []
-    worths = [it.cost if it.is_felt() else "" if it.cost is None else 0 for it in places]
+    worths = [place.cost if place.is_felt() else "" if place.cost is None else 0 for place in places]
     has_worth = any(worths)
     head = [("place", ""), ("needs or gives", ""), ("inflow", "number flow"), ("outflow", "number flow")]
     head += [(f"one more, needed or given, {'costs' if net.sign > 0 else 'takes away'}", "number wrap")] * has_worth
-    rows = [("", [it.text, it.wish(), came[number], went[number], *worths[number:number + has_worth]])
-            for number, it in enumerate(net.nodes)]
+    rows = [("", [node.text, node.wish(), came[number], went[number], *worths[number:number + has_worth]])
+            for number, node in enumerate(net.nodes)]
     rows, count = rows[:HIDDEN_FROM], len(rows)
     note = f" The first {HIDDEN_FROM} are shown." if count > HIDDEN_FROM else ""
     note += f" One more unit that a place needs, or can give, changes the value; below 0 it {better(net)}." if has_worth else ""
@@ -164,7 +164,7 @@ def arcs_word(count):
 
 
 def parts_table(title, total, parts, most):
-    rows = [("", [it.amount, it.text]) for it in parts[:most]]
+    rows = [("", [part.amount, part.text]) for part in parts[:most]]
     more = f"<p>and {len(parts) - most} more</p>" if len(parts) > most else ""
     return f"<h3>{text(title)}, {total} in all</h3>" + table([("amount", "number"), ("what", "")], rows) + more
 
@@ -180,7 +180,7 @@ def reason_html(net, reason, most):
     lines += ['<div class="pair"><div>', parts_table(asked, reason.needed(), reason.asks, most), "</div><div>"]
     lines.append(parts_table(helping, reason.given(), reason.helps, most) if reason.helps else f"<p>{text(none)}.</p>")
     if reason.idle:
-        lines.append(f"<h3>{text(other)}</h3>" + bullets([it.text for it in reason.idle[:most]]))
+        lines.append(f"<h3>{text(other)}</h3>" + bullets([part.text for part in reason.idle[:most]]))
     lines.append("</div></div>")
     quiet = reason.quiet(net)
     if quiet:
@@ -192,7 +192,7 @@ def changes_html(net, found, most):
     """The least changes: those at one place, then those of the other kinds of bounds."""
     if found.is_large:
         return "<p>It is not computed: the model is too large.</p>"
-    lines = [f"<h3>{text(single_title(found.single))}</h3>" + bullets([it.sentence() for it in found.single])] if found.single else []
+    lines = [f"<h3>{text(single_title(found.single))}</h3>" + bullets([change.sentence() for change in found.single])] if found.single else []
     for what, changes in found.others().items():
         if changes is None:
             lines.append(f"<p>{text(capital(what))}: none is enough.</p>")
@@ -200,7 +200,7 @@ def changes_html(net, found, most):
         if is_left_out(changes):
             lines.append(f"<p>{text(capital(what))}: {total(changes)} in all. {text(left_out_text(net, changes, most))}.</p>")
             continue
-        rows = [("", [it.amount, it.sentence()]) for it in sorted(changes, key=lambda it: -it.amount)[:most]]
+        rows = [("", [change.amount, change.sentence()]) for change in sorted(changes, key=lambda change: -change.amount)[:most]]
         more = f"<p>and {len(changes) - most} more</p>" if len(changes) > most else ""
         lines.append(f"<h3>{text(capital(what))}: {total(changes)} in all</h3>" + table([("by", "number"), ("change", "")], rows) + more)
     return "".join(lines) + "<p>Each unit counts the same, and other changes may be as small.</p>"

@@ -39,19 +39,19 @@ class Report:
         self.answer, self.net = question.network(with_prices=True)
         model = question.model.text()
         self.files, self.model, self.reasons = files, model, []
-        self.odd = [*compared_texts(model, [it.text() for it in question.data]), *lines_of_question(question), *remark_lines(question, self.net)]
+        self.odd = [*compared_texts(model, [source.text() for source in question.data]), *lines_of_question(question), *remark_lines(question, self.net)]
         self.title, self.unit = first_comment(model) or files, unit or objective_unit(model, self.net.objective)
         self.has_plan = self.net.cut is None
         self.marginal = Marginal(self.net) if self.has_plan else None
         self.gains = Gains(self.net, self.marginal) if self.has_plan else None
         if not self.has_plan:
             self.reasons = reasons(self.net, *self.net.cut)
-        self.sets = [set(it.nodes) for it in self.reasons[:SETS]]
+        self.sets = [set(reason.nodes) for reason in self.reasons[:SETS]]
         self.marked = set().union(*self.sets)
         # If every place is in the set, a mark would say nothing.
         self.marked = set() if len(self.marked) == len(self.net.nodes) else self.marked
         self.cut = bottleneck(self.net, self.gains) if self.has_plan else []
-        self.across = {id(it) for it in self.net.arcs if self.sets and self.is_across(it)} | {id(it) for it in self.cut}
+        self.across = {id(arc) for arc in self.net.arcs if self.sets and self.is_across(arc)} | {id(arc) for arc in self.cut}
 
     def is_across(self, arc):
         """Whether the arc leads into one of the sets that are short, or out of it."""
@@ -64,7 +64,7 @@ class Report:
             why = "The next section says why: a set of places that cannot get, or send out, what they have to."
             return f'<p class="value none">No plan</p><p>{counts}. {why}</p>'
         best = "No plan costs less" if net.sign > 0 else "No plan is worth more"
-        used = sum(it.flow != 0 for it in net.arcs)
+        used = sum(arc.flow != 0 for arc in net.arcs)
         unit = f' <span class="unit">{text(self.unit)}</span>' if self.unit else ""
         return f'<p class="value">{text(net.objective)} = {grouped(net.value)}{unit}</p><p>{best}. {counts}, {grouped(used)} in use.</p>'
 
@@ -74,9 +74,9 @@ class Report:
         if len(arcs) <= ALL_DRAWN:
             return arcs
         if self.has_plan:
-            return sorted((it for it in arcs if it.flow), key=lambda it: (id(it) not in self.across, -abs(it.flow)))[:DRAWN]
-        across = [it for it in arcs if id(it) in self.across]
-        inside = [it for it in arcs if it.src in self.marked and it.dst in self.marked]
+            return sorted((arc for arc in arcs if arc.flow), key=lambda arc: (id(arc) not in self.across, -abs(arc.flow)))[:DRAWN]
+        across = [arc for arc in arcs if id(arc) in self.across]
+        inside = [arc for arc in arcs if arc.src in self.marked and arc.dst in self.marked]
         return (across + inside)[:DRAWN]
 
     def picture(self, is_alone=False):
@@ -108,8 +108,8 @@ class Report:
         return what + (f", the {count} largest" if count == DRAWN and self.has_plan else f", the first {count}" if count == DRAWN else "")
 
     def why(self):
-        parts = [f'<p class="reason">{text(it)}</p>' for it in opposite_sides(self.net)]
-        parts += [reason_html(self.net, it, SHOWN) for it in self.reasons[:SETS]]
+        parts = [f'<p class="reason">{text(line)}</p>' for line in opposite_sides(self.net)]
+        parts += [reason_html(self.net, reason, SHOWN) for reason in self.reasons[:SETS]]
         left = len(self.reasons) - SETS
         parts += [f"<p>{left} more sets of places are short; netflow-why --all lists them.</p>"] if left > 0 else []
         changes = changes_html(self.net, least_changes(self.net), SHOWN)
@@ -118,29 +118,29 @@ class Report:
     def bottleneck(self):
         if not self.cut:
             return ""
-        lines = [f"{it.text} from {self.net.end(it.src)} to {self.net.end(it.dst)}: {grouped(it.upper)}" for it in sorted(self.cut, key=lambda it: -it.upper)]
+        lines = [f"{arc.text} from {self.net.end(arc.src)} to {self.net.end(arc.dst)}: {grouped(arc.upper)}" for arc in sorted(self.cut, key=lambda arc: -arc.upper)]
         more = [f"and {len(lines) - SHOWN} more"] if len(lines) > SHOWN else []
         return section("Bottleneck", f"<p>{grouped(self.net.value)} in all. No flow can be larger.</p>" + bullets(lines[:SHOWN] + more))
 
     def prices(self):
         """Returns the arcs at which one more unit of capacity saves most."""
         chosen = choices(self.net)
-        felt = [(amount, it) for amount, it in self.gains.felt if it.is_full() and it.name not in chosen]
+        felt = [(amount, arc) for amount, arc in self.gains.felt if arc.is_full() and arc.name not in chosen]
         doubt = "" if self.gains.is_exact else " at most"
         saves = f"one more unit {better(self.net)}{doubt}"
-        lines = [f"{it.text}, full at {grouped(it.upper)}: {saves} {grouped(amount)}{self.gains.limit(it)}" for amount, it in felt[:MOST_GAINS]]
+        lines = [f"{arc.text}, full at {grouped(arc.upper)}: {saves} {grouped(amount)}{self.gains.limit(arc)}" for amount, arc in felt[:MOST_GAINS]]
         left = len(felt) - MOST_GAINS
         lines += [f"{left} more, each {grouped(felt[MOST_GAINS][0])} or less: netflow-why --all lists them"] if left > 0 else []
         return section("Where more capacity helps", bullets(lines)) if lines and not self.cut else ""
 
     def remarks(self):
         """Returns what is allowed, and often a mistake."""
-        net, met = self.net, {it for arc in self.net.arcs for it in (arc.src, arc.dst)}
+        net, met = self.net, {end for arc in self.net.arcs for end in (arc.src, arc.dst)}
         declared = net.declared().items()
-        found = (([it.text for number, it in enumerate(net.nodes) if number not in met], "has no arc", "have no arc"),
-                 ([it.text for it in net.arcs if it.lower == it.upper == 0], "can carry nothing", "can carry nothing"),
-                 ([name for name, arcs in declared if not any(it.price for it in arcs)], "has no price", "have no price"),
-                 ([name for name, arcs in declared if self.has_plan and not any(it.flow for it in arcs)], "carries nothing", "carry nothing"))
+        found = (([node.text for number, node in enumerate(net.nodes) if number not in met], "has no arc", "have no arc"),
+                 ([arc.text for arc in net.arcs if arc.lower == arc.upper == 0], "can carry nothing", "can carry nothing"),
+                 ([name for name, arcs in declared if not any(arc.price for arc in arcs)], "has no price", "have no price"),
+                 ([name for name, arcs in declared if self.has_plan and not any(arc.flow for arc in arcs)], "carries nothing", "carry nothing"))
         lines = [f"{', '.join(names[:6])}{' and others' * (len(names) > 6)} {one if len(names) == 1 else many}." for names, one, many in found if names]
         fractions = fractions_text(net)
         lines += [f"{fractions[:1].upper()}{fractions[1:]}."] if fractions else []
@@ -148,7 +148,7 @@ class Report:
         return section("Worth a look", bullets(lines)) if lines else ""
 
     def tables(self):
-        lead = {id(it) for it in self.net.arcs if it.flow} if self.has_plan else self.across
+        lead = {id(arc) for arc in self.net.arcs if arc.flow} if self.has_plan else self.across
         made = []
         for name, arcs in self.net.declared().items():
             titles = headings(self.model, name, len(arcs[0].key))
@@ -165,7 +165,7 @@ class Report:
 
 def framed(picture):
     """Returns the frame of a drawing, or of its parts in columns. Print leaves out a drawing with names too small to read."""
-    sizes = [tuple(map(int, it)) for it in re.findall(r'<svg [^>]*?width="(\d+)" height="(\d+)"', picture)]
+    sizes = [tuple(map(int, size)) for size in re.findall(r'<svg [^>]*?width="(\d+)" height="(\d+)"', picture)]
     wide, high = max(sizes)[0], sizes[0][1]
     if len(sizes) > 1:
         return f'<div class="picture"><div class="parts" style="--widest:{wide}px">{picture}</div></div>'

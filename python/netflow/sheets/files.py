@@ -41,7 +41,7 @@ class Cell:
             self.reject("is no member: the cell is empty")
         if PLAIN_NAME.fullmatch(self.text) or KEY_NUMBER.fullmatch(self.text):
             return self.text
-        if any(ord(it) < 32 or ord(it) == 127 for it in self.text):
+        if any(ord(character) < 32 or ord(character) == 127 for character in self.text):
             self.reject("has a line end or another character that no name can have")
         return "'" + self.text.replace("'", "''") + "'"
 
@@ -79,8 +79,8 @@ def column_letters(column: int) -> str:
 
 def column_number(letters: str) -> int:
     number = 0
-    for it in letters:
-        number = 26 * number + ord(it) - ord("A") + 1
+    for letter in letters:
+        number = 26 * number + ord(letter) - ord("A") + 1
     return number - 1
 
 
@@ -94,7 +94,7 @@ def read_sheet(source: str, is_quiet: bool = False) -> list:
             texts = csv_rows(source)
     except OSError as problem:
         raise ProgramError(UNREADABLE_FILE, f"netflow-sheet: {source}: {problem.strerror or problem}\n") from None
-    rows = [trimmed([Cell(it, source, row, column) for column, it in enumerate(line)]) for row, line in enumerate(texts)]
+    rows = [trimmed([Cell(text, source, row, column) for column, text in enumerate(line)]) for row, line in enumerate(texts)]
     rows = [line for line in rows if line]
     if not rows:
         raise ProgramError(REJECTED, f"netflow-sheet: {source}: the sheet is empty\n")
@@ -115,7 +115,7 @@ def csv_rows(path: str) -> Iterable[list]:
         text = raw.decode(encoding)
     except UnicodeDecodeError:
         raise ProgramError(REJECTED, f"netflow-sheet: {path}: not UTF-8: save it as CSV in UTF-8, or use iconv -f latin1 -t utf-8\n") from None
-    first = next((it for it in text.splitlines() if it.strip()), "")
+    first = next((line for line in text.splitlines() if line.strip()), "")
     mark = max(",;\t", key=first.count)
     return csv.reader(io.StringIO(text, newline=""), delimiter=mark)
 
@@ -161,11 +161,11 @@ def xlsx_rows(path: str, sheet: str) -> list:
 
 def sheet_files(book: zipfile.ZipFile) -> dict:
     """Returns the files of the sheets by their names, in order."""
-    links = {it.get("Id"): it.get("Target", "") for it in ElementTree.fromstring(book.read("xl/_rels/workbook.xml.rels"))}
+    links = {link.get("Id"): link.get("Target", "") for link in ElementTree.fromstring(book.read("xl/_rels/workbook.xml.rels"))}
     found = {}
-    for it in ElementTree.fromstring(book.read("xl/workbook.xml")).iter(f"{PART}sheet"):
-        target = links[it.get(LINK)]
-        found[it.get("name", "")] = target.lstrip("/") if target.startswith("/") else f"xl/{target}"
+    for sheet in ElementTree.fromstring(book.read("xl/workbook.xml")).iter(f"{PART}sheet"):
+        target = links[sheet.get(LINK)]
+        found[sheet.get("name", "")] = target.lstrip("/") if target.startswith("/") else f"xl/{target}"
     return found
 
 
@@ -173,7 +173,7 @@ def shared_texts(book: zipfile.ZipFile) -> list:
     if "xl/sharedStrings.xml" not in book.namelist():
         return []
     root = ElementTree.fromstring(book.read("xl/sharedStrings.xml"))
-    return ["".join(part.text or "" for part in it.iter(f"{PART}t")) for it in root.iter(f"{PART}si")]
+    return ["".join(part.text or "" for part in item.iter(f"{PART}t")) for item in root.iter(f"{PART}si")]
 
 
 def cell_text(cell: Any, shared: list) -> str:
@@ -205,12 +205,12 @@ def write_xlsx(path: str, sheets: Sequence[tuple]) -> None:
     numbers = range(1, len(sheets) + 1)
     names = [escape(re.sub(r"[][*?:/\\]", " ", name)[:31], {'"': "&quot;"}) for name, _ in sheets]
     files = {
-        "[Content_Types].xml": TYPES.format("".join(f'<Override PartName="/xl/worksheets/sheet{it}.xml" ContentType="{WORKSHEET}"/>' for it in numbers)),
+        "[Content_Types].xml": TYPES.format("".join(f'<Override PartName="/xl/worksheets/sheet{number}.xml" ContentType="{WORKSHEET}"/>' for number in numbers)),
         "_rels/.rels": RELATIONS.format(f'<Relationship Id="rId1" Type="{OFFICE}/officeDocument" Target="xl/workbook.xml"/>'),
-        "xl/workbook.xml": WORKBOOK.format("".join(f'<sheet name="{name}" sheetId="{it}" r:id="rId{it}"/>' for it, name in zip(numbers, names))),
+        "xl/workbook.xml": WORKBOOK.format("".join(f'<sheet name="{name}" sheetId="{number}" r:id="rId{number}"/>' for number, name in zip(numbers, names))),
         "xl/_rels/workbook.xml.rels": RELATIONS.format("".join(
-            f'<Relationship Id="rId{it}" Type="{OFFICE}/worksheet" Target="worksheets/sheet{it}.xml"/>' for it in numbers)),
-        **{f"xl/worksheets/sheet{it}.xml": worksheet(rows) for it, (_, rows) in zip(numbers, sheets)}}
+            f'<Relationship Id="rId{number}" Type="{OFFICE}/worksheet" Target="worksheets/sheet{number}.xml"/>' for number in numbers)),
+        **{f"xl/worksheets/sheet{number}.xml": worksheet(rows) for number, (_, rows) in zip(numbers, sheets)}}
     made = io.BytesIO()
     with zipfile.ZipFile(made, "w", zipfile.ZIP_DEFLATED) as book:
         for name, text in files.items():
@@ -222,7 +222,7 @@ def write_xlsx(path: str, sheets: Sequence[tuple]) -> None:
 def worksheet(rows: Iterable[Sequence]) -> str:
     lines = []
     for number, row in enumerate(rows, 1):
-        cells = "".join(worksheet_cell(f"{column_letters(column)}{number}", it) for column, it in enumerate(row))
+        cells = "".join(worksheet_cell(f"{column_letters(column)}{number}", value) for column, value in enumerate(row))
         lines.append(f'<row r="{number}">{cells}</row>')
     return ('<?xml version="1.0" encoding="UTF-8"?><worksheet xmlns="http://schemas.openxmlformats.org/spreadsheetml/2006/main"><sheetData>'
             + "".join(lines) + "</sheetData></worksheet>")

@@ -43,34 +43,34 @@ def arc_cells(net: Network, arc: Any) -> list:
 def list_of(net: Network, arcs: list, titles: list) -> Iterator[list]:
     """Yields the table of one declaration: its keys by their titles, then the numbers and ends."""
     yield [*titles, *COLUMNS]
-    for it in arcs:
-        yield [*it.key, *arc_cells(net, it)]
+    for arc in arcs:
+        yield [*arc.key, *arc_cells(net, arc)]
 
 
 def one_table(net: Network, arcs: list) -> Iterator[list]:
     """Yields one table of all declarations; an arc with fewer keys has empty cells."""
-    width = max((len(it.key) for it in arcs), default=0)
-    yield ["arc", *(f"key {it + 1}" for it in range(width)), *COLUMNS]
-    for it in arcs:
-        yield [it.name, *it.key, *[""] * (width - len(it.key)), *arc_cells(net, it)]
+    width = max((len(arc.key) for arc in arcs), default=0)
+    yield ["arc", *(f"key {index + 1}" for index in range(width)), *COLUMNS]
+    for arc in arcs:
+        yield [arc.name, *arc.key, *[""] * (width - len(arc.key)), *arc_cells(net, arc)]
 
 
 def grid_of(name: str, arcs: list) -> Iterator[list]:
     """Yields rows by all keys but the last, columns by the last; an arc that does not exist is an empty cell."""
-    across = list(dict.fromkeys(it.key[-1] for it in arcs))
+    across = list(dict.fromkeys(arc.key[-1] for arc in arcs))
     rows: dict = {}
-    for it in arcs:
-        rows.setdefault(tuple(it.key[:-1]), {})[it.key[-1]] = it.flow
+    for arc in arcs:
+        rows.setdefault(tuple(arc.key[:-1]), {})[arc.key[-1]] = arc.flow
     yield [name, *([""] * (len(arcs[0].key) - 2)), *across]
     for key, flows in rows.items():
-        yield [*key, *(flows.get(it, "") for it in across)]
+        yield [*key, *(flows.get(member, "") for member in across)]
 
 
 def tables_of(net: Network, model: str, words: argparse.Namespace) -> list:
     """Returns pairs of a declaration's name and the rows of its table, or its grid."""
     found = []
     for name, arcs in net.declared().items():
-        used = [it for it in arcs if it.flow or not words.used]
+        used = [arc for arc in arcs if arc.flow or not words.used]
         if words.only in ("", name) and used:
             is_grid = words.grid and len(used[0].key) > 1
             found.append((name, list(grid_of(name, used) if is_grid else list_of(net, used, headings(model, name, len(used[0].key))))))
@@ -104,7 +104,7 @@ def plan(words: argparse.Namespace, question: Question) -> int:
 
 def no_plan(net: Network) -> dict:
     side, inside = net.cut
-    return cut_json(side, [net.nodes[it].text for it in sorted(inside)], reasons(net, side, inside), net)
+    return cut_json(side, [net.nodes[number].text for number in sorted(inside)], reasons(net, side, inside), net)
 
 
 def write(net: Network, model: str, words: argparse.Namespace) -> None:
@@ -121,5 +121,5 @@ def write(net: Network, model: str, words: argparse.Namespace) -> None:
             out.writerow([])
             write_rows(rows)
     else:
-        write_rows(one_table(net, [it for it in net.arcs if it.flow or not words.used]))
+        write_rows(one_table(net, [arc for arc in net.arcs if arc.flow or not words.used]))
         out.writerows([[], [net.objective, net.value]])

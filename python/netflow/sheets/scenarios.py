@@ -20,14 +20,14 @@ CHANGE = re.compile(r"\w+(?:\[[^\]]*\])?\s*=\s*(?:'[^']*'|\"[^\"]*\"|\S+)")
 
 def cases_of(words: argparse.Namespace) -> list:
     """Returns the changes of each case: those of --case, then all combinations of the values of --vary."""
-    found = [case_words(it) for it in words.case]
+    found = [case_words(case) for case in words.case]
     varied = []
     for word in getattr(words, "vary", []):
         name, _, values = word.partition("=")
         if not values:
             raise ProgramError(USAGE, f"--vary {word}: expected NAME=VALUE,VALUE,..\n")
-        varied.append([f"{name}={it.strip()}" for it in values.split(",")])
-    return found + ([list(it) for it in itertools.product(*varied)] if varied else [])
+        varied.append([f"{name}={value.strip()}" for value in values.split(",")])
+    return found + ([list(values) for values in itertools.product(*varied)] if varied else [])
 
 
 def case_words(text: str) -> list:
@@ -94,8 +94,8 @@ def case_cells(base: Network, net: Network) -> list:
         return without_plan(net)
     if base.cut is not None:
         return ["optimal", net.value, "", "", ""]
-    flows = {it.text: it.flow for it in base.arcs}
-    differing = sum(flows.get(it.text, 0) != it.flow for it in net.arcs) + sum(flows[name] != 0 for name in flows.keys() - {it.text for it in net.arcs})
+    flows = {arc.text: arc.flow for arc in base.arcs}
+    differing = sum(flows.get(arc.text, 0) != arc.flow for arc in net.arcs) + sum(flows[name] != 0 for name in flows.keys() - {arc.text for arc in net.arcs})
     return ["optimal", net.value, difference(net.value, base.value), differing, ""]
 
 
@@ -104,18 +104,18 @@ def diff(words: argparse.Namespace, out: Any) -> int:
     if not words.case and not words.extra_data:
         raise ProgramError(USAGE, "netflow-sheet diff: give --case or --with\n")
     first = answer_of(words, [])
-    second = answer_of(words, [it for case in words.case for it in case_words(case)], words.extra_data)
+    second = answer_of(words, [change for case in words.case for change in case_words(case)], words.extra_data)
     for net, name in ((first, "as it is"), (second, "as changed")):
         if net.cut is not None:
             raise ProgramError(2, f"netflow-sheet: the model {name} has no plan: netflow-why says why\n")
-    arcs = {it.text: it for it in [*second.arcs, *first.arcs]}
-    flows = [{it.text: it.flow for it in net.arcs} for net in (first, second)]
-    width = max((len(it.key) for it in arcs.values()), default=0)
-    out.writerow(["name", *(f"key {it + 1}" for it in range(width)), "before", "after", "difference"])
+    arcs = {arc.text: arc for arc in [*second.arcs, *first.arcs]}
+    flows = [{arc.text: arc.flow for arc in net.arcs} for net in (first, second)]
+    width = max((len(arc.key) for arc in arcs.values()), default=0)
+    out.writerow(["name", *(f"key {index + 1}" for index in range(width)), "before", "after", "difference"])
     out.writerow([first.objective, *[""] * width, first.value, second.value, difference(second.value, first.value)])
-    order = dict.fromkeys([*(it.text for it in first.arcs), *(it.text for it in second.arcs)])
+    order = dict.fromkeys([*(arc.text for arc in first.arcs), *(arc.text for arc in second.arcs)])
     for text in order:
-        before, after = (it.get(text, 0) for it in flows)
+        before, after = (flows_of_plan.get(text, 0) for flows_of_plan in flows)
         if before != after:
             arc = arcs[text]
             out.writerow([arc.name, *arc.key, *[""] * (width - len(arc.key)), before, after, difference(after, before)])

@@ -54,7 +54,7 @@ class Words(argparse.ArgumentParser):
 
 def question_of(words: argparse.Namespace, extra: Sequence[str] = ()) -> Question:
     """Returns the question of parsed words."""
-    data = [Input(it) for it in words.data]
+    data = [Input(path) for path in words.data]
     origins = {**origins_of(words.changes, "--set"), **origins_of(extra, "the case")}
     question = Question(Input(words.model), data, objective=words.objective, changes=changes_of([*words.changes, *extra]),
                         scale=scale_of(words.scale), add_bounds=words.bounds, origins=origins)
@@ -65,11 +65,11 @@ def question_of(words: argparse.Namespace, extra: Sequence[str] = ()) -> Questio
 def given_words(words: argparse.Namespace, extra: Sequence[str]) -> list:
     """Returns the files and options of a question as words; none if a file is a pipe, which can be read only once."""
     files = [words.model, *words.data]
-    if any(it == "-" or os.path.exists(it) and not os.path.isfile(it) and os.path.realpath(it) != os.devnull for it in files):
+    if any(file == "-" or os.path.exists(file) and not os.path.isfile(file) and os.path.realpath(file) != os.devnull for file in files):
         return []
-    options = [["--set", it] for it in (*words.changes, *extra)] + [["--scale", it] for it in words.scale]
+    options = [["--set", change] for change in (*words.changes, *extra)] + [["--scale", factor] for factor in words.scale]
     options += [["--objective", words.objective]] if words.objective else []
-    return [*files, *(it for pair in options for it in pair), *(["--bounds"] if words.bounds else [])]
+    return [*files, *(word for pair in options for word in pair), *(["--bounds"] if words.bounds else [])]
 
 
 def changes_of(words: Sequence[str]) -> dict:
@@ -91,7 +91,7 @@ def change_of(word: str) -> tuple:
     """Returns the name, the key, () if it has none, and the value of a change."""
     head, equals, value = word.partition("=")
     name, bracket, key = head.strip().partition("[")
-    parts = tuple(member_of(it) for it in key_parts(key[:-1])) if key.endswith("]") else ()
+    parts = tuple(member_of(part) for part in key_parts(key[:-1])) if key.endswith("]") else ()
     if not equals or not name or bracket and not parts:
         raise ProgramError(USAGE, f"--set {word}: expected NAME=VALUE or NAME[KEY,..]=VALUE\n")
     return name, parts, value_of(value)
@@ -103,7 +103,7 @@ def origins_of(words: Sequence[str], option: str) -> dict:
 
 
 def key_parts(key: str) -> list:
-    return [it[0] for it in TOKEN.finditer(key) if it.lastgroup in ("word", "text")]
+    return [token[0] for token in TOKEN.finditer(key) if token.lastgroup in ("word", "text")]
 
 
 def member_of(text: str) -> Any:
@@ -131,7 +131,7 @@ def scale_of(words: Sequence[str]) -> dict:
 
 def fractions_text(net: Network) -> str:
     """Returns why the flows of a plan are not whole, and how they become so; an empty text if they are whole."""
-    if net.cut is not None or all(it.flow.denominator == 1 for it in net.arcs):
+    if net.cut is not None or all(arc.flow.denominator == 1 for arc in net.arcs):
         return ""
     named = net.factors.in_flows
     what = ", ".join(named) if named else "a bound or condition of the model"
@@ -154,7 +154,7 @@ def note_grouped(question: Question) -> None:
 
 
 def title_of(words: argparse.Namespace) -> str:
-    names = [os.path.basename(it) for it in words.data if it != os.devnull]
+    names = [os.path.basename(path) for path in words.data if path != os.devnull]
     return f"{os.path.basename(words.model)}{' with ' if names else ''}{', '.join(names)}"
 
 

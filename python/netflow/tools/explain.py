@@ -36,9 +36,9 @@ WIDTH, AROUND = 100, 60
 def files_of(words: Sequence[str]) -> list:
     """Returns the indices of the words that name files."""
     places, skip = [], False
-    for here, it in enumerate(words[1:], 1):
-        if skip or it.startswith("-") and it != "-":
-            skip = it == "--objective"
+    for here, word in enumerate(words[1:], 1):
+        if skip or word.startswith("-") and word != "-":
+            skip = word == "--objective"
             continue
         places.append(here)
     return places[:len(TEXTS.get(words[0], ()))]
@@ -46,37 +46,37 @@ def files_of(words: Sequence[str]) -> list:
 
 def width(text: str) -> int:
     """Returns the columns of a terminal that a text takes."""
-    return sum(0 if unicodedata.combining(it) else 2 if unicodedata.east_asian_width(it) in "WF" else 1 for it in text)
+    return sum(0 if unicodedata.combining(letter) else 2 if unicodedata.east_asian_width(letter) in "WF" else 1 for letter in text)
 
 
-def source_lines(it: Diagnostic) -> list:
+def source_lines(diagnostic: Diagnostic) -> list:
     """Returns the line of the input, of a long one the part around the place, and the mark below it."""
-    before, after = it.before, it.at()
+    before, after = diagnostic.before, diagnostic.at()
     if len(before) > AROUND:
         before = ".. " + before[-AROUND:]
     if len(after) > 2 * AROUND:
         after = after[:2 * AROUND] + " .."
     # A tab stays one, so that the mark is below its place whatever the terminal makes of it.
     under = "".join(letter if letter == "\t" else " " * width(letter) for letter in before)
-    return [f"    {before}{after}", *([f"    {under}^"] if it.column else [])]
+    return [f"    {before}{after}", *([f"    {under}^"] if diagnostic.column else [])]
 
 
-def lines_of(it: Diagnostic) -> list:
+def lines_of(diagnostic: Diagnostic) -> list:
     """Returns the explanation. A sure hint comes alone; without one, what to do in general comes last."""
-    place = it.place() if it.called or it.is_change() else ""
-    means, remedy = it.catalogue()
+    place = diagnostic.place() if diagnostic.called or diagnostic.is_change() else ""
+    means, remedy = diagnostic.catalogue()
     lines = textwrap.wrap(f"{place}: {means}" if place else means, WIDTH, break_long_words=False, break_on_hyphens=False)
-    is_text = "\0" not in it.shown and not it.shown.startswith("PK\x03\x04")
-    lines += source_lines(it) if it.shown.strip() and is_text and not it.is_change() else []
-    lines += [f"  Hint: {hint}" for hint in it.hints()]
-    if remedy and not it.has_sure_hint():
+    is_text = "\0" not in diagnostic.shown and not diagnostic.shown.startswith("PK\x03\x04")
+    lines += source_lines(diagnostic) if diagnostic.shown.strip() and is_text and not diagnostic.is_change() else []
+    lines += [f"  Hint: {hint}" for hint in diagnostic.hints()]
+    if remedy and not diagnostic.has_sure_hint():
         lines += textwrap.wrap(f"To fix: {remedy}", WIDTH, initial_indent="  ", subsequent_indent="  ")
     return lines
 
 
 def explain(words: list, is_json: bool) -> int:
     places = files_of(words)
-    with Session([words[it] for it in places]) as session:
+    with Session([words[place] for place in places]) as session:
         asked = list(words)
         for place, path in zip(places, session.files):
             asked[place] = path
@@ -87,8 +87,8 @@ def explain(words: list, is_json: bool) -> int:
         except OSError as problem:
             raise ProgramError(USAGE, f"{program()}: {problem.strerror}\n") from None
         line = done.stderr.decode("utf-8", "surrogateescape").rstrip("\n")
-        found = Diagnostic(line, words[0], session.files, [words[it] for it in places]) if LINE.fullmatch(line) else None
-        options = [it for here, it in enumerate(words[1:], 1) if here not in places]
+        found = Diagnostic(line, words[0], session.files, [words[place] for place in places]) if LINE.fullmatch(line) else None
+        options = [word for here, word in enumerate(words[1:], 1) if here not in places]
         if found and is_json:
             print_json(found, options)
             return done.returncode
@@ -96,13 +96,13 @@ def explain(words: list, is_json: bool) -> int:
         if words[0] == "solve" and done.returncode in (0, 2):
             texts = [read(path) for path in session.files]
             write_hints(grouped_lines(texts[0], [(None, text) for text in texts[1:]]))
-        sys.stderr.write("".join(f"{it}\n" for it in [*lines_of(found), *further_lines(found, options)]) if found else "")
+        sys.stderr.write("".join(f"{line}\n" for line in [*lines_of(found), *further_lines(found, options)]) if found else "")
     return done.returncode
 
 
 def print_json(found: Diagnostic, options: Sequence[str]) -> None:
     """Prints an error as a JSON object, with the further errors of the data."""
-    more = [error_json(ModelError(it))["error"] for it in further_errors(found, options)]
+    more = [error_json(ModelError(error))["error"] for error in further_errors(found, options)]
     print(dump_lines({**error_json(ModelError(found)), **({"more": more} if more else {})}))
 
 
@@ -110,8 +110,8 @@ def is_rewriting(words: Sequence[str]) -> bool:
     """Whether the words of a call have several data files or an option that netflow itself does not have."""
     if words[0] not in ("solve", "compile"):
         return False
-    files = [it for here, it in enumerate(words[1:]) if words[here] != "--objective" and (not it.startswith("-") or it == "-")]
-    return len(files) > 2 or any(it.partition("=")[0] in ("--set", "--scale", "--bounds") for it in words)
+    files = [word for here, word in enumerate(words[1:]) if words[here] != "--objective" and (not word.startswith("-") or word == "-")]
+    return len(files) > 2 or any(word.partition("=")[0] in ("--set", "--scale", "--bounds") for word in words)
 
 
 def explain_rewritten(words: list, is_json: bool) -> int:
@@ -137,7 +137,7 @@ def explain_rewritten(words: list, is_json: bool) -> int:
                 print_json(found, question.options)
             else:
                 lines = [problem.message.rstrip("\n"), *lines_of(found), *further_lines(found, question.options)]
-                sys.stderr.write("".join(f"{it}\n" for it in lines))
+                sys.stderr.write("".join(f"{line}\n" for line in lines))
             return problem.status
 
 
@@ -156,7 +156,7 @@ def divided_text(question: Question) -> str:
     for name, is_table in net.declarations:
         arcs = declared.get(name, [])
         if is_table:
-            lines += [f"{name} :=", *(" ".join([*map(shown, it.key), str(it.flow)]) for it in arcs), ";"]
+            lines += [f"{name} :=", *(" ".join([*map(shown, arc.key), str(arc.flow)]) for arc in arcs), ";"]
         else:
             lines.append(f"{name} = {arcs[0].flow}")
     return "\n".join(lines) + "\n"
@@ -169,7 +169,7 @@ def main(words: Sequence[str]) -> int:
     if words[0] == "--version":
         print(f"netflow-explain {__version__}")
         return 0
-    asked, is_rewritten = [it for it in words if it != "--json"], False
+    asked, is_rewritten = [word for word in words if word != "--json"], False
     if not asked or asked[0] not in TEXTS and asked[0] not in ("help", "-V"):
         asked.insert(0, "solve")
         is_rewritten = True

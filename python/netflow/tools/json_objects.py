@@ -47,17 +47,17 @@ class JsonTexts(dict):
 
     def of_column(self, values: list) -> list:
         if values and isinstance(values[0], list):
-            return ["[" + ", ".join(map(self.__getitem__, it)) + "]" for it in values]
+            return ["[" + ", ".join(map(self.__getitem__, value)) + "]" for value in values]
         return list(map(self.__getitem__, values))
 
 
 def dump_lines(value: Mapping) -> str:
     """Returns the JSON text of an object with a line for each field and for each item of its lists: readable, and fast for many arcs."""
     fields, texts = [], JsonTexts()
-    for name, it in value.items():
-        is_list = isinstance(it, list) and it and isinstance(it[0], Mapping)
-        lines = column_lines(it, texts) if isinstance(it, Columns) else list(map(dumps, it)) if is_list else []
-        text = "[\n    " + ",\n    ".join(lines) + "\n  ]" if lines else dumps([] if isinstance(it, Columns) else it)
+    for name, field in value.items():
+        is_list = isinstance(field, list) and field and isinstance(field[0], Mapping)
+        lines = column_lines(field, texts) if isinstance(field, Columns) else list(map(dumps, field)) if is_list else []
+        text = "[\n    " + ",\n    ".join(lines) + "\n  ]" if lines else dumps([] if isinstance(field, Columns) else field)
         fields.append(f"  {dumps(name)}: {text}")
     return "{\n" + ",\n".join(fields) + "\n}"
 
@@ -69,16 +69,16 @@ def column_lines(columns: Columns, texts: JsonTexts) -> list:
 
 
 def arc_columns(net: Network) -> Columns:
-    arcs, ends = net.arcs, {None: None, **{number: it.text for number, it in enumerate(net.nodes)}}
-    return Columns({"name": [it.name for it in arcs], "key": [it.key for it in arcs], "from": [ends[it.src] for it in arcs],
-                    "to": [ends[it.dst] for it in arcs], "flow": [it.flow for it in arcs], "lower": [it.lower for it in arcs],
-                    "upper": [None if it.is_open else it.upper for it in arcs], "price": [it.price for it in arcs]})
+    arcs, ends = net.arcs, {None: None, **{number: node.text for number, node in enumerate(net.nodes)}}
+    return Columns({"name": [arc.name for arc in arcs], "key": [arc.key for arc in arcs], "from": [ends[arc.src] for arc in arcs],
+                    "to": [ends[arc.dst] for arc in arcs], "flow": [arc.flow for arc in arcs], "lower": [arc.lower for arc in arcs],
+                    "upper": [None if arc.is_open else arc.upper for arc in arcs], "price": [arc.price for arc in arcs]})
 
 
 def node_columns(net: Network) -> Columns:
     nodes = net.nodes
-    return Columns({"name": [it.text for it in nodes], "lower": [it.low for it in nodes], "upper": [it.high for it in nodes],
-                    "net_in": [it.inflow for it in nodes]})
+    return Columns({"name": [node.text for node in nodes], "lower": [node.low for node in nodes], "upper": [node.high for node in nodes],
+                    "net_in": [node.inflow for node in nodes]})
 
 
 def plan_columns(net: Network) -> dict:
@@ -90,14 +90,14 @@ def plan_columns(net: Network) -> dict:
 
 def plan_json(net: Network) -> dict:
     """Returns the object of a plan."""
-    return {name: it.items_of() if isinstance(it, Columns) else it for name, it in plan_columns(net).items()}
+    return {name: field.items_of() if isinstance(field, Columns) else field for name, field in plan_columns(net).items()}
 
 
 def reason_json(net: Network, reason: Any) -> dict:
-    return {"side": reason.side, "nodes": [net.nodes[it].text for it in reason.nodes], "required": reason.needed(),
+    return {"side": reason.side, "nodes": [net.nodes[number].text for number in reason.nodes], "required": reason.needed(),
             "possible": reason.given(), "short": reason.short(), "sentence": reason.headline(net),
-            "asks": [{"amount": it.amount, "what": it.text} for it in reason.asks],
-            "helps": [{"amount": it.amount, "what": it.text} for it in reason.helps]}
+            "asks": [{"amount": part.amount, "what": part.text} for part in reason.asks],
+            "helps": [{"amount": part.amount, "what": part.text} for part in reason.helps]}
 
 
 def change_json(change: Any) -> dict:
@@ -107,10 +107,10 @@ def change_json(change: Any) -> dict:
 def cut_json(side: str, cut: Sequence[str], reasons: Sequence, net: Network | None, changes: Any = None) -> dict:
     """Returns the object of a model without a plan, with its least changes if they are given and were computed."""
     found: dict = {"schema": SCHEMA, "status": "infeasible", "cut": {"side": side, "nodes": list(cut)}}
-    found["reasons"] = [reason_json(net, it) for it in reasons] if net is not None else []
+    found["reasons"] = [reason_json(net, reason) for reason in reasons] if net is not None else []
     if changes is not None and not changes.is_large:
         found["single_changes"] = list(map(change_json, changes.single))
-        found["least_changes"] = {kind: None if it is None else list(map(change_json, it)) for kind, it in changes.kinds.items()}
+        found["least_changes"] = {kind: None if changes_of_kind is None else list(map(change_json, changes_of_kind)) for kind, changes_of_kind in changes.kinds.items()}
     return found
 
 

@@ -45,9 +45,9 @@ def chosen(rows: list, columns: str) -> list:
     """Returns the columns by the titles of the first row, or by letters."""
     if not columns:
         return rows
-    titles = [it.text for it in rows[0]]
+    titles = [cell.text for cell in rows[0]]
     places = []
-    for name in (it.strip() for it in columns.split(",")):
+    for name in (name.strip() for name in columns.split(",")):
         if name in titles:
             places.append(titles.index(name))
         elif name.isalpha() and name.isupper() and len(name) <= 2 and column_number(name) < max(map(len, rows)):
@@ -55,7 +55,7 @@ def chosen(rows: list, columns: str) -> list:
         else:
             raise ProgramError(REJECTED, f"{rows[0][0].path}: no column is called {name!r}; it has {', '.join(filter(None, titles))}\n")
     width = max(map(len, rows))
-    return [[filled(row, width)[it] for it in places] for row in rows]
+    return [[filled(row, width)[index] for index in places] for row in rows]
 
 
 def as_set(name: str, rows: list, has_heading: bool) -> list:
@@ -66,7 +66,7 @@ def as_set(name: str, rows: list, has_heading: bool) -> list:
     width = len(rows[0]) if rows else 1
     lines: dict = {}
     for row in rows:
-        members = [it.member() for it in filled(row, width)]
+        members = [index.member() for index in filled(row, width)]
         lines.setdefault(members[0] if width == 1 else f"({','.join(members)})", row[0])
     if len(lines) < len(rows):
         sys.stderr.write(f"netflow-sheet: {rows[0][0].path}: members occur more than once and are written once: {len(lines)} of {len(rows)} rows\n")
@@ -75,7 +75,7 @@ def as_set(name: str, rows: list, has_heading: bool) -> list:
 
 def looks_like_heading(name: str, rows: list) -> bool:
     first = rows[0][0].text.lower()
-    return len(rows) > 1 and any(difflib.SequenceMatcher(None, first, it.lower()).ratio() > 0.75 for it in (name, stem(rows[0][0].path)))
+    return len(rows) > 1 and any(difflib.SequenceMatcher(None, first, other.lower()).ratio() > 0.75 for other in (name, stem(rows[0][0].path)))
 
 
 def as_list(rows: list, keys: int, members: str, scale: dict, has_comma: bool) -> list:
@@ -83,12 +83,12 @@ def as_list(rows: list, keys: int, members: str, scale: dict, has_comma: bool) -
     if not titles:
         rows[0][0].reject(f"is in the first row, which has {len(rows[0])} of at least {keys + 1} titles: the keys, then the parameters. "
                           "Is it a title of the sheet?")
-    names = [it.name() for it in titles]
-    body = [filled(it, len(rows[0])) for it in rows[1:]]
-    cells = [[it.value(scale.get(name, 1), has_comma) for name, it in zip(names, row[keys:])] for row in body]
+    names = [cell.name() for cell in titles]
+    body = [filled(row, len(rows[0])) for row in rows[1:]]
+    cells = [[cell.value(scale.get(name, 1), has_comma) for name, cell in zip(names, row[keys:])] for row in body]
     note_decimals(names, cells)
     note_points([cell for row in body for cell in row[keys:]])
-    lines = [" ".join([it.member() for it in row[:keys]] + values) for row, values in zip(body, cells)]
+    lines = [" ".join([cell.member() for cell in row[:keys]] + values) for row, values in zip(body, cells)]
     return [f"param: {members + ': ' if members else ''}{' '.join(names)} :=", *lines, ";"]
 
 
@@ -107,19 +107,19 @@ def note_decimals(names: Sequence[str], cells: list) -> None:
 
 def note_points(cells: list) -> None:
     """Reports the decimals of a text file that may be whole numbers with a point between groups of digits."""
-    found = [it for it in cells if GROUPED.fullmatch(it.text) and not it.path.lower().endswith(".xlsx")]
-    for it in found[:3]:
-        sys.stderr.write(f"netflow-sheet: {it.place()}: {it.text}: {meant(it.text)}\n")
+    found = [cell for cell in cells if GROUPED.fullmatch(cell.text) and not cell.path.lower().endswith(".xlsx")]
+    for cell in found[:3]:
+        sys.stderr.write(f"netflow-sheet: {cell.place()}: {cell.text}: {meant(cell.text)}\n")
     if len(found) > 3:
         sys.stderr.write(f"netflow-sheet: {len(found) - 3} more cells of {found[0].path} have such a point\n")
 
 
 def as_grid(name: str, rows: list, is_turned: bool, scale: dict, has_comma: bool) -> list:
-    columns = [it.member() for it in rows[0][1:]]
+    columns = [cell.member() for cell in rows[0][1:]]
     if not columns:
         rows[0][0].reject("has no column to its right")
-    body = [filled(it, len(rows[0])) for it in rows[1:]]
-    cells = [[it.value(scale.get(name, 1), has_comma) for it in row[1:]] for row in body]
+    body = [filled(row, len(rows[0])) for row in rows[1:]]
+    cells = [[cell.value(scale.get(name, 1), has_comma) for cell in row[1:]] for row in body]
     note_decimals([name] * len(columns), cells)
     note_points([cell for row in body for cell in row[1:]])
     lines = [" ".join([row[0].member(), *values]) for row, values in zip(body, cells)]

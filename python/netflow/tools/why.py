@@ -42,22 +42,22 @@ def rows(pairs: list, most: int) -> list:
 def part_rows(parts: list, most: int) -> list:
     """Returns the lines of a list of amounts; a long one by declaration, with the closed arcs first."""
     if len(parts) <= most:
-        return rows([(it.amount, it.text) for it in parts], most)
+        return rows([(part.amount, part.text) for part in parts], most)
     groups: dict = {}
-    for it in parts:
-        groups.setdefault(it.name, []).append(it)
-    found = [(sum(it.amount for it in group), group_text(name, group)) for name, group in groups.items()]
-    closed = [it for it in parts if it.is_arc and not it.amount]
+    for part in parts:
+        groups.setdefault(part.name, []).append(part)
+    found = [(sum(part.amount for part in group), group_text(name, group)) for name, group in groups.items()]
+    closed = [part for part in parts if part.is_arc and not part.amount]
     lines = rows(sorted(found, key=lambda pair: -pair[0]), most)
     if closed:
-        lines.append(f"    closed: {few([it.text[3:].rpartition(', which carries')[0] for it in closed], 5)}")
-    largest = [it for it in parts if it.amount][:5]
-    return [*lines, f"    the largest: {few([f'{it.text} ({it.amount})' for it in largest], 5)} (--all shows every line)"]
+        lines.append(f"    closed: {few([part.text[3:].rpartition(', which carries')[0] for part in closed], 5)}")
+    largest = [part for part in parts if part.amount][:5]
+    return [*lines, f"    the largest: {few([f'{part.text} ({part.amount})' for part in largest], 5)} (--all shows every line)"]
 
 
 def group_text(name: str, group: list) -> str:
     what = "arcs" if group[0].is_arc else "places"
-    closed = sum(not it.amount for it in group)
+    closed = sum(not part.amount for part in group)
     return f"{name}: {len(group)} {what[:-1] if len(group) == 1 else what}" + (f", {closed} of them 0" if closed and group[0].is_arc else "")
 
 
@@ -68,7 +68,7 @@ def reason_lines(net: Network, reason: Any, most: int) -> list:
     lines = [reason.headline(net), f"  {asked}, {reason.needed()} in all:", *part_rows(reason.asks, most)]
     lines += [f"  {helping}, {reason.given()} in all:", *part_rows(reason.helps, most)] if reason.helps else [f"  {none}"]
     if reason.idle and (len(reason.idle) <= most or not reason.helps):
-        lines += [f"  {other}:", *rows([("", it.text) for it in reason.idle], most)]
+        lines += [f"  {other}:", *rows([("", part.text) for part in reason.idle], most)]
     quiet = reason.quiet(net)
     return lines + ([f"  pass on what they get: {few(quiet, most)}"] if quiet else [])
 
@@ -79,20 +79,20 @@ def change_lines(net: Network, most: int) -> list:
     if found.is_large:
         return ["", "The least change with which there is a plan is not computed: the model is too large."]
     title = single_title(found.single) if found.single else "all shortages together:"
-    lines = ["", f"Least change with which there is a plan{':' if found.single else ','} {title}", *(f"    {it.sentence()}" for it in found.single)]
+    lines = ["", f"Least change with which there is a plan{':' if found.single else ','} {title}", *(f"    {change.sentence()}" for change in found.single)]
     for what, changes in found.others().items():
         lines.append(f"  {what}: none is enough" if changes is None else f"  {what}: {total(changes)} in all")
         if is_left_out(changes):
             lines[-1] += f". {left_out_text(net, changes, most)}"
             continue
-        listed = sorted(changes or [], key=lambda it: -it.amount)
-        lines += rows([(it.amount, it.sentence()) for it in listed], most)
+        listed = sorted(changes or [], key=lambda change: -change.amount)
+        lines += rows([(change.amount, change.sentence()) for change in listed], most)
     return lines + ["  (Each unit counts the same, and other changes may be as small.)"]
 
 
 def infeasible_lines(net: Network, found: list, most: int) -> list:
     """Returns the text of a model without a plan."""
-    lines = ["No plan.", *(it for line in opposite_sides(net) for it in ("", line))]
+    lines = ["No plan.", *(text for line in opposite_sides(net) for text in ("", line))]
     for reason in found[:most if most > SHOWN else SETS]:
         lines += ["", *reason_lines(net, reason, most)]
     if len(found) > SETS and most <= SHOWN:
@@ -106,14 +106,14 @@ class Gains:
     """What one more unit of a bound saves, of each arc at a bound: exactly if the network is small, else at most."""
 
     def __init__(self, net: Network, marginal: Marginal) -> None:
-        arcs = [it for it in net.arcs if it.is_full() or it.is_lowest()]
-        felt = [it for it in arcs if it.worth]
+        arcs = [arc for arc in net.arcs if arc.is_full() or arc.is_lowest()]
+        felt = [arc for arc in arcs if arc.worth]
         self.is_exact = len(net.arcs) * len(felt) <= EXACT_WORK
-        gain = (lambda it: arc_change(net, marginal.residual, it)) if self.is_exact else (lambda it: abs(it.worth))
+        gain = (lambda arc: arc_change(net, marginal.residual, arc)) if self.is_exact else (lambda arc: abs(arc.worth))
         self.residual = marginal.residual
-        self.felt = sorted(((gain(it), it) for it in felt), key=lambda pair: -pair[0])
-        self.free = [it for it in arcs if not it.worth] + [it for amount, it in self.felt if not amount]
-        self.felt = [(amount, it) for amount, it in self.felt if amount]
+        self.felt = sorted(((gain(arc), arc) for arc in felt), key=lambda pair: -pair[0])
+        self.free = [arc for arc in arcs if not arc.worth] + [arc for amount, arc in self.felt if not amount]
+        self.felt = [(amount, arc) for amount, arc in self.felt if amount]
 
     def limit(self, arc: Any) -> str:
         """Returns up to which bound the gain of an arc holds, in words; an empty text if it is not known."""
@@ -138,8 +138,8 @@ def better(net: Network) -> str:
 
 def bottleneck(net: Network, gains: Gains) -> list:
     """Returns the arcs of a minimum cut if the plan is a maximum flow: each is worth 1, and together they carry the value."""
-    cut = [it for it in net.arcs if it.is_full() and it.worth == -1]
-    if net.sign > 0 or not cut or any(it.worth not in (-1, 0) for _, it in gains.felt) or sum(it.upper for it in cut) != net.value:
+    cut = [arc for arc in net.arcs if arc.is_full() and arc.worth == -1]
+    if net.sign > 0 or not cut or any(arc.worth not in (-1, 0) for _, arc in gains.felt) or sum(arc.upper for arc in cut) != net.value:
         return []
     return cut
 
@@ -148,9 +148,9 @@ def bottleneck_lines(net: Network, gains: Gains, most: int) -> list:
     cut = bottleneck(net, gains)
     if not cut:
         return []
-    listed = sorted(cut, key=lambda it: -it.upper)
+    listed = sorted(cut, key=lambda arc: -arc.upper)
     return ["", f"Bottleneck: {len(cut)} {'arc' if len(cut) == 1 else 'arcs'}, {net.value} in all. No flow can be larger:",
-            *rows([(it.upper, f"{it.text} from {net.end(it.src)} to {net.end(it.dst)}") for it in listed], most)]
+            *rows([(arc.upper, f"{arc.text} from {net.end(arc.src)} to {net.end(arc.dst)}") for arc in listed], most)]
 
 
 def arc_lines(net: Network, gains: Gains, most: int) -> list:
@@ -160,17 +160,17 @@ def arc_lines(net: Network, gains: Gains, most: int) -> list:
     lines = ["", f"Arcs at a bound: {count} of {len(net.arcs)}. Arcs at their lower bound 0 are not counted."]
     title = f"  If the bound were one unit wider, the plan would {better(net)[:-1]}{'' if gains.is_exact else ' at most'}:"
     # Only the lines that are shown get a limit.
-    listed = [(amount, f"{it.text} {bound_text(it)}{gains.limit(it)}") for amount, it in gains.felt[:most]]
+    listed = [(amount, f"{arc.text} {bound_text(arc)}{gains.limit(arc)}") for amount, arc in gains.felt[:most]]
     lines += [title, *rows(listed + gains.felt[most:], most)] if gains.felt else []
     return lines + ([f"  A wider bound {better(net)} nothing at: {free_text(gains.free, most)}"] if gains.free else [])
 
 
 def free_text(arcs: list, most: int) -> str:
     if len(arcs) <= most:
-        return ", ".join(it.text for it in arcs)
+        return ", ".join(arc.text for arc in arcs)
     groups: dict = {}
-    for it in arcs:
-        groups[it.name] = groups.get(it.name, 0) + 1
+    for arc in arcs:
+        groups[arc.name] = groups.get(arc.name, 0) + 1
     return ", ".join(f"{name} ({count} arcs)" for name, count in groups.items())
 
 
@@ -207,12 +207,12 @@ class Place:
 
 def matched_lines(net: Network, marginal: Marginal, places: list, most: int) -> list:
     """Returns what pairs of changes cost, if what places need and give matches exactly, so that none can change alone."""
-    stuck = [it for it in places if it.side == "fixed" and it.wish and it.cost is None]
+    stuck = [place for place in places if place.side == "fixed" and place.wish and place.cost is None]
     if not stuck:
         return []
-    whole = len(stuck) == sum(it.side == "fixed" and bool(it.wish) for it in places)
-    lines = ["", f"What {'the places' if whole else few([it.node.text for it in stuck], 3)} need and give matches exactly: none can change alone."]
-    needing = sorted((it for it in stuck if not it.is_giver), key=lambda it: -abs(it.node.low))
+    whole = len(stuck) == sum(place.side == "fixed" and bool(place.wish) for place in places)
+    lines = ["", f"What {'the places' if whole else few([place.node.text for place in stuck], 3)} need and give matches exactly: none can change alone."]
+    needing = sorted((place for place in stuck if not place.is_giver), key=lambda place: -abs(place.node.low))
     for place in needing[:max(1, min(most, EXACT_WORK // max(1, len(net.arcs))))]:
         found = marginal.pair(place.number)
         if found is None:
@@ -227,11 +227,11 @@ def matched_lines(net: Network, marginal: Marginal, places: list, most: int) -> 
 def place_lines(net: Network, marginal: Marginal, most: int) -> list:
     places = [Place(net, marginal, number) for number in range(len(net.nodes))]
     matched = matched_lines(net, marginal, places, most)
-    felt = sorted((it for it in places if it.is_felt()), key=lambda it: -abs(it.cost))
+    felt = sorted((place for place in places if place.is_felt()), key=lambda place: -abs(place.cost))
     if not felt:
         return matched or ["", "One more unit at a place costs nothing, anywhere."]
     has_units = len(net.arcs) * len(felt[:most]) <= EXACT_WORK
-    lines = ["", "One unit more at a place:", *(it.line(net, it.units(marginal) if has_units else 0) for it in felt[:most])]
+    lines = ["", "One unit more at a place:", *(place.line(net, place.units(marginal) if has_units else 0) for place in felt[:most])]
     left = len(net.nodes) - len(felt[:most])
     others = f"    at the other {f'{left} places' if left > 1 else 'place'}: " + ("nothing" if len(felt) <= most else "--all shows them")
     return lines + ([others] if left and not matched else []) + matched
@@ -239,8 +239,8 @@ def place_lines(net: Network, marginal: Marginal, most: int) -> list:
 
 def warning_lines(net: Network) -> list:
     """Returns what is allowed and often a mistake: a value of 0, declarations of arcs without a price."""
-    unpriced = [name for name, arcs in net.declared().items() if not any(it.price for it in arcs)]
-    if net.arcs and not any(it.price for it in net.arcs):
+    unpriced = [name for name, arcs in net.declared().items() if not any(arc.price for arc in arcs)]
+    if net.arcs and not any(arc.price for arc in net.arcs):
         return ["", f"No arc has a price, so every plan is worth {net.value}: is `obj {net.objective} ..` missing?"]
     if net.value == 0:
         return ["", f"The value is 0. Without a price: {few(unpriced, 5)}." if unpriced else "The value is 0: the plan uses no arc with a price."]
@@ -256,7 +256,7 @@ def feasible_lines(net: Network, most: int) -> list:
     lines += place_lines(net, marginal, most) + warning_lines(net)
     if not gains.is_exact:
         last = "These changes are for the next unit; those of arcs are at most so much, since beyond it other arcs may become full."
-    elif any("; holds " in it for it in lines):
+    elif any("; holds " in line for line in lines):
         last = "These changes are exact for each unit as far as they hold; beyond that other arcs are full."
     else:
         last = "These changes are exact for the next unit; beyond it other arcs may become full."
@@ -273,7 +273,7 @@ def without_check(question: Question, problem: ProgramError) -> Question | None:
     place = sum(len(line) + 1 for line in lines[:int(found[1]) - 1])
     place += len(lines[int(found[1]) - 1].encode("utf-8", "surrogateescape")[:int(found[2]) - 1].decode("utf-8", "surrogateescape"))
     try:
-        decl = next(it for it in parse(text) if it.kind == "check" and it.start <= place <= it.end)
+        decl = next(decl for decl in parse(text) if decl.kind == "check" and decl.start <= place <= decl.end)
     except (StopIteration, Unparsed):
         return None
     blank = re.sub(r"[^\n]", " ", text[decl.start:decl.end + 1])
@@ -292,7 +292,7 @@ def answer_lines(net: Network, most: int) -> list:
 def text_lines(question: Question, net: Network, most: int) -> list:
     """Returns the answer with what is worth a look; below `No plan.` the numbers that may be the reason come first."""
     lines, grouped = answer_lines(net, most), lines_of_question(question)
-    odd = [*compared_texts(question.model.text(), [it.text() for it in question.data]), *remark_lines(question, net)]
+    odd = [*compared_texts(question.model.text(), [source.text() for source in question.data]), *remark_lines(question, net)]
     if net.cut is not None and grouped:
         lines[1:1] = ["", *grouped]
         grouped = []
@@ -303,10 +303,10 @@ def print_json(net: Network) -> None:
     if net.cut is None:
         found = plan_columns(net)
         found["nodes"]["one_more_costs"] = Marginal(net).more
-        found["arcs"]["reduced_cost"] = [it.worth for it in net.arcs]
+        found["arcs"]["reduced_cost"] = [arc.worth for arc in net.arcs]
     else:
         side, inside = net.cut
-        found = cut_json(side, [net.nodes[it].text for it in sorted(inside)], reasons(net, side, inside), net, least_changes(net))
+        found = cut_json(side, [net.nodes[number].text for number in sorted(inside)], reasons(net, side, inside), net, least_changes(net))
     print(dump_lines(found))
 
 
