@@ -1,11 +1,27 @@
 """The exceptions of this package."""
 from __future__ import annotations
 
-from typing import Any
+from typing import TYPE_CHECKING, Any
+
+if TYPE_CHECKING:
+    from .analysis.reasons import Reason
+    from .hints.diagnostic import Diagnostic
+    from .reading.network import Network
 
 
 class NetflowError(Exception):
-    """The base of all exceptions of this package."""
+    """The base of all exceptions of this package. All of them can be pickled."""
+
+    def __reduce__(self) -> tuple[Any, ...]:
+        return _rebuilt, (type(self), self.args, self.__dict__)
+
+
+def _rebuilt(kind: type[NetflowError], arguments: tuple[Any, ...], attributes: dict[str, Any]) -> NetflowError:
+    """Returns a copy of an exception, without its constructor, which takes other arguments than the message."""
+    error = kind.__new__(kind)
+    error.args = arguments
+    error.__dict__.update(attributes)
+    return error
 
 
 class ProgramError(NetflowError):
@@ -16,7 +32,7 @@ class ProgramError(NetflowError):
         super().__init__(message.rstrip("\n"))
         self.status, self.message = status, message
         self.line = line if line is not None else message
-        self.words: list = []
+        self.words: list[str] = []
 
 
 class Unreadable(NetflowError):
@@ -45,7 +61,7 @@ class ModelError(NetflowError, ValueError):
     the code, `hint` the most likely fix, `hints` all of them.
     """
 
-    def __init__(self, diagnostic: Any) -> None:
+    def __init__(self, diagnostic: Diagnostic) -> None:
         self.code, self.name, self.text = diagnostic.number, diagnostic.name, diagnostic.text
         self.file, self.line, self.column = diagnostic.called, diagnostic.line, diagnostic.line and diagnostic.column
         self.source, self.detail = diagnostic.shown, diagnostic.detail
@@ -57,7 +73,7 @@ class ModelError(NetflowError, ValueError):
         said = [f"{self.code} {self.name} {where}".rstrip(), *([f"    {self.source}"] if self.source.strip() else [])]
         super().__init__("\n".join([*said, *([self.hint] if self.hint else [])]))
 
-    def to_dict(self) -> dict:
+    def to_dict(self) -> dict[str, object]:
         """Returns the error as the documented JSON object."""
         return {"status": "error", "error": {
             "code": self.code, "name": self.name, "input": self.text, "file": self.file, "line": self.line or None,
@@ -69,7 +85,9 @@ class Infeasible(NetflowError):
     """No plan exists. `cut` are the names of the nodes that show it, `side` is `under` if they need more than can come and `over` if
     they have more than can leave; `reasons` are the smallest such sets, with amounts."""
 
-    def __init__(self, message: str, cut: list, side: str, reasons: list, network: Any = None) -> None:
+    def __init__(
+        self, message: str, cut: list[Any], side: str, reasons: list[Reason], network: Network | None = None
+    ) -> None:
         super().__init__(message)
         self.cut, self.side, self.reasons, self.network = cut, side, reasons, network
 
@@ -81,9 +99,9 @@ class Infeasible(NetflowError):
         from .tools.why import infeasible_lines
         return "\n".join(infeasible_lines(self.network, self.reasons, 20))
 
-    def to_dict(self) -> dict:
+    def to_dict(self) -> dict[str, object]:
         """Returns the documented JSON object."""
-        from .tools.json_objects import cut_json
+        from .report.json_objects import cut_json
         return cut_json(self.side, self.cut, self.reasons, self.network)
 
 

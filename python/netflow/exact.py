@@ -65,9 +65,14 @@ def decimal_text(number: Fraction) -> str:
     return f"{'-' if top < 0 else ''}{text[:-digits]}.{text[-digits:]}"
 
 
-def divided(number: int, factor: int) -> Number:
+def divided(number: Number, factor: int) -> Number:
     """Returns the number divided by the factor: an int if the factor is 1, else an Exact."""
     return number if factor == 1 else Exact(number, factor)
+
+
+def magnitude(number: Number) -> Number:
+    """Returns the absolute value of a number."""
+    return -number if number < 0 else number
 
 
 def parse_numeral(text: str) -> Fraction | None:

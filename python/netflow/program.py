@@ -9,9 +9,10 @@ import sys
 import tempfile
 import threading
 import weakref
-from typing import Any, Sequence
+from typing import Any, Iterator, Mapping, Sequence
 
 from .errors import ProgramError, Unreadable
+from .types import Path
 
 __all__ = ["Answer", "Session", "Unreadable", "call", "program", "problem_text", "ProgramError"]
 HERE = os.path.dirname(os.path.realpath(__file__))
@@ -30,7 +31,7 @@ class Answer:
     text: str
 
 
-def program(path: str | os.PathLike | None = None) -> str:
+def program(path: Path | None = None) -> str:
     """Returns the path of the program: the argument, $NETFLOW, the one of this package, or the one on the PATH."""
     named = os.fspath(path) if path else os.environ.get("NETFLOW")
     if named:
@@ -45,7 +46,7 @@ def program(path: str | os.PathLike | None = None) -> str:
     return on_path
 
 
-def _programs_on_path() -> Any:
+def _programs_on_path() -> Iterator[str]:
     """Yields each program `netflow` on the PATH that is not a Python script, such as the command of a wheel."""
     for folder in os.environ.get("PATH", os.defpath).split(os.pathsep):
         found = shutil.which("netflow", path=folder)
@@ -55,7 +56,7 @@ def _programs_on_path() -> Any:
                     yield found
 
 
-def _remove(paths: list) -> None:
+def _remove(paths: list[str]) -> None:
     for path in paths:
         try:
             os.unlink(path)
@@ -68,7 +69,7 @@ class Session:
 
     def __init__(self, files: Sequence[str], options: Sequence[str] = ()) -> None:
         self.options = list(options)
-        self.copies: list = []
+        self.copies: list[str] = []
         self.remove = weakref.finalize(self, _remove, self.copies)
         self.files = [self.lasting(path) for path in files]
 
@@ -122,17 +123,19 @@ class Patience:
         self.timer.cancel()
 
 
-def run(words: Sequence[str], text: str | None = None, path: str | os.PathLike | None = None) -> subprocess.CompletedProcess:
+def run(words: Sequence[str], text: str | None = None, path: Path | None = None) -> subprocess.CompletedProcess[str]:
     """Runs the program and returns what it printed, whatever its status."""
     name = program(path)
-    source: dict = {"stdin": subprocess.DEVNULL} if text is None else {"input": text}
+    source = subprocess.DEVNULL if text is None else None
     try:
-        return subprocess.run([name, *words], capture_output=True, encoding="utf-8", errors="surrogateescape", **source)
+        return subprocess.run(
+            [name, *words], stdin=source, input=text, capture_output=True, encoding="utf-8", errors="surrogateescape"
+        )
     except OSError as problem:
         raise ProgramError(USAGE, f"{name}: {problem.strerror}\n") from None
 
 
-def call(words: Sequence[str], text: str | None = None, path: str | os.PathLike | None = None) -> Answer:
+def call(words: Sequence[str], text: str | None = None, path: Path | None = None) -> Answer:
     """Runs the program; a rejected input raises ProgramError with its line and status."""
     done = run(words, text, path)
     if done.returncode not in (0, 2):
@@ -140,7 +143,7 @@ def call(words: Sequence[str], text: str | None = None, path: str | os.PathLike 
     return Answer(done.returncode, done.stdout)
 
 
-def problem_text(count: int, supplies: dict, arcs: Sequence[tuple]) -> str:
+def problem_text(count: int, supplies: Mapping[int, int], arcs: Sequence[tuple[int, int, int, int, int]]) -> str:
     """Returns a DIMACS problem: supplies by node number from 0, arcs as (source, target, lower, upper, cost)."""
     lines = [f"p min {count} {len(arcs)}"]
     lines += [f"n {node + 1} {supplies[node]}" for node in sorted(supplies) if supplies[node]]

@@ -8,9 +8,14 @@ from __future__ import annotations
 
 import heapq
 import math
-from typing import Any
+from typing import List, Optional, Tuple
 
-from ..reading.output import Network
+from ..reading.network import Arc, Network
+from ..types import Amount, Number
+
+# An arc of the residual network: a node, a reduced cost, and a capacity. Lengths are by node, None if there is no path.
+Step = Tuple[int, Number, Amount]
+Lengths = List[Optional[Number]]
 
 
 class Residual:
@@ -19,8 +24,8 @@ class Residual:
 
     def __init__(self, net: Network) -> None:
         self.net, self.outside = net, len(net.nodes)
-        self.out: list = [[] for _ in range(self.outside + 1)]
-        self.into: list = [[] for _ in range(self.outside + 1)]
+        self.out: list[list[Step]] = [[] for _ in range(self.outside + 1)]
+        self.into: list[list[Step]] = [[] for _ in range(self.outside + 1)]
         out, into, outside = self.out, self.into, self.outside
         for arc in net.arcs:
             flow, worth, lower = arc.flow, arc.worth, arc.lower
@@ -44,14 +49,14 @@ class Residual:
                 out[outside].append((number, -node.worth, below))
                 into[number].append((outside, -node.worth, below))
 
-    def worth(self, number: int) -> Any:
+    def worth(self, number: int) -> Number:
         return 0 if number == self.outside else self.net.nodes[number].worth
 
-    def labels(self, start: int, is_backward: bool = False) -> list:
+    def labels(self, start: int, is_backward: bool = False) -> Lengths:
         """Returns the least reduced cost from `start` to each node (or from each node to it); None if there is no path."""
         near = self.into if is_backward else self.out
-        found: list = [None] * (self.outside + 1)
-        heap = [(0, start)]
+        found: Lengths = [None] * (self.outside + 1)
+        heap: list[tuple[Number, int]] = [(0, start)]
         while heap:
             length, here = heapq.heappop(heap)
             if found[here] is not None:
@@ -62,36 +67,37 @@ class Residual:
                     heapq.heappush(heap, (length + more, there))
         return found
 
-    def costs(self, labels: list, start: int, is_backward: bool = False) -> list:
+    def costs(self, labels: Lengths, start: int, is_backward: bool = False) -> Lengths:
         """Returns the costs that belong to labels."""
         sign = -1 if is_backward else 1
         return [None if length is None else length + sign * (self.worth(number) - self.worth(start)) for number, length in enumerate(labels)]
 
-    def distances(self, start: int, is_backward: bool = False) -> list:
+    def distances(self, start: int, is_backward: bool = False) -> Lengths:
         """Returns the least cost from `start` to each node (or from each node to it); None if there is no path."""
         return self.costs(self.labels(start, is_backward), start, is_backward)
 
-    def units(self, start: int, end: int, labels: list, work: float = math.inf) -> Any:
+    def units(self, start: int, end: int, labels: Lengths, work: float = math.inf) -> Amount:
         """Returns how many units all cheapest paths from start to end carry together, infinity for any number; 0 if it takes more steps
         than `work`. `labels` are those of the start."""
         if start == end:
             return math.inf
-        rooms: dict = {}
+        rooms: dict[int, dict[int, Amount]] = {}
         line = [start]
         for here in line:
             if here not in rooms:
                 rooms[here] = {}
+                length = labels[here]
                 for there, more, room in self.out[here]:
-                    if labels[here] + more == labels[there]:
+                    if length is not None and length + more == labels[there]:
                         rooms[here][there] = rooms[here].get(there, 0) + room
                         line.append(there)
         return greatest_flow(rooms, start, end, work)
 
 
-def greatest_flow(rooms: dict, start: int, end: int, work: float) -> Any:
+def greatest_flow(rooms: dict[int, dict[int, Amount]], start: int, end: int, work: float) -> Amount:
     """Returns the greatest flow through arcs with these capacities, by shortest augmenting paths; 0 if it takes more steps than `work`.
     It changes the capacities."""
-    total = 0
+    total: Amount = 0
     while work > 0:
         before, line = {start: start}, [start]
         for here in line:
@@ -130,24 +136,28 @@ class Marginal:
         self.more = self.residual.costs(self.labels, self.residual.outside)[:-1]
         self.less = self.residual.distances(self.residual.outside, True)[:-1]
 
-    def units_more(self, number: int, work: float = math.inf) -> Any:
+    def units_more(self, number: int, work: float = math.inf) -> Amount:
         """Returns for how many more required units the cost holds; 0 if that takes more steps than `work`."""
         return self.residual.units(self.residual.outside, number, self.labels, work)
 
-    def units_less(self, number: int, work: float = math.inf) -> Any:
+    def units_less(self, number: int, work: float = math.inf) -> Amount:
         return self.residual.units(number, self.residual.outside, self.residual.labels(number), work)
 
-    def pair(self, number: int) -> tuple | None:
+    def pair(self, number: int) -> tuple[int, Number] | None:
         """Returns the giving node with which one more unit at the node has a plan, and the cost; None if there is none."""
         found = self.residual.distances(number, True)
-        givers = [(found[giver], giver) for giver, node in enumerate(self.net.nodes) if node.high < 0 and giver != number and found[giver] is not None]
+        givers = [
+            (cost, giver)
+            for giver, (node, cost) in enumerate(zip(self.net.nodes, found))
+            if node.high < 0 and giver != number and cost is not None
+        ]
         if not givers:
             return None
         cost, giver = min(givers)
         return giver, cost
 
 
-def arc_change(net: Network, residual: Residual, arc: Any) -> Any:
+def arc_change(net: Network, residual: Residual, arc: Arc) -> Number:
     """Returns what one more unit of an upper bound, or one less of a lower bound, really saves: 0 or more."""
     start, end = way_back(residual, arc)
     back = residual.distances(start)[end]
@@ -155,13 +165,13 @@ def arc_change(net: Network, residual: Residual, arc: Any) -> Any:
     return 0 if back is None else max(0, -(price + back))
 
 
-def arc_units(residual: Residual, arc: Any, work: float = math.inf) -> Any:
+def arc_units(residual: Residual, arc: Arc, work: float = math.inf) -> Amount:
     """Returns for how many units past its bound an arc saves as much as for the first; 0 if that takes more steps than `work`."""
     start, end = way_back(residual, arc)
     return residual.units(start, end, residual.labels(start), work)
 
 
-def way_back(residual: Residual, arc: Any) -> tuple:
+def way_back(residual: Residual, arc: Arc) -> tuple[int, int]:
     """Returns between which nodes a path has to carry a unit that the arc carries past its bound."""
     src, dst = (residual.outside if end is None else end for end in (arc.src, arc.dst))
     return (dst, src) if arc.is_full() else (src, dst)

@@ -6,6 +6,18 @@ is most short lacks, which no other change can do with less. So these changes ar
 from __future__ import annotations
 
 import math
+from typing import TYPE_CHECKING, Dict, Sequence, Tuple
+
+from ..reading.network import Network
+from ..types import Number
+
+if TYPE_CHECKING:
+    from .changes import Costless, Move
+
+# The name, the kind and the direction of bounds, the usual bound of each, and how likely a move is the right one (less is better).
+Group = Tuple[str, str, int]
+Usual = Dict[Group, Number]
+Rank = Tuple[bool, float]
 
 # How many bounds of one kind are listed and tried, and up to how many lines of problems they are tried.
 LISTED, TRIED, LINES = 5, 20, 300_000
@@ -14,16 +26,17 @@ LISTED, TRIED, LINES = 5, 20, 300_000
 class SingleMoves:
     """The search for bounds of a network without a plan, each of which is enough alone if it is moved by `amount`."""
 
-    def __init__(self, net, problem, amount):
-        side, inside = net.cut
+    def __init__(self, net: Network, problem: Costless, amount: Number) -> None:
+        side, inside = net.cut if net.cut is not None else ("", set())
         # A set with an open side is short only as long as the bounds of its arcs are what they are.
         is_open = any(net.nodes[number].is_low_open if side == "under" else net.nodes[number].is_high_open for number in inside)
         self.problem, self.amount, self.cuts = problem, amount, [] if is_open else [(side, {number + 1 for number in inside})]
 
-    def found(self, moves, flows):
+    def found(self, moves: Sequence[Move], flows: Sequence[int]) -> list[tuple[Rank, Move]]:
         """Returns pairs of a rank and a move, the best rank first. `flows` say how far a least change moves each bound."""
         known = [move for move, flow in zip(moves, flows) if flow]
-        usual, found, tried = usual_bounds(moves), [], 0
+        found: list[tuple[Rank, Move]] = []
+        usual, tried = usual_bounds(moves), 0
         candidates = [(self.rank(move, usual), move) for move in moves if self.is_sensible(move) and self.helps(move)]
         for rank, move in sorted(candidates, key=lambda pair: pair[0]):
             if len(found) == LISTED or tried > min(TRIED, LINES // self.problem.size):
@@ -39,33 +52,33 @@ class SingleMoves:
                 self.cuts.append(cut)
         return found
 
-    def rank(self, move, usual):
+    def rank(self, move: Move, usual: Usual) -> Rank:
         """Returns the rank of a move: the oddest bound comes first, and a place that would need or give nothing at all last."""
         return move.was + move.sign * self.amount == 0 and move.is_node, -oddness(move, usual)
 
-    def is_sensible(self, move):
+    def is_sensible(self, move: Move) -> bool:
         """Whether the moved bound does not change its sign: a place that needs something does not have to give."""
         return move.was < 0 or move.was + move.sign * self.amount >= 0
 
-    def helps(self, move):
+    def helps(self, move: Move) -> bool:
         """Whether the move helps each known set that is short."""
         src, dst = map(int, move.ends.split(" "))
         return all((dst in inside and src not in inside) if side == "under" else (src in inside and dst not in inside) for side, inside in self.cuts)
 
 
-def usual_bounds(moves):
+def usual_bounds(moves: Sequence[Move]) -> Usual:
     """Returns the middle one of the bounds of a declaration, by kind and direction, if there are more than two."""
-    groups = {}
+    groups: dict[Group, list[Number]] = {}
     for move in moves:
         groups.setdefault(group_of(move), []).append(move.was)
     return {group: sorted(bounds)[len(bounds) // 2] for group, bounds in groups.items() if len(bounds) > 2}
 
 
-def group_of(move):
+def group_of(move: Move) -> Group:
     return move.text.partition("[")[0], move.what, move.sign
 
 
-def oddness(move, usual):
+def oddness(move: Move, usual: Usual) -> float:
     """Returns how many times a bound is above the usual one, or below it if it has to be raised; 1 if it is not known."""
     other = usual.get(group_of(move), move.was)
     large, small = (move.was, other) if move.sign < 0 else (other, move.was)

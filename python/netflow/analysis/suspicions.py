@@ -2,20 +2,20 @@
 from __future__ import annotations
 
 import re
-from typing import Any
 
+from ..inputs.instance import Instance
 from ..reading.model import Shapes, Unparsed, parse
-from ..reading.output import Network
+from ..reading.network import Network, Node
 
 
-def remark_lines(question: Any, net: Network) -> list:
-    model, data = question.model.text(), [source.text() for source in question.data]
+def remark_lines(instance: Instance, net: Network) -> list[str]:
+    model, data = instance.model.text(), [source.text() for source in instance.data]
     return [*limits_without_effect(net), *without_arcs(net, model, data)]
 
 
-def limits_without_effect(net: Network) -> list:
+def limits_without_effect(net: Network) -> list[str]:
     """Returns a line for each declaration of nodes whose condition is one limit that no flow can reach, since no arc leads that way."""
-    groups: dict = {}
+    groups: dict[str, dict[int, Node]] = {}
     for number, node in enumerate(net.nodes):
         groups.setdefault(node.text.partition("[")[0], {})[number] = node
     owners = {number: name for name, nodes in groups.items() for number in nodes}
@@ -32,7 +32,7 @@ def limits_without_effect(net: Network) -> list:
     return lines
 
 
-def without_arcs(net: Network, model: str, data: list) -> list:
+def without_arcs(net: Network, model: str, data: list[str]) -> list[str]:
     """Returns a line for each declaration of arcs that has no arc, with a set of its braces that the data give no member."""
     try:
         shapes = Shapes(parse(model), model)

@@ -4,14 +4,15 @@ from __future__ import annotations
 import difflib
 import os
 import re
-from typing import Any, Iterator
+from typing import Iterator
 
+from ..reading.text import TOKEN, Token, tokens
+from .diagnostic import Diagnostic
+from .hint import Hints, HintTable
 from .keys import heading_place, near, outside_set
 from .tables import heading_fault
-from .values import misspelt_statement, missing_in_set
-from ..reading.text import TOKEN, tokens
+from .values import missing_in_set, misspelt_statement
 
-Hint = Iterator[tuple]
 DECLARING = {"set", "param", "check", "node", "arc", "minimize", "maximize"}
 MEMBER = re.compile(r"'(?:[^']|'')*'|-?\d+")
 
@@ -20,7 +21,7 @@ def bare(text: str) -> str:
     return text[1:-1].replace("''", "'") if text[:1] == "'" else text
 
 
-def sheet(diagnostic: Any) -> Hint:
+def sheet(diagnostic: Diagnostic) -> Hints:
     """Data that are a CSV file: the first line has commas and no `:=`."""
     lines = [line for line in diagnostic.texts.get("data", "").split("\n") if line.strip()]
     first = lines[0] if lines else ""
@@ -28,13 +29,13 @@ def sheet(diagnostic: Any) -> Hint:
         yield "the data are a CSV file: `netflow-sheet list FILE.csv` makes data of it", True
 
 
-def joined(diagnostic: Any) -> Hint:
+def joined(diagnostic: Diagnostic) -> Hints:
     if diagnostic.text == "data" and diagnostic.word() in ("data", "end") and len(diagnostic.statement()) <= 2:
         place = "first" if diagnostic.word() == "data" else "last"
         yield f"{diagnostic.word()}; is allowed only as the {place} statement: are two data files joined? Give both to the tools", True
 
 
-def unended_statement(diagnostic: Any) -> Hint:
+def unended_statement(diagnostic: Diagnostic) -> Hints:
     """A line that begins as a statement inside another one."""
     whole = diagnostic.statement() if diagnostic.text == "data" else []
     first = whole[0].row if whole else 0
@@ -47,7 +48,7 @@ def unended_statement(diagnostic: Any) -> Hint:
         yield f"is set or param missing before {whole[0].text}?", True
 
 
-def doubled(diagnostic: Any) -> Hint:
+def doubled(diagnostic: Diagnostic) -> Hints:
     words, here = [word[0] for word in TOKEN.finditer(diagnostic.before)][-2:], diagnostic.word()
     if here == ";" and words[-1:] == [";"]:
         yield "is this ; one too many?", True
@@ -57,13 +58,13 @@ def doubled(diagnostic: Any) -> Hint:
         yield f"is {words[0]} written twice?", True
 
 
-def uneven(diagnostic: Any) -> Hint:
+def uneven(diagnostic: Diagnostic) -> Hints:
     """Rows of a table or list with another number of cells than is expected, or than most have."""
     whole = diagnostic.statement() if diagnostic.text == "data" and not diagnostic.is_change() else []
     cut = next((here for here, token in enumerate(whole) if token.text == ":="), None)
     if cut is None or re.fullmatch(r"\d+-\d+", diagnostic.word()):
         return
-    rows: dict = {}
+    rows: dict[int, list[Token]] = {}
     for token in whole[cut + 1:]:
         if token.text != ";":
             rows.setdefault(token.row, []).append(token)
@@ -86,14 +87,14 @@ def uneven(diagnostic: Any) -> Hint:
         yield f"{diagnostic.line_text(row)} has {cells[row]} cells, and {usual} are expected" + (": is a comma part of a number?" if comma else ""), True
 
 
-def wanted_cells(head: list) -> int:
+def wanted_cells(head: list[Token]) -> int:
     """Returns the cells of a row of `param NAME: COLUMN .. :=`; 0 if the heading does not say."""
     marks = [here for here, token in enumerate(head) if token.text == ":"]
     named = len(marks) == 1 and marks[0] > 1
     return sum(token.text != "," for token in head[marks[0] + 1:]) + 1 if named else 0
 
 
-def misfit(diagnostic: Any, head: list, cells: list) -> str:
+def misfit(diagnostic: Diagnostic, head: list[Token], cells: list[Token]) -> str:
     """In a list whose rows are not one a line: the first row with a text for a number, with the number of keys that fits best."""
     marks = [here for here, token in enumerate(head) if token.text == ":"]
     values = sum(token.text != "," for token in head[marks[-1] + 1:]) if marks else 1
@@ -111,7 +112,7 @@ def misfit(diagnostic: Any, head: list, cells: list) -> str:
     return f"in {diagnostic.line_text(cells[place].row)} the cells from {cells[place].text} on do not fit: is a cell missing there, or one too many before?"
 
 
-def fitting(rows: list, keys: int, size: int) -> int:
+def fitting(rows: list[list[Token]], keys: int, size: int) -> int:
     """Returns how many cells come before the first row that is short or has a text for a value."""
     count = 0
     for row in rows:
@@ -121,7 +122,7 @@ def fitting(rows: list, keys: int, size: int) -> int:
     return count
 
 
-def named(diagnostic: Any) -> set:
+def named(diagnostic: Diagnostic) -> set[str]:
     """Returns the words of the data that name members outside the error's line: of sets, of headings, and at the start of rows."""
     found, word, is_heading, last = set(), "", False, 0
     for token in tokens(diagnostic.texts.get("data", "")):
@@ -137,9 +138,9 @@ def named(diagnostic: Any) -> set:
     return found
 
 
-def listed(diagnostic: Any) -> dict:
+def listed(diagnostic: Diagnostic) -> dict[str, list[Token]]:
     """Returns the members that the data list for each set, as tokens."""
-    found: dict = {}
+    found: dict[str, list[Token]] = {}
     words = list(tokens(diagnostic.texts.get("data", "")))
     for here in range(len(words) - 2):
         if words[here].text == "set" and words[here + 2].text == ":=":
@@ -151,7 +152,7 @@ def listed(diagnostic: Any) -> dict:
     return found
 
 
-def unknown_member(diagnostic: Any) -> Hint:
+def unknown_member(diagnostic: Diagnostic) -> Hints:
     """A key of sets that are not plain with a member that no set lists: it is misspelt; else perhaps the members are exchanged."""
     if list(outside_set(diagnostic)) or list(missing_in_set(diagnostic)):
         return
@@ -169,12 +170,12 @@ def unknown_member(diagnostic: Any) -> Hint:
         yield "are the two members exchanged? In a table (tr) before the : turns rows and columns", False
 
 
-def declared(diagnostic: Any) -> set:
+def declared(diagnostic: Diagnostic) -> set[str]:
     words = diagnostic.words("model")
     return {words[here + 1] for here in range(len(words) - 1) if words[here] in DECLARING}
 
 
-def indices(words: list) -> Iterator[str]:
+def indices(words: list[Token]) -> Iterator[str]:
     """Yields the indices that braces declare: the names before `in`, in parentheses too."""
     for here, token in enumerate(words):
         if token.text != "in" or not here:
@@ -186,22 +187,22 @@ def indices(words: list) -> Iterator[str]:
         yield from (part.text for part in words[at:here] if re.fullmatch(r"[A-Za-z_]\w*", part.text))
 
 
-def declared_below(diagnostic: Any, name: str) -> int:
+def declared_below(diagnostic: Diagnostic, name: str) -> int:
     """Returns the line after the error in which a name is declared; 0 if there is none."""
     words = list(tokens(diagnostic.texts.get("model", "")))
     return next((token.row for before, token in zip(words, words[1:]) if before.text in DECLARING and token.text == name and token.row > diagnostic.row), 0)
 
 
-def declared_as(diagnostic: Any, kind: str) -> set:
+def declared_as(diagnostic: Diagnostic, kind: str) -> set[str]:
     words = diagnostic.words("model")
     return {name for word, name in zip(words, words[1:]) if word == kind}
 
 
-def members_in_data(diagnostic: Any) -> set:
+def members_in_data(diagnostic: Diagnostic) -> set[str]:
     return {token.bare() for row in listed(diagnostic).values() for token in row}
 
 
-def late(diagnostic: Any) -> Hint:
+def late(diagnostic: Diagnostic) -> Hints:
     """A name that is declared after its use."""
     row, statement = declared_below(diagnostic, diagnostic.detail), diagnostic.statement()
     if not row or diagnostic.text != "model" or not statement:
@@ -214,10 +215,10 @@ def late(diagnostic: Any) -> Hint:
         yield f"{diagnostic.detail} is declared below, in line {row}: move that declaration up", True
 
 
-def changed_kind(diagnostic: Any) -> Hint:
+def changed_kind(diagnostic: Diagnostic) -> Hints:
     """A change whose value is a text for a number, or the other way round."""
-    if diagnostic.is_change():
-        name, _, value = diagnostic.question.value_at(diagnostic.row)
+    if diagnostic.instance is not None and diagnostic.is_change():
+        name, _, value = diagnostic.instance.value_at(diagnostic.row)
         if isinstance(value, str) and re.fullmatch(r"[+-]?\d+,\d+", value):
             yield f"{value}: is {value.replace(',', '.')} meant? Decimals have a point", True
         elif isinstance(value, str):
@@ -226,7 +227,7 @@ def changed_kind(diagnostic: Any) -> Hint:
             yield f"{name} is symbolic: give a text, not a number", True
 
 
-def almost_number(diagnostic: Any) -> Hint:
+def almost_number(diagnostic: Diagnostic) -> Hints:
     word = diagnostic.word().rstrip(";")
     meant = word.translate(str.maketrans("OoIl", "0011"))
     if diagnostic.text == "data" and meant != word and meant.isdigit():
@@ -235,28 +236,28 @@ def almost_number(diagnostic: Any) -> Hint:
         yield "for no limit write a number that no plan reaches, or call a tool with --bounds", True
 
 
-def large_number(diagnostic: Any) -> Hint:
+def large_number(diagnostic: Diagnostic) -> Hints:
     yield "if it means no limit, write a number that no plan reaches, such as the sum of all supplies", False
 
 
-def gain(diagnostic: Any) -> Hint:
+def gain(diagnostic: Diagnostic) -> Hints:
     """A number after an end of an arc."""
     is_end = re.search(r"\b(?:from|to)\s+\w+(?:\[[^\]]*\])?\s*$", diagnostic.before)
     if diagnostic.text == "model" and is_end and diagnostic.word() not in declared_as(diagnostic, "node"):
         yield "a number after an end of an arc is a gain, and no network has gains: what leaves one end arrives at the other", True
 
 
-def fraction(diagnostic: Any) -> Hint:
+def fraction(diagnostic: Diagnostic) -> Hints:
     word = diagnostic.word().rstrip(",;")
     if diagnostic.text == "data" and re.fullmatch(r"[0-9]{1,3}(\.[0-9]{3})+", word):
         yield f"{word}: is {word.replace('.', '')} meant? A point begins decimals", False
-    if diagnostic.question is None:
+    if diagnostic.instance is None:
         yield "the tools and Python take decimals: netflow-sheet plan MODEL DATA --grid", False
     elif diagnostic.text == "data" and not diagnostic.is_change():
         yield f"decimals are scaled in values; a member or a key with a point needs quotes: '{word}'", False
 
 
-def comma_in_number(diagnostic: Any) -> Hint:
+def comma_in_number(diagnostic: Diagnostic) -> Hints:
     """A second value after a comma."""
     before = diagnostic.before.rstrip()
     if diagnostic.text == "data" and before.endswith(",") and re.search(r"\d\s*,$", before) and diagnostic.word()[:1].isdigit():
@@ -268,13 +269,13 @@ def comma_in_number(diagnostic: Any) -> Hint:
             yield f"is the comma part of a number? Decimals have a point: {first}.{second}", True
 
 
-def speaking(diagnostic: Any) -> Hint:
+def speaking(diagnostic: Diagnostic) -> Hints:
     """The lines of the data that name what the detail names; those with its whole key, if there are such."""
     name, _, key = diagnostic.detail.partition("[")
     members = {bare(part) for part in MEMBER.findall(key)}
     if diagnostic.text != "model" or not name or not diagnostic.texts.get("data"):
         return
-    rows: dict = {}
+    rows: dict[int, set[str]] = {}
     inside, first = False, 0
     for token in tokens(diagnostic.texts["data"]):
         inside = token.text != ";" and (inside or token.text == name)
@@ -282,13 +283,13 @@ def speaking(diagnostic: Any) -> Hint:
         if inside:
             rows.setdefault(token.row, set()).add(token.bare())
     whole = [row for row, words in rows.items() if members and members <= words]
-    whole = [row for row in whole if diagnostic.question is not None and diagnostic.question.change_at(row)] or whole
+    whole = [row for row in whole if diagnostic.instance is not None and diagnostic.instance.change_at(row)] or whole
     some = sorted((row for row, words in rows.items() if members & words), key=lambda row: -len(members & rows[row]))
     if rows:
-        yield f"see {name} in {diagnostic.rows_text((whole or some or [first])[:3])}{'' if diagnostic.question is not None and diagnostic.question.change_at(first) else ' of the data'}", False
+        yield f"see {name} in {diagnostic.rows_text((whole or some or [first])[:3])}{'' if diagnostic.instance is not None and diagnostic.instance.change_at(first) else ' of the data'}", False
 
 
-def no_data(diagnostic: Any) -> Hint:
+def no_data(diagnostic: Diagnostic) -> Hints:
     if diagnostic.text != "model" or list(tokens(diagnostic.texts.get("data", ""))):
         return
     if diagnostic.known_paths.get("data") in (None, os.devnull):
@@ -297,7 +298,7 @@ def no_data(diagnostic: Any) -> Hint:
         yield "the data are empty: is the second file the right one?", True
 
 
-def failed_check(diagnostic: Any) -> Hint:
+def failed_check(diagnostic: Diagnostic) -> Hints:
     words = [token.text for token in diagnostic.statement()]
     text, again = " ".join(words).replace("> =", ">=").replace("< =", "<="), "netflow-why MODEL DATA asks again without this check"
     signs = [found[0] for found in re.finditer(r"<=|>=|<>|!=|(?<!:)=|<|>", text.replace(":=", ""))]
@@ -311,7 +312,7 @@ def failed_check(diagnostic: Any) -> Hint:
         yield again, False
 
 
-HINTS: tuple = (
+HINTS: HintTable = (
     (("E20", "E01", "E21"), sheet),
     (("E20",), joined),
     (("E20",), doubled),

@@ -3,11 +3,14 @@ from __future__ import annotations
 
 import os
 import re
-from typing import Any, Iterator, Sequence
+from typing import TYPE_CHECKING, Iterator, Sequence
 
 from ..errors import ProgramError
 from ..program import HERE
 from ..reading.text import TOKEN, Token, read, tokens
+
+if TYPE_CHECKING:
+    from ..inputs.instance import Instance
 
 LINE = re.compile(r"(E\d\d) (\w+)(?: (model|data|problem|certificate)(?: (\d+)(?::(\d+))?(?: (.*))?)?)?", re.S)
 TEXTS = {"solve": ("model", "data"), "compile": ("model", "data"), "min": ("problem",), "check": ("problem", "certificate")}
@@ -20,7 +23,7 @@ REMEDY = re.compile(r"Fix: ")
 class Diagnostic:
     """An error line with the inputs of its call: `paths` are the files, `names` what the user calls them."""
 
-    def __init__(self, line: str, command: str, paths: list, names: list, texts: dict | None = None) -> None:
+    def __init__(self, line: str, command: str, paths: Sequence[str | None], names: Sequence[str | None], texts: dict[str, str] | None = None) -> None:
         found = LINE.fullmatch(line.rstrip("\n"))
         if found is None:
             raise ValueError(f"{line!r} is no error line of netflow")
@@ -30,14 +33,14 @@ class Diagnostic:
         self.path, self.called = dict(zip(kinds, paths)).get(self.text), dict(zip(kinds, names)).get(self.text)
         self.texts = texts if texts is not None else {kind: read(path) for kind, path in zip(kinds, paths)}
         self.known_paths, self.asked = dict(zip(kinds, paths)), (command, paths, names)
-        self.question: Any = None
+        self.instance: Instance | None = None
         lines = self.texts.get(self.text, "").split("\n")
         self.shown = lines[self.row - 1].rstrip("\r") if 0 < self.row <= len(lines) else ""
         raw = self.shown.encode("utf-8", "surrogateescape")
         self.before = raw[:max(self.column - 1, 0)].decode("utf-8", "surrogateescape")
 
     @classmethod
-    def of_question(cls, problem: ProgramError, question: Any) -> "Diagnostic | None":
+    def of_instance(cls, problem: ProgramError, instance: Instance) -> Diagnostic | None:
         """Returns the diagnostic of a question's error; None if its line is no error line."""
         line = problem.line
         unread = re.match(r"(E90 \w+ \w+): (.*): [^:]*$", line.split("\n")[0])
@@ -45,33 +48,33 @@ class Diagnostic:
         found = LINE.fullmatch(line)
         if not found:
             return None
-        data = question.data or []
-        texts = {"model": question.model.text(), "data": "\n".join([*(source.text() for source in data), question.changed_text])}
-        paths, names = ([getattr(question.model, kind), getattr(data[0], kind) if data else None] for kind in ("path", "name"))
+        data = instance.data or []
+        texts = {"model": instance.model.text(), "data": "\n".join([*(source.text() for source in data), instance.changed_text])}
+        paths, names = ([getattr(instance.model, kind), getattr(data[0], kind) if data else None] for kind in ("path", "name"))
         made = cls(line, "solve", paths, names, texts)
-        made.question = question
+        made.instance = instance
         if unread:
             made.path = made.called = unread[2]
         elif made.text == "data" and made.row:
-            made.called = question.source_of(made.row)[0]
+            made.called = instance.source_of(made.row)[0]
             if made.is_change():
-                made.shown, made.before = question.written(made.row), ""
+                made.shown, made.before = instance.written(made.row), ""
         return made
 
     def another(self, line: str) -> "Diagnostic":
         """Returns the diagnostic of another error line for the same inputs."""
         made = Diagnostic(line, *self.asked, self.texts)
-        made.question = self.question
+        made.instance = self.instance
         return made
 
     @property
     def line(self) -> int:
         """The line in the user's file; `row` is the one in the joined data. 0 if the place is no line of a file."""
-        return self.question.source_of(self.row)[1] if self.question is not None and self.text == "data" and self.row else self.row
+        return self.instance.source_of(self.row)[1] if self.instance is not None and self.text == "data" and self.row else self.row
 
     def change(self) -> str:
         """Returns in words the change, by an option or from Python, that has the error; an empty text if a file has it."""
-        return self.question.change_at(self.row) if self.question is not None and self.text == "data" and self.row else ""
+        return self.instance.change_at(self.row) if self.instance is not None and self.text == "data" and self.row else ""
 
     def is_change(self) -> bool:
         return bool(self.change())
@@ -82,14 +85,14 @@ class Diagnostic:
 
     def rows_text(self, rows: Sequence[int]) -> str:
         """Returns lines of the data in words: `line 4, 5`. Of several files it names each that is not the error's; a change has its own place."""
-        if self.question is None:
+        if self.instance is None:
             return f"line {', '.join(map(str, rows))}"
-        files: dict = {}
+        files: dict[tuple[str | None, str], list[str]] = {}
         for row in rows:
-            path, line = self.question.source_of(row)
-            files.setdefault((path, self.question.change_at(row)), []).append(str(line))
+            path, line = self.instance.source_of(row)
+            files.setdefault((path, self.instance.change_at(row)), []).append(str(line))
         here = self.called if self.text == "data" else None
-        is_lone = len(self.question.data) < 2
+        is_lone = len(self.instance.data) < 2
         return ", ".join(change or f"line {', '.join(lines)}{'' if is_lone or path == here else f' of {path}'}" for (path, change), lines in files.items())
 
     def line_text(self, row: int) -> str:
@@ -103,9 +106,9 @@ class Diagnostic:
         found = TOKEN.match(self.at())
         return found[0] if found else ""
 
-    def statement(self) -> list:
+    def statement(self) -> list[Token]:
         """Returns the tokens of the statement that contains the place: from the last `;` before it to the next one."""
-        whole: list = []
+        whole: list[Token] = []
         for token in self.tokens_before():
             whole = [] if whole and whole[-1].text == ";" else whole
             whole.append(token)
@@ -118,23 +121,23 @@ class Diagnostic:
                 break
         return whole
 
-    def statement_before(self) -> list:
+    def statement_before(self) -> list[Token]:
         """Returns the tokens of the statement before the place."""
-        found: list = []
+        found: list[Token] = []
         for token in self.tokens_before():
             found = [] if found and found[-1].text == ";" else found
             found.append(token)
         return [] if found and found[-1].text == ";" else found
 
-    def words(self, kind: str) -> list:
+    def words(self, kind: str) -> list[str]:
         return [token.bare() for token in tokens(self.texts.get(kind, ""))]
 
-    def tokens_before(self) -> list:
+    def tokens_before(self) -> list[Token]:
         """Returns the tokens of the input before the place."""
         text = "\n".join([*self.texts.get(self.text, "").split("\n")[:self.row - 1], self.before])
         return list(tokens(text))
 
-    def catalogue(self) -> list:
+    def catalogue(self) -> list[str]:
         """Returns what the code means and how to fix it, without advice on words that the line does not have."""
         means, remedy = catalogue(self.number)
         if self.number == "E10":
@@ -144,12 +147,12 @@ class Diagnostic:
             remedy = " ".join(kept)
         return [means, remedy]
 
-    def graded_hints(self) -> Iterator[tuple]:
+    def graded_hints(self) -> Iterator[tuple[str, bool]]:
         """Yields hints, each with whether it is sure."""
         from .engine import hints_of
         yield from hints_of(self)
 
-    def hints(self) -> list:
+    def hints(self) -> list[str]:
         """Returns the hints, sure ones first; if one is sure, only those that are."""
         found = list(dict.fromkeys(self.graded_hints()))
         sure = [text for text, is_sure in found if is_sure]
@@ -159,7 +162,7 @@ class Diagnostic:
         return any(is_sure for _, is_sure in self.graded_hints())
 
 
-def catalogue(number: str) -> list:
+def catalogue(number: str) -> list[str]:
     """Returns the first paragraph of a code's section, and its list item "Fix:"; empty texts without the page."""
     for place in PAGES:
         found = re.search(rf"(?ms)^## {number} \w+\n\n(.*?)(?=^## |\Z)", read(os.path.normpath(os.path.join(HERE, place))))

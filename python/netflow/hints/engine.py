@@ -8,8 +8,8 @@ import difflib
 import os
 import re
 import unicodedata
-from typing import Iterator
 
+from ..reading.text import TOKEN, tokens
 from . import data as hints_data
 from . import forms as hints_forms
 from . import keys as hints_keys
@@ -23,28 +23,27 @@ from . import tables as hints_tables
 from . import values as hints_values
 from .ampl import KEYWORDS, MEANT, REPLACEMENTS
 from .diagnostic import DECLARING, Diagnostic
-from ..reading.text import TOKEN, tokens
+from .hint import Hints, HintTable
 
-Hint = Iterator[tuple]
 FUNCTIONS = {"card", "abs", "next", "prev", "first", "last"}
 SIDE = r"(?:[^,;\[\]]|\[[^\]]*\])+?"
 PAIRS = {")": "(", "]": "[", "}": "{"}
 
 
-def hints_of(diagnostic: Diagnostic) -> Hint:
+def hints_of(diagnostic: Diagnostic) -> Hints:
     """Yields the hints for an error. Some leave no doubt, and come without others, which would be wrong next to them."""
     alone = [found for numbers, hint in (*hints_numbers.ALONE, *hints_tables.ALONE, *hints_network.ALONE) if diagnostic.number in numbers for found in hint(diagnostic)]
     yield from alone[:1] or all_hints(diagnostic)
 
 
-def all_hints(diagnostic: Diagnostic) -> Hint:
+def all_hints(diagnostic: Diagnostic) -> Hints:
     for numbers, hint in (*hints_syntax.HINTS, *hints_forms.HINTS, *hints_sets.HINTS, *HINTS, *hints_keys.HINTS, *hints_values.HINTS,
                           *hints_names.HINTS, *hints_data.HINTS, *hints_sizes.HINTS):
         if diagnostic.number in numbers:
             yield from hint(diagnostic)
 
 
-def unread_file(diagnostic: Diagnostic) -> Hint:
+def unread_file(diagnostic: Diagnostic) -> Hints:
     path = diagnostic.path if diagnostic.path is not None else ""
     try:
         with open(path, "rb") as file:
@@ -73,7 +72,7 @@ def spreadsheet(diagnostic: Diagnostic) -> str:
     return f"this is a spreadsheet (.xlsx): `netflow-sheet list {name}` makes data of it"
 
 
-def odd_character(diagnostic: Diagnostic) -> Hint:
+def odd_character(diagnostic: Diagnostic) -> Hints:
     character = diagnostic.at()[:1]
     found = spreadsheet(diagnostic)
     if found:
@@ -90,7 +89,7 @@ def odd_character(diagnostic: Diagnostic) -> Hint:
         yield f"the character is {unicodedata.name(character, 'one without a name')} (U+{ord(character):04X})", False
 
 
-def not_utf8(diagnostic: Diagnostic) -> Hint:
+def not_utf8(diagnostic: Diagnostic) -> Hints:
     raw, found = diagnostic.texts.get(diagnostic.text, "").encode("utf-8", "surrogateescape")[:2], spreadsheet(diagnostic)
     if found:
         yield found, True
@@ -100,7 +99,7 @@ def not_utf8(diagnostic: Diagnostic) -> Hint:
         yield "the file is perhaps Latin-1 or Windows-1252: save it as UTF-8, or use iconv -f latin1 -t utf-8", False
 
 
-def replaced_word(diagnostic: Diagnostic) -> Hint:
+def replaced_word(diagnostic: Diagnostic) -> Hints:
     """A word or mark of AMPL that netflow lacks."""
     word = diagnostic.detail if diagnostic.detail in REPLACEMENTS else diagnostic.word()
     if diagnostic.text != "model":
@@ -131,7 +130,7 @@ def is_meant(word: str, at: str) -> bool:
     return following == ["("] if word in FUNCTIONS else not (following and following[0] in DECLARING)
 
 
-def misspelt_keyword(diagnostic: Diagnostic) -> Hint:
+def misspelt_keyword(diagnostic: Diagnostic) -> Hints:
     word = diagnostic.word()
     if diagnostic.text != "model" or not re.fullmatch(r"[A-Za-z_.]+", word) or word in DECLARING or word in REPLACEMENTS or diagnostic.number == "E12" and diagnostic.before.strip():
         return
@@ -150,7 +149,7 @@ def misspelt_keyword(diagnostic: Diagnostic) -> Hint:
         yield f"{word}: is {meant} meant?", True
 
 
-def condition_word(diagnostic: Diagnostic) -> Hint:
+def condition_word(diagnostic: Diagnostic) -> Hints:
     """A node's condition without net_in, written netin or in three parts."""
     statement = diagnostic.statement()
     if diagnostic.text != "model" or not statement or statement[0].text != "node":
@@ -167,7 +166,7 @@ def condition_word(diagnostic: Diagnostic) -> Hint:
         yield f"a range is one condition: {found[2]} <= {found[1]} <= {found[3]}", True
 
 
-def unended_declaration(diagnostic: Diagnostic) -> Hint:
+def unended_declaration(diagnostic: Diagnostic) -> Hints:
     if diagnostic.text != "model" or diagnostic.word() not in DECLARING:
         return
     before = [word for word in TOKEN.findall(diagnostic.before) if not word.startswith(("#", "/*"))]
@@ -178,7 +177,7 @@ def unended_declaration(diagnostic: Diagnostic) -> Hint:
         yield f"is a ; missing at the end of line {above}?", True
 
 
-def unended_text(diagnostic: Diagnostic) -> Hint:
+def unended_text(diagnostic: Diagnostic) -> Hints:
     """The text ends before its last `;`."""
     rest = [token for token in tokens(diagnostic.texts.get(diagnostic.text, ""))]
     if rest and rest[-1].text != ";" and rest[-1].row == diagnostic.row and not list(tokens(diagnostic.at())):
@@ -188,7 +187,7 @@ def unended_text(diagnostic: Diagnostic) -> Hint:
             yield f"is a ; missing at the end of {diagnostic.line_text(diagnostic.row)}?", True
 
 
-def exchanged(diagnostic: Diagnostic) -> Hint:
+def exchanged(diagnostic: Diagnostic) -> Hints:
     shaping = {"node", "arc", "minimize", "maximize"}
     if diagnostic.text == "model" and not shaping & set(diagnostic.words("model")) and shaping & set(diagnostic.words("data")):
         yield "are the two files exchanged? The model comes first", True
@@ -200,7 +199,7 @@ def in_braces(diagnostic: Diagnostic) -> bool:
     return text.count("{") > text.count("}")
 
 
-def misplaced(diagnostic: Diagnostic) -> Hint:
+def misplaced(diagnostic: Diagnostic) -> Hints:
     """Words of a model that are right elsewhere."""
     before, statement = diagnostic.before.rstrip(), diagnostic.statement()
     if diagnostic.word() == "if":
@@ -220,14 +219,14 @@ def misplaced(diagnostic: Diagnostic) -> Hint:
         yield f"an arc has one lower and one upper bound, and this is a second {mark}", True
 
 
-def dots(diagnostic: Diagnostic) -> Hint:
+def dots(diagnostic: Diagnostic) -> Hints:
     """Three dots for the two of a range."""
     found = re.search(r"(\w+)\s*\.\.\.\s*(\w+)", diagnostic.shown)
     if diagnostic.text == "model" and found and found.start() <= len(diagnostic.before) <= found.end():
         yield f"is {found[1]}..{found[2]} meant?", True
 
 
-def doubled(diagnostic: Diagnostic) -> Hint:
+def doubled(diagnostic: Diagnostic) -> Hints:
     """A word that occurs twice in a row."""
     words, here = [word[0] for word in TOKEN.finditer(diagnostic.before)][-2:], diagnostic.word()
     if here == ";" and words[-1:] == [";"]:
@@ -238,12 +237,12 @@ def doubled(diagnostic: Diagnostic) -> Hint:
         yield f"is {words[0]} written twice?", True
 
 
-def unclosed(diagnostic: Diagnostic) -> Hint:
+def unclosed(diagnostic: Diagnostic) -> Hints:
     """A bracket that is open at the end of the declaration, or when another kind is closed, or a phrase begins."""
     if diagnostic.text != "model":
         return
     text = "\n".join([*diagnostic.texts["model"].split("\n")[:diagnostic.row - 1], diagnostic.before])
-    opened: list = []
+    opened: list[str] = []
     here, is_closer = diagnostic.word(), False
     for token in tokens(text):
         if token.text in PAIRS.values():
@@ -261,14 +260,14 @@ def unclosed(diagnostic: Diagnostic) -> Hint:
         yield f"is this {here} one too many, or its {PAIRS[here]} missing?", True
 
 
-def unopened(diagnostic: Diagnostic) -> Hint:
+def unopened(diagnostic: Diagnostic) -> Hints:
     """A second comparison inside braces: the brace is not closed before a bound."""
     opened = diagnostic.shown.count("{") - diagnostic.shown.count("}")
     if diagnostic.text == "model" and opened > 0 and re.search(r"\{[^}]*>=", diagnostic.shown) and diagnostic.word() not in (";",) and diagnostic.word() not in PAIRS:
         yield "is the { before it not closed?", True
 
 
-def exchanged_words(diagnostic: Diagnostic) -> Hint:
+def exchanged_words(diagnostic: Diagnostic) -> Hints:
     """A name before the word that declares it."""
     if diagnostic.text == "model" and diagnostic.before.strip() == "":
         words = TOKEN.findall(diagnostic.at())[:2]
@@ -276,12 +275,12 @@ def exchanged_words(diagnostic: Diagnostic) -> Hint:
             yield f"are {words[0]} and {words[1]} the wrong way round?", True
 
 
-def no_colon(diagnostic: Diagnostic) -> Hint:
+def no_colon(diagnostic: Diagnostic) -> Hints:
     if diagnostic.word() in ("net_in", "net_out") and re.search(r"\bnode\s+\w+\s*(\{[^{}]*\})?$", diagnostic.before.rstrip()):
         yield f"is a : missing before {diagnostic.word()}?", True
 
 
-def bare_text(diagnostic: Diagnostic) -> Hint:
+def bare_text(diagnostic: Diagnostic) -> Hints:
     """A text without quotes in a model."""
     statement = diagnostic.statement()
     words = [token.text for token in statement]
@@ -289,7 +288,7 @@ def bare_text(diagnostic: Diagnostic) -> Hint:
         yield f"quote a text in a model: '{diagnostic.detail}'", True
 
 
-def unused_parameter(diagnostic: Diagnostic) -> Hint:
+def unused_parameter(diagnostic: Diagnostic) -> Hints:
     """A parameter that is declared and used nowhere, which may be the bound that was forgotten."""
     words = [name for word in diagnostic.words("model") for name in re.findall(r"[A-Za-z_]\w*", word)]
     names = [words[here + 1] for here, word in enumerate(words[:-1]) if word == "param"]
@@ -302,12 +301,12 @@ def unused_parameter(diagnostic: Diagnostic) -> Hint:
         yield "the tools add a bound that no plan reaches with --bounds", False
 
 
-def empty_model(diagnostic: Diagnostic) -> Hint:
+def empty_model(diagnostic: Diagnostic) -> Hints:
     if not list(tokens(diagnostic.texts.get("model", ""))):
         yield "the model is empty: is the first file the right one?", True
 
 
-HINTS: tuple = (
+HINTS: HintTable = (
     (("E90",), unread_file),
     (("E01",), odd_character),
     (("E06",), not_utf8),

@@ -3,28 +3,29 @@ from __future__ import annotations
 
 import difflib
 import re
-from typing import Any, Iterator
 
-from .ampl import REPLACEMENTS
+from ..reading.headings import items
 from ..reading.model import RESERVED, Shapes, Unparsed, parse
-from ..reading.text import TOKEN, items, tokens
+from ..reading.text import TOKEN, tokens
+from .ampl import REPLACEMENTS
+from .diagnostic import Diagnostic
+from .hint import Hints, HintTable
 
-Hint = Iterator[tuple]
 NAME = r"[A-Za-z_]\w*"
 KINDS = {"set": "a set", "param": "a parameter", "node": "a node", "arc": "an arc", "minimize": "an objective", "maximize": "an objective"}
 
 
-def kinds(diagnostic: Any) -> dict:
+def kinds(diagnostic: Diagnostic) -> dict[str, tuple[str, int]]:
     """Returns the word that declares each name, with its row."""
     words = list(tokens(diagnostic.texts.get("model", "")))
     return {name.text: (word.text, word.row) for word, name in zip(words, words[1:]) if word.text in KINDS and re.fullmatch(NAME, name.text)}
 
 
-def statement_words(diagnostic: Any) -> list:
+def statement_words(diagnostic: Diagnostic) -> list[str]:
     return [token.text for token in diagnostic.statement()]
 
 
-def no_function(diagnostic: Any) -> Hint:
+def no_function(diagnostic: Diagnostic) -> Hints:
     """`card(S)`, `max(a, b)`, `sqrt(x)`."""
     found = re.search(rf"({NAME})\s*$", diagnostic.before)
     if diagnostic.text != "model" or not diagnostic.at().startswith("(") or not found or found[1] in kinds(diagnostic):
@@ -40,26 +41,26 @@ def no_function(diagnostic: Any) -> Hint:
         yield f"there is no function {name}: give its values in the data", True
 
 
-def bare_sum(diagnostic: Any) -> Hint:
+def bare_sum(diagnostic: Diagnostic) -> Hints:
     """`sum supply[i]` without an index."""
     found = re.search(r"\b(sum|min|max)\s*$", diagnostic.before)
     if diagnostic.text == "model" and found and diagnostic.at()[:1] not in ("{", "("):
         yield f"{found[1]} is followed by its index in braces: {found[1]} {{i in S}} {diagnostic.word()}..", True
 
 
-def end_in_parentheses(diagnostic: Any) -> Hint:
+def end_in_parentheses(diagnostic: Diagnostic) -> Hints:
     """`to (if t < last then Shop[t + 1])`."""
     if diagnostic.text == "model" and re.search(r"\b(?:from|to)\s*$", diagnostic.before) and diagnostic.at().startswith("("):
         yield "an end of an arc is one node: index the arc by those keys alone that have it, such as {t in 1..last - 1}", True
 
 
-def indexed_set(diagnostic: Any) -> Hint:
+def indexed_set(diagnostic: Diagnostic) -> Hints:
     words = statement_words(diagnostic)
     if diagnostic.text == "model" and words[:1] == ["set"] and diagnostic.at().startswith("{") and len(list(diagnostic.statement_before())) == 2:
         yield f"a set has no index: declare one set of longer tuples, such as set {words[1]} dimen 3", True
 
 
-def no_net(diagnostic: Any) -> Hint:
+def no_net(diagnostic: Diagnostic) -> Hints:
     """A node's condition without net_in and net_out."""
     from .engine import condition_word
     words = statement_words(diagnostic)
@@ -78,7 +79,7 @@ def no_net(diagnostic: Any) -> Hint:
             return
 
 
-def strict_bound(diagnostic: Any) -> Hint:
+def strict_bound(diagnostic: Diagnostic) -> Hints:
     """`< van` for a bound."""
     words, sign = statement_words(diagnostic), diagnostic.at()[:1]
     inside = [token.text for token in diagnostic.statement_before()]
@@ -90,7 +91,7 @@ def strict_bound(diagnostic: Any) -> Hint:
         yield f"{sign}: is {sign}= meant? Bounds include their ends", True
 
 
-def colon_in_arc(diagnostic: Any) -> Hint:
+def colon_in_arc(diagnostic: Diagnostic) -> Hints:
     words = statement_words(diagnostic)
     before = [token.text for token in diagnostic.statement_before()]
     if diagnostic.text == "model" and before[-2:-1] == ["obj"] and diagnostic.at().startswith(":"):
@@ -99,44 +100,44 @@ def colon_in_arc(diagnostic: Any) -> Hint:
         yield "an arc has no : after its index; its phrases have commas between them: >= 0, <= room, from A[i], to B[j]", True
 
 
-def slices(diagnostic: Any) -> Hint:
+def slices(diagnostic: Diagnostic) -> Hints:
     """`[*,paint,*]` in data."""
     if diagnostic.text == "data" and diagnostic.at().startswith("["):
         yield "data have no slices: write each row with all its keys, as in param demand := Bern paint 1 15  Bern paint 2 18;", True
 
 
-def many_keys(diagnostic: Any) -> Hint:
+def many_keys(diagnostic: Diagnostic) -> Hints:
     """Braces with more than four members."""
     count = diagnostic.at().partition("}")[0].count(",") + 1
     if diagnostic.text == "model" and diagnostic.at().startswith("{") and count > 4 and not {"(", ":"} & set(diagnostic.at().partition("}")[0]):
         yield "a key has at most four members: join two sets into one set of names, or use one model for each member", True
 
 
-def net_outside_node(diagnostic: Any) -> Hint:
+def net_outside_node(diagnostic: Diagnostic) -> Hints:
     words = statement_words(diagnostic)
     if diagnostic.text == "model" and diagnostic.word() in ("net_in", "net_out") and words[:1] not in ([], ["node"]):
         yield f"{diagnostic.word()} belongs to a node's condition: node A {{..}}: {diagnostic.word()} = ..", True
 
 
-def hyphen_range(diagnostic: Any) -> Hint:
+def hyphen_range(diagnostic: Diagnostic) -> Hints:
     """`t in 1-last` for `t in 1..last`."""
     found = re.search(r"\bin\s+(\w+)\s*-\s*(\w+)\s*[,:}]", diagnostic.at().split("\n")[0])
     if diagnostic.text == "model" and found:
         yield f"{found[1]}-{found[2]}: is {found[1]}..{found[2]} meant?", True
 
 
-def redeclared(diagnostic: Any) -> Hint:
+def redeclared(diagnostic: Diagnostic) -> Hints:
     word, row = kinds_of_first(diagnostic)
     if word:
         yield f"{diagnostic.detail} is already {KINDS[word]}, declared in line {row}", True
 
 
-def kinds_of_first(diagnostic: Any) -> tuple:
+def kinds_of_first(diagnostic: Diagnostic) -> tuple[str, int]:
     words = list(tokens(diagnostic.texts.get("model", "")))
     return next(((word.text, word.row) for word, name in zip(words, words[1:]) if word.text in KINDS and name.text == diagnostic.detail), ("", 0))
 
 
-def wrong_kind(diagnostic: Any) -> Hint:
+def wrong_kind(diagnostic: Diagnostic) -> Hints:
     """A name that is declared as something else than is needed."""
     known = kinds(diagnostic)
     wanted = re.search(r"\b(from|to|obj)\s*$", diagnostic.before)
@@ -158,7 +159,7 @@ def wrong_kind(diagnostic: Any) -> Hint:
         yield f"{diagnostic.detail} is a node, which has no value here", True
 
 
-def unknown_index(diagnostic: Any) -> Hint:
+def unknown_index(diagnostic: Diagnostic) -> Hints:
     """A short name that is no index of its declaration."""
     from .data import declared, indices, members_in_data
     words = list(diagnostic.statement())
@@ -170,7 +171,7 @@ def unknown_index(diagnostic: Any) -> Hint:
             yield f"{diagnostic.detail} is no index here; this declaration has {', '.join(found)}", True
 
 
-def subscripts(diagnostic: Any) -> Hint:
+def subscripts(diagnostic: Diagnostic) -> Hints:
     """How many subscripts a name has, and how many are given."""
     try:
         shapes = Shapes(parse(diagnostic.texts.get("model", "")), diagnostic.texts.get("model", ""))
@@ -187,7 +188,7 @@ def subscripts(diagnostic: Any) -> Hint:
         yield f"{has}, and {given} {'is' if given == 1 else 'are'} given", True
 
 
-def inside(words: list) -> list:
+def inside(words: list[str]) -> list[str]:
     """Returns the words between a bracket, the first word, and the one that closes it."""
     depth = 0
     for here, word in enumerate(words):
@@ -197,7 +198,7 @@ def inside(words: list) -> list:
     return words[1:]
 
 
-HINTS: tuple = (
+HINTS: HintTable = (
     (("E10",), no_function),
     (("E10",), bare_sum),
     (("E10", "E12"), end_in_parentheses),

@@ -9,13 +9,13 @@ import re
 import time
 from typing import Sequence
 
-from ..reading.data import Cell, DataText, Statement
-from .diagnostic import LINE, Diagnostic
 from ..errors import ProgramError, Unreadable
-from ..reading.model import Shapes, Unparsed, parse
-from ..program import Session, call
-from ..reading.output import reference
 from ..inputs.decimals import whole_copy
+from ..program import Session, call
+from ..reading.data import Cell, DataText, Statement
+from ..reading.keys import reference
+from ..reading.model import Shapes, Unparsed, parse
+from .diagnostic import LINE, Diagnostic
 
 # The errors that are skipped, how many further ones are looked for, at most, and for how many seconds; how many of one name are reported.
 SKIPPED = re.compile(r"E3[0136]")
@@ -24,11 +24,11 @@ MOST, SECONDS, OF_ONE_NAME = 20, 5.0, 3
 LONGEST = 2_000_000
 
 
-def further_errors(first: Diagnostic, options: Sequence[str] = ()) -> list:
+def further_errors(first: Diagnostic, options: Sequence[str] = ()) -> list[Diagnostic]:
     """Returns the diagnostics of the errors after the first one, apart from those with a hint that an error before them has; none if they
     cannot be found."""
-    question = first.question
-    is_joined = question is not None and (len(question.data) > 1 or bool(question.changes))
+    instance = first.instance
+    is_joined = instance is not None and (len(instance.data) > 1 or bool(instance.changes))
     if first.text != "data" or not first.row or is_joined or not SKIPPED.match(first.number) or len(first.texts["data"]) > LONGEST:
         return []
     model, data = (whole_copy(first.texts[kind], kind) for kind in ("model", "data"))
@@ -36,7 +36,7 @@ def further_errors(first: Diagnostic, options: Sequence[str] = ()) -> list:
         cells = Places(model, data)
     except Unparsed:
         return []
-    found: list = []
+    found: list[Diagnostic] = []
     last, end = first, time.monotonic() + SECONDS
     hints, names = set(first.hints()), [name_of(first)]
     with Session([]) as session:
@@ -71,8 +71,8 @@ class Places:
         decls = parse(model)
         shapes = Shapes(decls)
         self.data = DataText(data, {decl.name: shapes.keys[decl.name] for decl in decls if decl.kind == "param"}, shapes.sets)
-        self.letters: list = list(data)
-        self.seen: set = set()
+        self.letters: list[str] = list(data)
+        self.seen: set[tuple[int, int]] = set()
         self.starts = [0]
         for line in data.split("\n"):
             self.starts.append(self.starts[-1] + len(line) + 1)
@@ -121,7 +121,7 @@ def is_of(error: Diagnostic, cell: Cell) -> bool:
     return (cell.name, list(cell.key)) == (name, key)
 
 
-def further_lines(first: Diagnostic, options: Sequence[str] = ()) -> list:
+def further_lines(first: Diagnostic, options: Sequence[str] = ()) -> list[str]:
     """Returns a line for each further error, as editors take it: the place, the error, and the best hint."""
     found = further_errors(first, options)
     lines = []

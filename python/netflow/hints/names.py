@@ -3,31 +3,30 @@ from __future__ import annotations
 
 import difflib
 import re
-from typing import Any, Iterator
 
-from .ampl import REPLACEMENTS
-from .diagnostic import DECLARING
-from .data import declared, declared_as, declared_below, indices, members_in_data
 from ..reading.text import tokens
+from .ampl import REPLACEMENTS
+from .data import declared, declared_as, declared_below, indices, members_in_data
+from .diagnostic import DECLARING, Diagnostic
+from .hint import Hints, HintTable
 
-Hint = Iterator[tuple]
 NAME = r"[A-Za-z_]\w*"
 # What comes before a name in a model, or begins its statement in data, and the words that declare such names.
 PLACES = ((r"\bin\s+$", ("set",)), (r"\b(?:from|to)\s+$", ("node",)), (r"\bobj\s+$", ("minimize", "maximize")))
 
 
-def wanted_kinds(diagnostic: Any) -> tuple:
+def wanted_kinds(diagnostic: Diagnostic) -> tuple[str, ...]:
     """Returns the words that declare the kind of name that is needed here; none if any kind can be."""
     if diagnostic.text == "data":
         return tuple(token.text for token in diagnostic.statement_before()[:1])
     return next((kinds for before, kinds in PLACES if re.search(before, diagnostic.before)), ())
 
 
-def nearest(name: str, others: list) -> list:
+def nearest(name: str, others: list[str]) -> list[str]:
     return [other for other in others if other.lower() == name.lower()] or difflib.get_close_matches(name, others, 1, 0.7)
 
 
-def respelled(diagnostic: Any) -> Hint:
+def respelled(diagnostic: Diagnostic) -> Hints:
     """Names near one that is not known; indices of other declarations are not known here."""
     name = diagnostic.detail.partition("[")[0]
     if diagnostic.number == "E12" and (declared_below(diagnostic, name) or name in members_in_data(diagnostic)) or name in REPLACEMENTS:
@@ -44,7 +43,7 @@ def respelled(diagnostic: Any) -> Hint:
         yield f"{same[0]} is an index of another declaration and ends with it: index this one too, as in {{{same[0]} in ..}}", True
 
 
-def equals_in_braces(diagnostic: Any) -> Hint:
+def equals_in_braces(diagnostic: Diagnostic) -> Hints:
     """`{s = SHOPS}`."""
     found = re.match(rf"({NAME})\s*=\s*({NAME})", diagnostic.at())
     words = [token.text for token in diagnostic.statement_before()]
@@ -52,7 +51,7 @@ def equals_in_braces(diagnostic: Any) -> Hint:
         yield f"an index is named with its set by in: {found[1]} in {found[2]}", True
 
 
-def odd_name(diagnostic: Any) -> Hint:
+def odd_name(diagnostic: Diagnostic) -> Hints:
     """`arc Drive-out`, `param max.load`, `from 'Bakery'[b]`, `param {S} a`, `param 0 <= a`."""
     words, at = [token.text for token in diagnostic.statement_before()], diagnostic.at()
     rest, before = re.match(r"[-.](\w+)", at), re.match(rf"(\{{[^}}]*\}})\s*({NAME})", at)
@@ -70,14 +69,14 @@ def odd_name(diagnostic: Any) -> Hint:
         yield f"the name comes first: param {bound[3]} {bound[2].replace('<', '>')} {bound[1]}", True
 
 
-def two_names(diagnostic: Any) -> Hint:
+def two_names(diagnostic: Diagnostic) -> Hints:
     """`param van, truck;`"""
     words = [token.text for token in diagnostic.statement_before()]
     if diagnostic.text == "model" and words[2:] == [","] and words[0] in ("set", "param", "node", "arc") and re.match(NAME, diagnostic.at()):
         yield f"each declaration has one name: {words[0]} {words[1]}; {words[0]} {diagnostic.word()};", True
 
 
-def no_obj(diagnostic: Any) -> Hint:
+def no_obj(diagnostic: Diagnostic) -> Hints:
     """`to Shop[s], Total cost[b,s]`: the word obj is missing."""
     words = [token.text for token in diagnostic.statement_before()]
     if diagnostic.text == "model" and words[:1] == ["arc"] and words[-1:] == [","] and diagnostic.word() in declared_as(diagnostic, "minimize") | declared_as(diagnostic, "maximize"):
@@ -85,7 +84,7 @@ def no_obj(diagnostic: Any) -> Hint:
         yield f"is obj missing before {diagnostic.word()}? obj {phrase[0].strip() if phrase else diagnostic.word()}", True
 
 
-def no_to(diagnostic: Any) -> Hint:
+def no_to(diagnostic: Diagnostic) -> Hints:
     """`from Bakery[b] Shop[s]`, and `between A and B`."""
     if diagnostic.text == "model" and diagnostic.number == "E15" and diagnostic.word() in declared_as(diagnostic, "node"):
         yield f"is , to missing before {diagnostic.word()}?", True
@@ -94,14 +93,14 @@ def no_to(diagnostic: Any) -> Hint:
         yield f"the ends of an arc are two phrases: from {found[1]}, to {found[2].strip()}", True
 
 
-def early_end(diagnostic: Any) -> Hint:
+def early_end(diagnostic: Diagnostic) -> Hints:
     """A `;` before the last phrase of an arc."""
     above = [token for token in diagnostic.tokens_before()]
     if diagnostic.text == "model" and not diagnostic.statement_before() and above and re.match(r"(?:from|to|obj)\b|[<>]=", diagnostic.at()):
         yield f"is the ; at the end of {diagnostic.line_text(above[-1].row)} one too many, or meant as a comma?", True
 
 
-def two_conditions(diagnostic: Any) -> Hint:
+def two_conditions(diagnostic: Diagnostic) -> Hints:
     """`net_in >= 2, net_in <= 5`."""
     found = re.search(r"(net_in|net_out)\s*>=\s*([^,;]*?)\s*$", diagnostic.before)
     after = re.match(r",\s*(?:(net_in|net_out)\s*)?<=\s*([^,;]*)", diagnostic.at())
@@ -109,7 +108,7 @@ def two_conditions(diagnostic: Any) -> Hint:
         yield f"a node has one condition: {found[2]} <= {found[1]} <= {after[2].strip()}", True
 
 
-HINTS: tuple = (
+HINTS: HintTable = (
     (("E12", "E30", "E61"), respelled),
     (("E12", "E10"), equals_in_braces),
     (("E10", "E14"), odd_name),

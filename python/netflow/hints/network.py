@@ -2,17 +2,18 @@
 from __future__ import annotations
 
 import re
-from typing import Any, Iterator
+from typing import Any
 
 from ..reading.model import RESERVED
 from ..reading.text import TOKEN, tokens
+from .diagnostic import Diagnostic
+from .hint import Hints, HintTable
 
-Hint = Iterator[tuple]
 NAME = r"[A-Za-z_]\w*"
 KEY = r"(?:\s*\[[^\]]*\])?"
 
 
-def node_with(diagnostic: Any, name: str) -> Any:
+def node_with(diagnostic: Diagnostic, name: str) -> Any:
     """Returns the match of the node in whose condition a name is a term, with its `node`, `braces`, `net`, `sign` and `key`; None if there
     is none."""
     model = re.sub(r"#[^\n]*", "", diagnostic.texts.get("model", ""))
@@ -21,13 +22,13 @@ def node_with(diagnostic: Any, name: str) -> Any:
     return re.search(rf"{head}[^;]*?{term}[^;]*;", model)
 
 
-def indices_of(braces: str | None) -> list:
+def indices_of(braces: str | None) -> list[str]:
     """Returns the indices of braces such as `{p in PLANTS, (i,j) in L: i <> j}`, and for an item without one an empty text."""
     inside = (braces or "")[1:-1].partition(":")[0]
     return [part.strip("() ") if is_in else "" for part, is_in, _ in (item.partition(" in ") for item in inside.split(","))] if inside.strip() else []
 
 
-def variable_in_condition(diagnostic: Any) -> Hint:
+def variable_in_condition(diagnostic: Diagnostic) -> Hints:
     """`var Feed {p in PLANTS}` or `arc Feed`, and `node Plant {p in PLANTS}: net_out = Feed[p]`."""
     name = diagnostic.detail if diagnostic.number == "E12" else (TOKEN.findall(diagnostic.at())[1:2] or [""])[0]
     if diagnostic.text != "model" or not re.fullmatch(NAME, name) or not (diagnostic.number == "E12" or diagnostic.word() == "var"):
@@ -47,7 +48,7 @@ def variable_in_condition(diagnostic: Any) -> Hint:
            f"the condition: arc {name}{' ' + declared[1] if declared[1] else ''} .., {end}"), True
 
 
-def coefficient(diagnostic: Any) -> Hint:
+def coefficient(diagnostic: Diagnostic) -> Hints:
     """`coeff Shop[s] 1` and `coeff Shop[s] -1`."""
     found = re.match(rf"coeff\s+({NAME}{KEY})\s*(-?\s*[\d.]*)", diagnostic.at())
     if diagnostic.text != "model" or not found:
@@ -59,7 +60,7 @@ def coefficient(diagnostic: Any) -> Hint:
         yield "coeff N 1 is `to N`, and coeff N -1 is `from N`; another coefficient is a gain, which no network has", True
 
 
-def equals_after_objective(diagnostic: Any) -> Hint:
+def equals_after_objective(diagnostic: Diagnostic) -> Hints:
     """`obj Total = cost[b,s]`."""
     found = re.search(rf"\bobj\s+({NAME})\s*$", diagnostic.before)
     if diagnostic.text == "model" and found and diagnostic.at().startswith(("=", ":=")):
@@ -67,7 +68,7 @@ def equals_after_objective(diagnostic: Any) -> Hint:
         yield f"no = comes after the objective's name: obj {found[1]} {price[1].strip() if price else '..'}", True
 
 
-def end_with_parentheses(diagnostic: Any) -> Hint:
+def end_with_parentheses(diagnostic: Diagnostic) -> Hints:
     """`from Bakery(b)`."""
     found = re.search(rf"\b(?:from|to)\s+({NAME})\s*$", diagnostic.before)
     inside = re.match(rf"\(((?:\s*{NAME}\s*,?)+)\)", diagnostic.at())
@@ -76,7 +77,7 @@ def end_with_parentheses(diagnostic: Any) -> Hint:
         yield f"subscripts are in brackets: {found[1]}[{','.join(part.strip() for part in inside[1].split(','))}]", True
 
 
-def second_brackets(diagnostic: Any) -> Hint:
+def second_brackets(diagnostic: Diagnostic) -> Hints:
     """`cost[b][s]`."""
     found, after = re.search(rf"({NAME})\s*\[([^\[\]]*)\]\s*$", diagnostic.before), re.match(r"((?:\[[^\[\]]*\]\s*)+)", diagnostic.at())
     if diagnostic.text == "model" and found and after:
@@ -84,7 +85,7 @@ def second_brackets(diagnostic: Any) -> Hint:
         yield f"subscripts are in one pair of brackets: {found[1]}[{','.join([found[2], *rest])}]", True
 
 
-def index_in_brackets(diagnostic: Any) -> Hint:
+def index_in_brackets(diagnostic: Diagnostic) -> Hints:
     """`arc Drive [b in BAKERIES]`."""
     words = [token.text for token in diagnostic.statement_before()]
     inside = re.match(r"\[([^\[\]]*)\]", diagnostic.at())
@@ -92,7 +93,7 @@ def index_in_brackets(diagnostic: Any) -> Hint:
         yield f"an index is in braces: {words[0]} {words[1]} {{{inside[1].strip() if inside else '..'}}}", True
 
 
-def comma_in_braces(diagnostic: Any) -> Hint:
+def comma_in_braces(diagnostic: Diagnostic) -> Hints:
     """`{BAKERIES SHOPS}` and `{b in BAKERIES s in SHOPS}`."""
     words = [token.text for token in diagnostic.statement_before()]
     is_operand = words and (words[-1] in (")", "}") or re.fullmatch(r"\w+", words[-1]) and words[-1] not in RESERVED)
@@ -105,7 +106,7 @@ def comma_in_braces(diagnostic: Any) -> Hint:
 
 
 # As in hints_tables.
-ALONE: tuple = (
+ALONE: HintTable = (
     (("E12", "E14"), variable_in_condition),
     (("E14", "E10"), coefficient),
     (("E10", "E14"), equals_after_objective),

@@ -2,19 +2,19 @@
 from __future__ import annotations
 
 import re
-from typing import Any, Iterator
 
 from ..reading.model import Shapes, Unparsed, parse
 from ..sheets.files import ERROR_VALUE
+from .diagnostic import Diagnostic
+from .hint import Hints, HintTable
 
-Hint = Iterator[tuple]
 # A line up to an error value of a spreadsheet, whose # begins a comment.
 ERROR_LINE = re.compile(rf"(?m)^[^'\"#\n]*({ERROR_VALUE.pattern})")
 COMMA, BLANK = r"(?<![\w.,+-])[+-]?\d+,\d+(?![\w.]|,\S)", r"(?<![\w.,+-])[+-]?[1-9]\d{0,2}(?: \d{3})+(?![\w.]|,\S)"
 POINTS = re.compile(r"[+-]?\d{1,3}(?:\.\d{3}){2,}")
 
 
-def error_value(diagnostic: Any) -> Hint:
+def error_value(diagnostic: Diagnostic) -> Hints:
     """`#N/A` and `#DIV/0!` in data."""
     text = diagnostic.texts.get("data", "")
     for found in ERROR_LINE.finditer(text) if diagnostic.text == "data" else ():
@@ -24,7 +24,7 @@ def error_value(diagnostic: Any) -> Hint:
         return
 
 
-def quoted_number(diagnostic: Any) -> Hint:
+def quoted_number(diagnostic: Diagnostic) -> Hints:
     """`hill "30"`."""
     found = re.match(r"(['\"])([+-]?\d+(?:\.\d+)?)\1", diagnostic.at())
     if diagnostic.text == "data" and found and not diagnostic.is_change():
@@ -38,7 +38,7 @@ def number_of(text: str) -> str:
     return f"is {text.replace(',', '.')} meant? Decimals have a point"
 
 
-def grouped_in_list(diagnostic: Any) -> Hint:
+def grouped_in_list(diagnostic: Diagnostic) -> Hints:
     """`hill 30,5` and `hill 1 030` in a list: with them as one number its cells fit, and without they do not."""
     if diagnostic.text != "data" or diagnostic.is_change():
         return
@@ -68,7 +68,7 @@ def has_values(body: str, size: int) -> bool:
     return len(cells) % size == 0 and all(re.match(r"[+-]?[.\d]", cell) for cell in cells[size - 1::size])
 
 
-def many_points(diagnostic: Any) -> Hint:
+def many_points(diagnostic: Diagnostic) -> Hints:
     """`1.200.000`."""
     word = diagnostic.word().rstrip(";,")
     if diagnostic.text == "data" and POINTS.fullmatch(word):
@@ -76,7 +76,7 @@ def many_points(diagnostic: Any) -> Hint:
 
 
 # As in hints_tables.
-ALONE: tuple = (
+ALONE: HintTable = (
     (("E20", "E21", "E32", "E36", "E37"), error_value),
     (("E36",), quoted_number),
     (("E36",), many_points),

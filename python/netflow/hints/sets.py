@@ -2,25 +2,26 @@
 from __future__ import annotations
 
 import re
-from typing import Any, Iterator
 
 from ..reading.data import DataText
-from .memberships import Memberships, Unknown, row_text
 from ..reading.model import Unparsed
 from ..reading.text import Token, tokens
+from ..types import Key, Member
+from .diagnostic import Diagnostic
+from .hint import Hints, HintTable
+from .memberships import Memberships, Unknown, row_text
 
-Hint = Iterator[tuple]
 # How many members outside a set, and how many pairs of a rewritten statement, are shown.
 NAMED, PAIRS = 3, 6
 
 
-def member(token: Token) -> Any:
+def member(token: Token) -> Member:
     """Returns the member that a word of the data is."""
     is_text = token.text[:1] in ("'", '"') or not re.fullmatch(r"[+-]?\d+", token.text)
     return token.bare() if is_text else int(token.text)
 
 
-def set_words(diagnostic: Any, name: str) -> list:
+def set_words(diagnostic: Diagnostic, name: str) -> list[Token]:
     """Returns the tokens of the members that the last statement `set NAME :=` lists."""
     words, found = list(tokens(diagnostic.texts.get("data", ""))), []
     for here in range(len(words) - 2):
@@ -30,7 +31,7 @@ def set_words(diagnostic: Any, name: str) -> list:
     return [token for token in found if token.text not in ("(", ")", ",")]
 
 
-def listed_rows(diagnostic: Any, world: Memberships, name: str) -> list:
+def listed_rows(diagnostic: Diagnostic, world: Memberships, name: str) -> list[tuple[Key, int]]:
     """Returns the tuples of a set in the data, each with its line."""
     words, text = set_words(diagnostic, name), diagnostic.texts.get("data", "")
     width = world.shapes.sets.get(name, 1)
@@ -44,7 +45,7 @@ def listed_rows(diagnostic: Any, world: Memberships, name: str) -> list:
     return list(dict.fromkeys(found))
 
 
-def outside(diagnostic: Any) -> Hint:
+def outside(diagnostic: Diagnostic) -> Hints:
     """Members of a set that its `within` excludes, and which part of the restriction lacks them."""
     try:
         world = Memberships(diagnostic.texts.get("model", ""), diagnostic.texts.get("data", ""))
@@ -61,11 +62,11 @@ def outside(diagnostic: Any) -> Hint:
     for row, line, limit, said in wrong[:NAMED]:
         title = world.text(limit)
         reason = "" if said == f"{title} has no {row_text(row)}" else f": {said}"
-        change = diagnostic.question.change_at(line) if diagnostic.question is not None else ""
+        change = diagnostic.instance.change_at(line) if diagnostic.instance is not None else ""
         yield f"{change or f'{row_text(row)} in {diagnostic.rows_text([line])}'} is not in {title}{reason}", True
 
 
-def slice_pairs(words: list) -> list:
+def slice_pairs(words: list[Token]) -> list[str]:
     """Returns the tuples that slices such as `(Linz,*) Wien Enns` mean, as texts; an empty list if the words have another form."""
     parts, found, head, at = [token.text for token in words if token.text != ","], [], [], 0
     while at < len(parts):
@@ -83,7 +84,7 @@ def slice_pairs(words: list) -> list:
     return [f"({','.join(row)})" for row in found]
 
 
-def set_slices(diagnostic: Any) -> Hint:
+def set_slices(diagnostic: Diagnostic) -> Hints:
     """`set LINKS := (Linz,*) Wien Enns;`"""
     words = diagnostic.statement()
     head = [token.text for token in words[:3]]
@@ -95,7 +96,7 @@ def set_slices(diagnostic: Any) -> Hint:
     yield f"{template} is a slice of AMPL, which netflow does not have: write whole tuples{statement_text(head[1], pairs)}", True
 
 
-def table_pairs(words: list) -> list:
+def table_pairs(words: list[Token]) -> list[str]:
     """Returns the pairs that a table with + and - marks, as texts; an empty list if the words have another form."""
     is_turned = [token.text for token in words[:3]] == ["(", "tr", ")"]
     texts = [token.text for token in words[3 * is_turned:]]
@@ -109,7 +110,7 @@ def table_pairs(words: list) -> list:
     return [f"({','.join(reversed(pair) if is_turned else pair)})" for pair in pairs]
 
 
-def set_table(diagnostic: Any) -> Hint:
+def set_table(diagnostic: Diagnostic) -> Hints:
     """`set LINKS: Wien Enns := Linz + - Graz - +;`"""
     words = diagnostic.statement()
     head, marks = [token.text for token in words[:3]], {token.text for token in words}
@@ -118,11 +119,11 @@ def set_table(diagnostic: Any) -> Hint:
         yield f"a set table with + and - is part of AMPL alone: list the pairs that have a +{statement_text(head[1], pairs)}", True
 
 
-def statement_text(name: str, pairs: list) -> str:
+def statement_text(name: str, pairs: list[str]) -> str:
     return f": set {name} := {' '.join(pairs[:PAIRS])}{' ..' if len(pairs) > PAIRS else ''};" if pairs else ""
 
 
-HINTS: tuple = (
+HINTS: HintTable = (
     (("E34",), outside),
     (("E20",), set_slices),
     (("E20",), set_table),

@@ -2,12 +2,12 @@
 from __future__ import annotations
 
 import math
-from typing import Any, Iterator
 
+from ..reading.model import Decl, Expr, Unparsed
+from .diagnostic import Diagnostic
+from .hint import Hints, HintTable
 from .keys import Sets
-from ..reading.model import Expr, Unparsed
 
-Hint = Iterator[tuple]
 MOST = {"E40": "tuples, and 1,000,000 are the most", "E59": "nodes, and 10,000 are the most", "E60": "arcs, and 100,000 are the most"}
 
 
@@ -15,7 +15,8 @@ def size(sets: Sets, expr: Expr) -> int:
     """Returns how many members a plain set has; 0 if its text does not say."""
     if expr.op == "..":
         ends = [sets.number(part) for part in expr.args]
-        return max(0, ends[1] - ends[0] + 1) if len(ends) == 2 and None not in ends else 0
+        first, last = ends if len(ends) == 2 else (None, None)
+        return 0 if first is None or last is None else max(0, last - first + 1)
     if expr.op == "cross":
         return math.prod(size(sets, part) for part in expr.args)
     if expr.op == "group":
@@ -26,7 +27,7 @@ def size(sets: Sets, expr: Expr) -> int:
     return size(sets, phrase.exprs[0]) if phrase else 0
 
 
-def at_place(sets: Sets, diagnostic: Any) -> tuple:
+def at_place(sets: Sets, diagnostic: Diagnostic) -> tuple[Decl | None, Expr | None]:
     """Returns the declaration with the error and its braces or cross product at the place; (None, None) if there are none."""
     model = diagnostic.texts["model"]
     place = sum(len(line) + 1 for line in model.split("\n")[:diagnostic.row - 1]) + len(diagnostic.before)
@@ -40,7 +41,7 @@ def at_place(sets: Sets, diagnostic: Any) -> tuple:
     return None, None
 
 
-def too_many(diagnostic: Any) -> Hint:
+def too_many(diagnostic: Diagnostic) -> Hints:
     """How many keys the braces at the place, or those of the declaration, have, if their sets are plain."""
     try:
         sets = Sets(diagnostic)
@@ -60,7 +61,7 @@ def too_many(diagnostic: Any) -> Hint:
     yield f"{decl.name or decl.kind} has {total} {said}: {f'write {smaller}' if smaller else 'index it by a set of the tuples that exist'}", True
 
 
-def fewer(sets: Sets, model: str, items: list, condition: Any) -> str:
+def fewer(sets: Sets, model: str, items: list[Expr], condition: Expr | None) -> str:
     """Returns braces in which an equality of two indices is no condition; an empty text if there is none."""
     terms = [condition] if condition is not None else []
     while any(part.op in ("and", "group") for part in terms):
@@ -84,4 +85,4 @@ def is_within(sets: Sets, inner: Expr, outer: Expr) -> bool:
     return members is not None and others is not None and members <= others
 
 
-HINTS: tuple = ((("E40", "E59", "E60"), too_many),)
+HINTS: HintTable = ((("E40", "E59", "E60"), too_many),)

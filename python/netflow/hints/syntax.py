@@ -2,24 +2,25 @@
 from __future__ import annotations
 
 import re
-from typing import Any, Iterator
 
-from ..reading.text import CLOSING, TOKEN, items
+from ..reading.headings import CLOSING, items
+from ..reading.text import TOKEN
+from .diagnostic import Diagnostic
+from .hint import Hints, HintTable
 
-Hint = Iterator[tuple]
 NAME = r"[A-Za-z_]\w*"
 OPERAND = r"[\w.]+(?:\[[^\]]*\])?"
 BOUND = re.compile(rf"(?P<low>{OPERAND})\s*<=\s*(?:{NAME}(?:\[[^\]]*\])?\s*<=\s*)?(?P<high>{OPERAND})\s*(?=[,;]|$)")
 RANGE = re.compile(r"(?P<low>[^:;]*?)\s*(?P<one><=|>=|=)\s*(?P<net>net_in|net_out)\s*(?P<two><=|>=|=)\s*(?P<high>[^;]*)")
 
 
-def declared(diagnostic: Any, *kinds: str) -> set:
+def declared(diagnostic: Diagnostic, *kinds: str) -> set[str]:
     """Returns the names that the model declares by these words."""
     words = diagnostic.words("model")
     return {words[here + 1] for here in range(len(words) - 1) if words[here] in kinds}
 
 
-def chained(diagnostic: Any) -> Hint:
+def chained(diagnostic: Diagnostic) -> Hints:
     """A second comparison of the same expression inside braces or a check: `1 <= t <= n`."""
     if diagnostic.text != "model" or not diagnostic.at().startswith(("<", ">", "=")):
         return
@@ -37,7 +38,7 @@ def chained(diagnostic: Any) -> Hint:
         yield f"write two comparisons: {left} {first} {middle} and {middle} {second} {right}", True
 
 
-def reversed_sign(diagnostic: Any) -> Hint:
+def reversed_sign(diagnostic: Diagnostic) -> Hints:
     """`=<` and `=>`."""
     place = len(diagnostic.before)
     for wrong, right in (("=<", "<="), ("=>", ">="), ("=!", "!=")):
@@ -45,7 +46,7 @@ def reversed_sign(diagnostic: Any) -> Hint:
             yield f"{wrong}: is {right} meant?", True
 
 
-def round_subscripts(diagnostic: Any) -> Hint:
+def round_subscripts(diagnostic: Diagnostic) -> Hints:
     """`needed{p,t}` and `needed(p,t)`."""
     name = re.search(rf"({NAME})\s*$", diagnostic.before)
     mark = diagnostic.at()[:1]
@@ -55,13 +56,13 @@ def round_subscripts(diagnostic: Any) -> Hint:
     yield f"subscripts are in square brackets: {name[1]}[{inside[1].strip() if inside else '..'}]", True
 
 
-def missing_comma(diagnostic: Any) -> Hint:
+def missing_comma(diagnostic: Diagnostic) -> Hints:
     """Two subscripts without a comma."""
     if diagnostic.text == "model" and re.search(r"\[[^\]{};]*\w\s+$", diagnostic.before) and re.match(r"[\w']", diagnostic.at()):
         yield f"is a , missing before {diagnostic.word()}?", True
 
 
-def bounds_in_one(diagnostic: Any) -> Hint:
+def bounds_in_one(diagnostic: Diagnostic) -> Hints:
     """`0 <= yard[p]` or `0 <= Lease <= 5` for the bounds of an arc."""
     words = [token.text for token in diagnostic.statement_before()]
     if diagnostic.text != "model" or words[:1] != ["arc"] or words.count("{") > words.count("}") or not re.search(r"(?:[},]|\w)\s*$", diagnostic.before):
@@ -71,7 +72,7 @@ def bounds_in_one(diagnostic: Any) -> Hint:
         yield f"the bounds of an arc are two phrases: >= {found['low']}, <= {found['high']}", True
 
 
-def mixed_range(diagnostic: Any) -> Hint:
+def mixed_range(diagnostic: Diagnostic) -> Hints:
     """`5 <= net_in >= 10`."""
     statement = diagnostic.statement()
     if diagnostic.text != "model" or not statement or statement[0].text != "node":
@@ -82,7 +83,7 @@ def mixed_range(diagnostic: Any) -> Hint:
         yield f"both signs of a range are the same: {found['low'].strip()} <= {found['net']} <= {found['high'].strip()}", True
 
 
-def comma_for_colon(diagnostic: Any) -> Hint:
+def comma_for_colon(diagnostic: Diagnostic) -> Hints:
     """A condition after a comma in braces."""
     if diagnostic.text != "model" or not diagnostic.at().startswith("{"):
         return
@@ -101,7 +102,7 @@ def comma_for_colon(diagnostic: Any) -> Hint:
             return
 
 
-def no_objective(diagnostic: Any) -> Hint:
+def no_objective(diagnostic: Diagnostic) -> Hints:
     """`obj freight[p,q]`: the objective's name is missing."""
     names = sorted(declared(diagnostic, "minimize", "maximize"))
     found = re.search(rf"\bobj\s+(?:({NAME})\s*)?$", diagnostic.before)
@@ -116,33 +117,33 @@ def no_objective(diagnostic: Any) -> Hint:
         yield f"the objective's name comes after obj: obj {names[0]} {price}", True
 
 
-def check_without_colon(diagnostic: Any) -> Hint:
+def check_without_colon(diagnostic: Diagnostic) -> Hints:
     if diagnostic.text == "model" and [token.text for token in diagnostic.statement_before()] == ["check"] and not diagnostic.at().startswith((":", "{")):
         yield "is a : missing after check?", True
 
 
-def colon_range(diagnostic: Any) -> Hint:
+def colon_range(diagnostic: Diagnostic) -> Hints:
     """`{1:last}` and `{t in 1:last}`."""
     found = re.match(rf"\{{?\s*(?:{NAME}\s+in\s+)?(\w+)\s*:\s*(\w+)\s*[}},]", diagnostic.at())
     if diagnostic.text == "model" and found and not found[1].isidentifier():
         yield f"{found[1]}:{found[2]}: is {found[1]}..{found[2]} meant?", True
 
 
-def nothing_after(diagnostic: Any) -> Hint:
+def nothing_after(diagnostic: Diagnostic) -> Hints:
     """`default;`, `>= ,`: a phrase without its value."""
     found = re.search(r"(\bdefault|\bwithin|\bdimen|\bobj|\bfrom|\bto|:=|<=|>=|[-+*=:(\[])\s*$", diagnostic.before)
     if diagnostic.text == "model" and found and diagnostic.at()[:1] in (";", ",", "}", "]", ")"):
         yield f"what comes after {found[1]} is missing", True
 
 
-def tuple_without_comma(diagnostic: Any) -> Hint:
+def tuple_without_comma(diagnostic: Diagnostic) -> Hints:
     """`(GOA HAM)` in data."""
     found = re.search(r"\(\s*([^\s,()]+)\s+$", diagnostic.before)
     if diagnostic.text == "data" and found and diagnostic.word() not in (",", ")", ";"):
         yield f"the members of a tuple have commas between them: ({found[1]},{diagnostic.word()})", True
 
 
-def braces_in_data(diagnostic: Any) -> Hint:
+def braces_in_data(diagnostic: Diagnostic) -> Hints:
     if diagnostic.text == "data" and diagnostic.at()[:1] in ("{", "}"):
         inside = re.match(r"\{([^}]*)\}", diagnostic.at())
         members = " ".join(re.split(r"[\s,]+", inside[1].strip())) if inside else ""
@@ -151,7 +152,7 @@ def braces_in_data(diagnostic: Any) -> Hint:
         yield f"data have no braces{f': set {name} := {members};' if name and members else ''}", True
 
 
-HINTS: tuple = (
+HINTS: HintTable = (
     (("E10",), chained),
     (("E10", "E14"), reversed_sign),
     (("E10",), round_subscripts),

@@ -2,26 +2,27 @@
 from __future__ import annotations
 
 import re
-from typing import Any, Iterator
+from typing import Iterator
 
 from ..reading.text import Token, few, tokens
+from .diagnostic import Diagnostic
+from .hint import Hints, HintTable
 
-Hint = Iterator[tuple]
 VALUE = re.compile(r"[+-]?[0-9.]+")
 
 
-def head_of(diagnostic: Any) -> list:
+def head_of(diagnostic: Diagnostic) -> list[str]:
     """Returns the words of a `param` statement of the data before its `:=`, without commas; none if it has no `:=`."""
     words = [token.text for token in diagnostic.statement()] if diagnostic.text == "data" else []
     head = words[:words.index(":=")] if ":=" in words else []
     return [word for word in head if word != ","] if head[:1] == ["param"] and not {"set", "param", ";"} & set(head[1:]) else []
 
 
-def columns_of(head: list) -> list:
+def columns_of(head: list[str]) -> list[str]:
     return head[len(head) - head[::-1].index(":"):] if ":" in head else []
 
 
-def shared_default(diagnostic: Any) -> Hint:
+def shared_default(diagnostic: Diagnostic) -> Hints:
     """`param default 0: a b := ..` and `param: a default 0 b default 0 := ..`."""
     head = head_of(diagnostic)
     if not head or not re.search(r"\bdefault\s+$", diagnostic.before):
@@ -40,7 +41,7 @@ def shared_default(diagnostic: Any) -> Hint:
         yield f"give default with each name: {alone} param: {' '.join(columns)} := ..", True
 
 
-def no_colon(diagnostic: Any) -> Hint:
+def no_colon(diagnostic: Diagnostic) -> Hints:
     """`param cost  hill lake mill :=`"""
     head = head_of(diagnostic)
     has_number = any(VALUE.fullmatch(word) for word in head)
@@ -48,7 +49,7 @@ def no_colon(diagnostic: Any) -> Hint:
         yield f"is a : missing after {head[1]}?", True
 
 
-def extra_columns(diagnostic: Any) -> Hint:
+def extra_columns(diagnostic: Diagnostic) -> Hints:
     """Columns of a sheet for which the model has no parameter."""
     from .names import nearest
     columns = columns_of(head_of(diagnostic))
@@ -61,7 +62,7 @@ def extra_columns(diagnostic: Any) -> Hint:
     yield f"the model has no {' and no '.join(extra)}: leave the column{'s' * (len(extra) > 1)} out (netflow-sheet list SHEET --columns {kept})", True
 
 
-def heading_fault(diagnostic: Any, head: list, rows: list, wanted: int) -> str:
+def heading_fault(diagnostic: Diagnostic, head: list[Token], rows: list[list[Token]], wanted: int) -> str:
     """Returns what is wrong with the heading of a table if all its rows have the same other number of cells; else an empty text."""
     counts = {len(row) for row in rows}
     if not wanted or len(rows) < 2 or len(counts) > 1 or counts == {wanted}:
@@ -78,7 +79,7 @@ def heading_fault(diagnostic: Any, head: list, rows: list, wanted: int) -> str:
     return f"{said}: {f'is {missing} missing in the heading?' if missing else 'is a column missing in the heading?'}"
 
 
-def blank_text(diagnostic: Any, columns: list, more: int) -> str:
+def blank_text(diagnostic: Diagnostic, columns: list[Token], more: int) -> str:
     """Returns which columns of a heading are one name with a blank: one that the data have elsewhere, else the first ones."""
     known = {token.bare() for token in tokens(diagnostic.texts.get("data", ""))}
     pairs = [f"{one.bare()} {two.bare()}" for one, two in zip(columns, columns[1:])]
@@ -88,7 +89,7 @@ def blank_text(diagnostic: Any, columns: list, more: int) -> str:
     return f"is a name with a blank in it? Write it with quotes, such as '{pairs[0]}'" if pairs and more else "is a column too many in it?"
 
 
-def missing_columns(diagnostic: Any, columns: list, count: int) -> str:
+def missing_columns(diagnostic: Diagnostic, columns: list[Token], count: int) -> str:
     """Returns the members that the heading lacks, if a set has those of the heading and that many more."""
     from .data import listed
     here = {token.bare() for token in columns}
@@ -99,7 +100,7 @@ def missing_columns(diagnostic: Any, columns: list, count: int) -> str:
     return ""
 
 
-def unquoted_ranges(diagnostic: Any) -> Hint:
+def unquoted_ranges(diagnostic: Diagnostic) -> Hints:
     """`set WEEKS := 1..3;` in data."""
     for name, token in ranges(diagnostic):
         first, last = map(int, token.text.split(".."))
@@ -109,7 +110,7 @@ def unquoted_ranges(diagnostic: Any) -> Hint:
         return
 
 
-def ranges(diagnostic: Any) -> Iterator[tuple]:
+def ranges(diagnostic: Diagnostic) -> Iterator[tuple[str, Token]]:
     """Yields the words such as `1..3` that the data list in sets, each with the name of its set."""
     words: list[Token] = list(tokens(diagnostic.texts.get("data", "")))
     name = ""
@@ -121,7 +122,7 @@ def ranges(diagnostic: Any) -> Iterator[tuple]:
 
 
 # Hints that leave no doubt: if one of them applies, others are left out.
-ALONE: tuple = (
+ALONE: HintTable = (
     (("E20",), shared_default),
     (("E20",), no_colon),
     (("E30",), extra_columns),

@@ -4,21 +4,23 @@ from __future__ import annotations
 import difflib
 import re
 import unicodedata
-from typing import Any, Iterator
+from typing import Sequence
 
-from ..reading.data import DataText
 from ..errors import Unreadable
-from .memberships import Memberships, Unknown
-from ..reading.model import Shapes, Unparsed, parse
-from ..reading.output import members, reference, shown
+from ..reading.data import Cell, DataText
+from ..reading.keys import members, reference, shown
+from ..reading.model import Phrase, Shapes, Unparsed, parse
 from ..reading.text import few, tokens
+from ..types import Member
+from .diagnostic import Diagnostic
+from .hint import Hints, HintTable
+from .memberships import Memberships, Unknown
 
-Hint = Iterator[tuple]
 QUOTES = "\u2018\u2019\u201a\u201b\u201c\u201d\u201e\u201f\u00ab\u00bb\u2039\u203a`\u00b4"
 DASHES = "\u2010\u2011\u2012\u2013\u2014\u2212"
 
 
-def character(diagnostic: Any) -> Hint:
+def character(diagnostic: Diagnostic) -> Hints:
     """Typographic quotes and dashes, units, and marks that begin comments elsewhere."""
     mark = diagnostic.at()[:1]
     name = unicodedata.name(mark, "a character without a name") if mark else ""
@@ -36,7 +38,7 @@ def character(diagnostic: Any) -> Hint:
         yield f"the character is {name} (U+{ord(mark):04X}), a blank that looks like a plain one: write a plain one", True
 
 
-def unit(diagnostic: Any) -> Hint:
+def unit(diagnostic: Diagnostic) -> Hints:
     """`40km`, or `40 loaves` for a parameter with one value."""
     word = diagnostic.word().rstrip(",;")
     found = re.fullmatch(r"([+-]?\d+(?:\.\d+)?)[^\W\d_]+", word)
@@ -51,13 +53,13 @@ def unit(diagnostic: Any) -> Hint:
         yield f"{diagnostic.detail} has one value: is {word} a unit? Leave it out", True
 
 
-def one_number(diagnostic: Any) -> Hint:
+def one_number(diagnostic: Diagnostic) -> Hints:
     """`30-45` for a value."""
     if diagnostic.text == "data" and re.fullmatch(r"\d+-\d+", diagnostic.word()):
         yield f"{diagnostic.word()} is no number, and a value is one number; a range needs two parameters, a least and a most", True
 
 
-def keys_as_tuples(diagnostic: Any) -> Hint:
+def keys_as_tuples(diagnostic: Diagnostic) -> Hints:
     """`param cost := (north,hill) 4`."""
     words = [token.text for token in diagnostic.statement_before()]
     found = re.match(r"\(([^()]*)\)\s*(\S+)", diagnostic.at())
@@ -65,7 +67,7 @@ def keys_as_tuples(diagnostic: Any) -> Hint:
         yield f"the keys of a value have no parentheses: {' '.join(part.strip() for part in found[1].split(','))} {found[2].rstrip(';')}", True
 
 
-def short_item(diagnostic: Any) -> Hint:
+def short_item(diagnostic: Diagnostic) -> Hints:
     """`hill 30, lake, mill 25`: an item between commas without its value."""
     text = "\n".join(diagnostic.texts.get("data", "").split("\n")[:diagnostic.row])
     start = text.rfind(":=", 0, len(text) - len(diagnostic.at()))
@@ -79,7 +81,7 @@ def short_item(diagnostic: Any) -> Hint:
         yield f"is the value of {' '.join(short[0])} missing?", True
 
 
-def misspelt_statement(diagnostic: Any) -> Hint:
+def misspelt_statement(diagnostic: Diagnostic) -> Hints:
     """`parm` for `param`, `defualt` for `default`."""
     word = diagnostic.word().lower()
     if diagnostic.text != "data" or not re.fullmatch(r"[a-z]+", word):
@@ -91,7 +93,7 @@ def misspelt_statement(diagnostic: Any) -> Hint:
         yield f"{diagnostic.word()}: is {meant} meant?", True
 
 
-def missing_mark(diagnostic: Any) -> Hint:
+def missing_mark(diagnostic: Diagnostic) -> Hints:
     """`param van 40;`"""
     before = [token.text for token in diagnostic.statement_before()]
     if diagnostic.text == "data" and before[:1] in (["set"], ["param"]) and len(before) == 2 and re.match(r"[\w'\"(.+-]", diagnostic.at()) \
@@ -99,7 +101,7 @@ def missing_mark(diagnostic: Any) -> Hint:
         yield f"is := missing before {diagnostic.word().rstrip(';')}?", True
 
 
-def cells_of(diagnostic: Any) -> list:
+def cells_of(diagnostic: Diagnostic) -> list[tuple[Cell, int]]:
     """Returns the data's cells, also those with a missing-value dot, each with its row; none if the texts cannot be parsed."""
     try:
         shapes = Shapes(parse(diagnostic.texts.get("model", "")))
@@ -115,38 +117,40 @@ def cells_of(diagnostic: Any) -> list:
     return rows
 
 
-def is_dot(cell: Any) -> bool:
+def is_dot(cell: Cell) -> bool:
     return cell.token.text == "." and cell.token.kind == "word"
 
 
-def named_cells(diagnostic: Any, dots: bool = False) -> list:
+def named_cells(diagnostic: Diagnostic, dots: bool = False) -> list[tuple[Cell, int]]:
     """Returns the cells that the error's detail names: those with a value, or those with a missing-value dot."""
     name, bracket, rest = diagnostic.detail.partition("[")
     key = members(rest[:-1]) if bracket else []
     return [(cell, row) for cell, row in cells_of(diagnostic) if key is not None and cell.name == name and list(cell.key) == list(key) and is_dot(cell) == dots]
 
 
-def cell_place(diagnostic: Any, cell: Any, row: int) -> str:
+def cell_place(diagnostic: Diagnostic, cell: Cell, row: int) -> str:
     """Returns the line and the column of a cell in words."""
     text = diagnostic.texts["data"]
     before = text[text.rfind("\n", 0, cell.token.start) + 1:cell.token.start]
     return f"{diagnostic.rows_text([row])}, column {len(before.encode('utf-8', 'surrogateescape')) + 1}"
 
 
-def restricted(diagnostic: Any) -> Hint:
+def restricted(diagnostic: Diagnostic) -> Hints:
     """The value that a restriction rejects."""
     found = named_cells(diagnostic)
     if diagnostic.text == "model" and found:
         cell, row = found[-1]
-        change = diagnostic.question.change_at(row) if diagnostic.question is not None else ""
-        value, place = (diagnostic.question.value_at(row)[2], change) if change else (cell.token.text, cell_place(diagnostic, cell, row))
+        value: object = cell.token.text
+        place = cell_place(diagnostic, cell, row)
+        if diagnostic.instance is not None and diagnostic.instance.change_at(row):
+            value, place = diagnostic.instance.value_at(row)[2], diagnostic.instance.change_at(row)
         phrase = re.match(r"[^,;]*", diagnostic.at())
         sign = re.search(r"(<=|>=|<>|!=|<|>|\bin|\bwithin)\s*$", diagnostic.before)
         said = f"; the model has {sign[1]} {phrase[0].strip()}" if sign and phrase else ""
         yield f"{diagnostic.detail} is {value} in {place}{said}", True
 
 
-def missing_value(diagnostic: Any) -> Hint:
+def missing_value(diagnostic: Diagnostic) -> Hints:
     """The dot of a value that is missing, or the values with the nearest keys."""
     name, bracket, rest = diagnostic.detail.partition("[")
     key = members(rest[:-1]) if bracket else None
@@ -158,7 +162,7 @@ def missing_value(diagnostic: Any) -> Hint:
         return
     near = [(nearness(cell.key, key), cell, row) for cell, row in cells_of(diagnostic) if cell.name == name and len(cell.key) == len(key) and not is_dot(cell)]
     best = max((found for found, _, _ in near), default=(0, 0))
-    if near and diagnostic.question is not None and diagnostic.question.is_from_python():
+    if near and diagnostic.instance is not None and diagnostic.instance.is_from_python():
         keys = [repr(cell.key[0] if len(cell.key) == 1 else cell.key) for found, cell, _ in near if found == best]
         yield f"{name} has no value at {key[0] if len(key) == 1 else tuple(key)!r}; it has values at {few(keys, 3)}", True
         return
@@ -167,13 +171,13 @@ def missing_value(diagnostic: Any) -> Hint:
         yield f"the data have no row of {diagnostic.detail}; {'the nearest: ' + ', '.join(listed) if best[0] else f'{name} is in {diagnostic.rows_text([near[0][2]])}'}", True
 
 
-def nearness(key: tuple, wanted: list) -> tuple:
+def nearness(key: Sequence[Member], wanted: Sequence[Member]) -> tuple[int, int]:
     """Returns how many parts two keys have in common, and how many of the first ones."""
     same = [one == other for one, other in zip(key, wanted)]
     return sum(same), same.index(False) if False in same else len(same)
 
 
-def given_twice(diagnostic: Any) -> Hint:
+def given_twice(diagnostic: Diagnostic) -> Hints:
     """Both places of a value or a member that is given twice."""
     found = named_cells(diagnostic)
     if diagnostic.text == "data" and len(found) > 1 and "[" in diagnostic.detail:
@@ -183,7 +187,7 @@ def given_twice(diagnostic: Any) -> Hint:
         yield from listed_twice(diagnostic)
 
 
-def crossed(diagnostic: Any) -> Hint:
+def crossed(diagnostic: Diagnostic) -> Hints:
     """Both bounds of an arc whose lower one is above its upper one, with their lines."""
     try:
         world, (name, key) = Memberships(diagnostic.texts.get("model", ""), diagnostic.texts.get("data", "")), reference(diagnostic.detail)
@@ -195,8 +199,10 @@ def crossed(diagnostic: Any) -> Hint:
     yield f"the lower bound, {sides[0]}, is above the upper bound, {sides[1]}", True
 
 
-def bound_text(diagnostic: Any, world: Memberships, phrase: Any, env: dict) -> str:
+def bound_text(diagnostic: Diagnostic, world: Memberships, phrase: Phrase | None, env: dict[str, Member]) -> str:
     """Returns a bound with its value and the line of the data that gives it, such as `van, is 40 in line 5`."""
+    if phrase is None:
+        raise Unknown
     expr = phrase.exprs[0]
     value, text = world.value(expr, env), world.text(expr)
     if expr.op != "name":
@@ -207,7 +213,7 @@ def bound_text(diagnostic: Any, world: Memberships, phrase: Any, env: dict) -> s
     return f"{title} = {value}{f' in {diagnostic.rows_text(rows[-1:])}' if rows else ''}"
 
 
-def second_statement(diagnostic: Any) -> Hint:
+def second_statement(diagnostic: Diagnostic) -> Hints:
     """A set or parameter with two statements, as in two data files that were joined."""
     name, words = diagnostic.detail.partition("[")[0], list(tokens(diagnostic.texts.get("data", "")))
     rows = [word.row for word, following in zip(words, words[1:]) if word.text in ("set", "param") and following.bare() == name]
@@ -219,7 +225,7 @@ def second_statement(diagnostic: Any) -> Hint:
         yield f"its first statement is in {diagnostic.rows_text(rows[:1])}; are two data files joined? Give both to the tools", True
 
 
-def listed_twice(diagnostic: Any) -> Hint:
+def listed_twice(diagnostic: Diagnostic) -> Hints:
     """A member, or a tuple, that a set's statement lists twice."""
     words = list(tokens(diagnostic.texts.get("data", "")))
     for here in range(len(words) - 2):
@@ -227,7 +233,7 @@ def listed_twice(diagnostic: Any) -> Hint:
             rest = words[here + 3:]
             rest = rest[:next((at for at, token in enumerate(rest) if token.text == ";"), len(rest))]
             text = " ".join(token.text for token in rest)
-            seen: dict = {}
+            seen: dict[str, int] = {}
             for part in re.findall(r"\([^)]*\)", text) or text.split():
                 seen[part] = seen.get(part, 0) + 1
             twice = [part.replace(" ", "") for part, count in seen.items() if count > 1]
@@ -236,25 +242,27 @@ def listed_twice(diagnostic: Any) -> Hint:
             return
 
 
-def no_value(diagnostic: Any) -> Hint:
+def no_value(diagnostic: Diagnostic) -> Hints:
     """A name that the data do not have at all."""
     name = diagnostic.detail.partition("[")[0]
     words = [token.text for token in tokens(diagnostic.texts.get("data", ""))]
     if diagnostic.text != "model" or not name or not words:
         return
-    if diagnostic.question is not None and diagnostic.question.is_from_python() and (name not in words or "[" not in diagnostic.detail and name in diagnostic.question.changed.params):
+    changed = diagnostic.instance.changed if diagnostic.instance is not None and diagnostic.instance.is_from_python() else None
+    if changed is not None and (name not in words or "[" not in diagnostic.detail and name in changed.params):
         given = "is given without a value, as None or NaN" if name in words else "has no value"
         yield f"{name} {given}: give it to solve as {name}=.., or in a data file", True
     elif name not in words:
         yield f"the data have no statement for {name}", True
 
 
-def missing_in_set(diagnostic: Any) -> Hint:
+def missing_in_set(diagnostic: Diagnostic) -> Hints:
     """A member that the data use in several statements, and its set does not list."""
     name, bracket, rest = diagnostic.detail.partition("[")
     if diagnostic.text != "data" or not bracket:
         return
     from .keys import Key, near
+
     try:
         key = Key(diagnostic)
     except (Unreadable, Unparsed, ValueError):
@@ -264,19 +272,19 @@ def missing_in_set(diagnostic: Any) -> Hint:
             words = list(tokens(diagnostic.texts["data"]))
             used = [token for token in words if token.bare() == key.key[first]]
             statements = {statement_of(diagnostic, token.row) for token in used}
-            others = near(key.key[first], [part for part, in known if isinstance(part, str)])
+            others = near(key.key[first], [part for (part,) in known or () if isinstance(part, str)])
             is_misspelt = any(sum(token.bare() == other for token in words) == 1 for other in others)
             if len(statements) > 1 and not is_misspelt and not key.exchanged():
                 rows = list(dict.fromkeys(token.row for token in used))
                 yield f"{key.key[first]} is not in {title}, and the data name it in {diagnostic.rows_text(rows[:3])}: is it missing in the set {title}?", True
 
 
-def statement_of(diagnostic: Any, row: int) -> int:
+def statement_of(diagnostic: Diagnostic, row: int) -> int:
     """Returns how many statements end before a row."""
     return sum(token.text == ";" for token in tokens("\n".join(diagnostic.texts["data"].split("\n")[:row - 1])))
 
 
-HINTS: tuple = (
+HINTS: HintTable = (
     (("E01",), character),
     (("E31", "E36"), unit),
     (("E36",), one_number),

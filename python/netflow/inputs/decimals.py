@@ -7,7 +7,6 @@ from __future__ import annotations
 
 import math
 import re
-from typing import Any
 
 from ..errors import ProgramError
 from ..exact import parse_numeral
@@ -25,7 +24,7 @@ CERTAIN = re.compile(r"E(?!04)(?:[012]\d|30|31|33|36|37) ")
 
 def whole_copy(text: str, kind: str) -> str:
     """Returns the text with each numeral that is not whole replaced by the next whole number, at the same length."""
-    def whole(found: Any) -> str:
+    def whole(found: re.Match[str]) -> str:
         number = parse_numeral(found["numeral"]) if found["numeral"] else None
         if number is None or number.denominator == 1:
             return found[0]
@@ -39,7 +38,7 @@ def is_decimal(problem: ProgramError) -> bool:
     return problem.status == REJECTED and problem.message.startswith("E04 ")
 
 
-def next_error(session: Session, kinds: re.Pattern = CERTAIN) -> ProgramError | None:
+def next_error(session: Session, kinds: re.Pattern[str] = CERTAIN) -> ProgramError | None:
     """Returns the program's error for the files of a session besides their decimals; None if it reports none of these kinds."""
     copies = [session.write(whole_copy(read(path), kind)) for path, kind in zip(session.files, ("model", "data"))]
     try:

@@ -2,11 +2,15 @@
 from __future__ import annotations
 
 import re
-from typing import Any, Iterable, Iterator, Sequence
+from typing import TYPE_CHECKING, Iterable, Iterator, Sequence
 
-from ..reading.data import DataText
+from ..reading.data import DataText, Token
+from ..reading.keys import shown
 from ..reading.model import Shapes, Unparsed, parse, tokens_of
-from ..reading.output import shown
+from ..types import Key
+
+if TYPE_CHECKING:
+    from .instance import Instance
 
 # A first 0, as in 0.125, begins a decimal.
 GROUPED = re.compile(r"[+-]?[1-9][0-9]{0,2}(?:\.[0-9]{3})+")
@@ -18,7 +22,7 @@ def meant(text: str) -> str:
     return f"is {text.replace('.', '')} meant? A point begins decimals"
 
 
-def grouped_lines(model: str, data: Iterable[tuple], changes: Iterable[str] = ()) -> list:
+def grouped_lines(model: str, data: Iterable[tuple[str | None, str]], changes: Iterable[str] = ()) -> list[str]:
     """Returns a line for each parameter with such values, with the place of the first one. `data` are pairs of a name and a text, and
     `changes` what the user wrote for a change, such as `--set van=1.200`."""
     lines = [f"{said}: {meant(said.rpartition('=')[2])}" for said in dict.fromkeys(changes) if GROUPED.fullmatch(said.rpartition("=")[2])]
@@ -31,9 +35,9 @@ def grouped_lines(model: str, data: Iterable[tuple], changes: Iterable[str] = ()
     return lines
 
 
-def lines_of_question(question: Any) -> list:
-    data = [(source.name if len(question.data) > 1 else None, source.text()) for source in question.data]
-    return grouped_lines(question.model.text(), data, question.origins.values())
+def grouped_lines_of(instance: Instance) -> list[str]:
+    data = [(source.name if len(instance.data) > 1 else None, source.text()) for source in instance.data]
+    return grouped_lines(instance.model.text(), data, instance.origins.values())
 
 
 def lines_of_model(model: str) -> Iterator[str]:
@@ -45,7 +49,7 @@ def lines_of_model(model: str) -> Iterator[str]:
 def lines_of_data(model: str, name: str | None, text: str) -> Sequence[str]:
     shapes = Shapes(parse(model), model)
     params = {decl: shapes.keys[decl] for decl in shapes.names("param")}
-    found: dict = {}
+    found: dict[str, list[tuple[Key, Token]]] = {}
     for statement in DataText(text, params, shapes.sets, True).statements:
         values = [(cell.name, cell.key, cell.token) for cell in statement.cells]
         values += [(f"the default of {statement.name}", (), statement.default)] if statement.default is not None else []

@@ -5,20 +5,22 @@ import os
 import re
 from concurrent.futures import ThreadPoolExecutor
 from fractions import Fraction
-from typing import Any, Sequence
+from typing import Any, Mapping, Sequence
 
-from ..reading.conditions import mark_open_sides
-from ..reading.data import DataText
-from ..reading.edits import EditedText
 from ..errors import DataError, ProgramError, ScaleError
 from ..exact import common_factor, parse_numeral
-from ..reading.model import Shapes, Unparsed, parse, tokens_of
 from ..program import UNREADABLE_FILE, Answer, Session, call
+from ..reading.conditions import mark_open_sides
+from ..reading.data import DataText, Token
+from ..reading.edits import EditedText
+from ..reading.model import Decl, Shapes, Unparsed, parse, tokens_of
+from ..reading.network import Network
+from ..reading.output import read_compiled, read_cut, read_plan, read_prices
+from ..reading.text import read
+from ..types import Edit, Key, Member, Value
+from .decimals import CERTAIN, GRAMMAR, is_decimal, next_error
 from .python_data import PythonData, declared_text
 from .scaling import BOUND, Factors, Scaler, scaled_value
-from ..reading.output import Network, read_compiled, read_cut, read_plan, read_prices
-from .decimals import CERTAIN, GRAMMAR, is_decimal, next_error
-from ..reading.text import read
 
 # The beginning of the data of a model with data in one file.
 SECTION = re.compile(r"#[^\n]*|/\*.*?\*/|'(?:[^'\n]|'')*'|\"(?:[^\"\n]|\"\")*\"|;(?:\s|#[^\n]*\n|/\*.*?\*/)*(?P<data>data\s*;)", re.S)
@@ -36,25 +38,25 @@ class Input:
         return self.given if self.given is not None else read(self.path)
 
 
-class Question:
+class Instance:
     """`changes` are sets and parameters by name that replace those of the data; `scale` has factors by parameter; with `add_bounds` an
     arc without a bound gets one that no plan reaches. `origins` says for a name with a key what the user wrote for the change."""
 
-    def __init__(self, model: Input, data: Sequence[Input] = (), *, objective: str | None = None, changes: dict | None = None,
-                 scale: dict | None = None, add_bounds: bool = False, origins: dict | None = None) -> None:
+    def __init__(self, model: Input, data: Sequence[Input] = (), *, objective: str | None = None, changes: Mapping[str, Any] | None = None,
+                 scale: Mapping[str, int] | None = None, add_bounds: bool = False, origins: Mapping[tuple[str, Key], str] | None = None) -> None:
         self.model, self.data, self.changes = model, list(data), dict(changes or {})
         self.scale, self.add_bounds, self.objective = dict(scale or {}), add_bounds, objective
         self.options = [] if objective is None else ["--objective", objective]
         self.factors = Factors()
-        self.edited: dict = {}
+        self.edited: dict[str, list[EditedText]] = {}
         self.origins, self.changed_text = dict(origins or {}), ""
         self.changed: PythonData | None = None
         self.session = Session([])
         self.is_ready = self.is_rewritten = False
         self.parsed = 0  # how many data texts were parsed when a text could not be
-        self.words: list = []  # the words of a command that asks the same
+        self.words: list[str] = []  # the words of a command that asks the same
 
-    def __enter__(self) -> "Question":
+    def __enter__(self) -> "Instance":
         return self
 
     def __exit__(self, _: Any, problem: Any, __: Any) -> None:
@@ -94,7 +96,7 @@ class Question:
             name, data = self.model.name, "\n" * text.count("\n", 0, start) + " " * column + text[start:]
             self.model, self.data = Input(text=text[:start], name=name), [Input(text=data, name=name)]
 
-    def report_text(self, kinds: re.Pattern) -> None:
+    def report_text(self, kinds: re.Pattern[str]) -> None:
         """Raises the program's error for the model, or for the data text `parsed`, besides its decimals."""
         above = sum(source.text().count("\n") + 1 for source in self.data[:self.parsed])
         source = self.data[self.parsed] if self.parsed < len(self.data) else None
@@ -171,7 +173,7 @@ class Question:
         path, place = self.source_of(row)
         return ProgramError(problem.status, f"{found[1]} {place}:{column}{found[5].rstrip()}\nin {path or 'the text'}:{place}:{column}\n", line)
 
-    def source_of(self, row: int) -> tuple:
+    def source_of(self, row: int) -> tuple[str | None, int]:
         """Returns the name of the file of a line of the joined data with the line in that file; (None, 0) for a change."""
         if self.change_at(row):
             return None, 0
@@ -191,14 +193,14 @@ class Question:
         if self.changed is None or row <= 0 or not self.changed.origins:
             return ""
         name, key, _ = self.changed.place(row)
-        return self.origins.get((name, key)) or next((said for (other, _), said in self.origins.items() if other == name and not key), "") \
+        return (key is not None and self.origins.get((name, key))) or next((said for (other, _), said in self.origins.items() if other == name and not key), "") \
             or self.changed.described(row)
 
     def is_from_python(self) -> bool:
         """Whether values are given by Python, not by options of a command."""
         return self.changed is not None and bool(self.changes) and not self.origins
 
-    def value_at(self, row: int) -> tuple:
+    def value_at(self, row: int) -> tuple[str, Key | None, Value | None]:
         """Returns the name, the key and the value of the change in a line of the joined data."""
         return self.changed.place(row - self.rows_of_data()) if self.changed is not None else ("", None, None)
 
@@ -210,7 +212,7 @@ class Question:
         key_text = f"[{', '.join(map(repr, key))}]" if key else ""
         return f"{name}{key_text} = {str(value) if isinstance(value, Fraction) else repr(value)}"
 
-    def network(self, with_prices: bool = False) -> tuple:
+    def network(self, with_prices: bool = False) -> tuple[Answer, Network]:
         """Returns the answer of `solve` and the network with the plan; with prices too if asked for."""
         self.prepare()
         was_rewritten = self.is_rewritten
@@ -240,7 +242,7 @@ class Question:
     def check_bounds(self, net: Network) -> None:
         """Raises Unbounded if an added bound is what limits the objective."""
         if self.add_bounds:
-            from ..graphs import require_bounded
+            from ..graphs.problem import require_bounded
             require_bounded(net)
 
     # Rewriting
@@ -252,7 +254,7 @@ class Question:
         decls = parse(model)
         shapes = Shapes(decls, model)
         params = {decl.name: shapes.keys[decl.name] for decl in decls if decl.kind == "param"}
-        pieces: list = []
+        pieces: list[DataText] = []
         for source in self.data:
             pieces.append(DataText(source.text(), params, shapes.sets))
             self.parsed += 1
@@ -278,16 +280,16 @@ class Question:
         self.session.files = [self.session.write(self.edited["model"][0].text), self.session.write(text)]
 
     @staticmethod
-    def dropped(model: str, decl: Any) -> tuple:
+    def dropped(model: str, decl: Decl) -> Edit:
         """The edit that takes a `:=` out of the model, since a change gives the value."""
-        phrase = decl.phrase(":=")
+        phrase = next(phrase for phrase in decl.phrases if phrase.word == ":=")
         before = model[:phrase.start].rstrip()
         start = len(before) - 1 if before.endswith(",") else phrase.start
         return start, phrase.end, re.sub(r"[^\n]", " ", model[start:phrase.end]) if "\n" in model[start:phrase.end] else ""
 
-    def needed(self, pieces: list, changes: PythonData, edits: list) -> dict:
+    def needed(self, pieces: list[DataText], changes: PythonData, edits: list[list[Edit]]) -> dict[str, int]:
         """The factor that makes the values of each parameter whole."""
-        values: dict = {name: changes.numbers(name) for name in changes.params}
+        values: dict[str, list[Fraction]] = {name: changes.numbers(name) for name in changes.params}
         for piece, made in zip(pieces, edits):
             gone = {start for start, _, _ in made}
             for name, token in tokens_with_numbers(piece):
@@ -296,7 +298,7 @@ class Question:
                     values.setdefault(name, []).append(number)
         return {name: common_factor(numbers) for name, numbers in values.items()}
 
-    def scaled_cells(self, piece: DataText, made: list, factors: dict) -> list:
+    def scaled_cells(self, piece: DataText, made: list[Edit], factors: dict[str, int]) -> list[Edit]:
         gone, found = {start for start, _, _ in made}, []
         for name, token in tokens_with_numbers(piece):
             factor = factors.get(name, 1)
@@ -322,7 +324,7 @@ def unreadable(path: str) -> str:
     return ""
 
 
-def tokens_with_numbers(piece: DataText) -> list:
+def tokens_with_numbers(piece: DataText) -> list[tuple[str, Token]]:
     found = []
     for statement in piece.statements:
         found += [(cell.name, cell.token) for cell in statement.cells if cell.token.kind == "word"]
@@ -331,19 +333,21 @@ def tokens_with_numbers(piece: DataText) -> list:
     return found
 
 
-def texts_of(model: str, pieces: list) -> set:
+def texts_of(model: str, pieces: list[DataText]) -> set[Member]:
     """Returns the texts that a model and its data have as members."""
-    return {token.text[1:-1].replace(token.text[0] * 2, token.text[0]) for token in tokens_of(model) if token.text[0] in "'\""} | \
-        {part for piece in pieces for statement in piece.statements for part in statement.members}
+    texts: set[Member] = {
+        token.text[1:-1].replace(token.text[0] * 2, token.text[0]) for token in tokens_of(model) if token.text[0] in "'\""
+    }
+    return texts | {part for piece in pieces for statement in piece.statements for part in statement.members}
 
 
 class Overrides:
     """What later data replace: cells by name and key, sets and defaults by name."""
 
-    def __init__(self, pieces: list, changes: PythonData) -> None:
+    def __init__(self, pieces: list[DataText], changes: PythonData) -> None:
         self.pieces, self.changes = pieces, changes
 
-    def edits(self, piece: DataText) -> list:
+    def edits(self, piece: DataText) -> list[Edit]:
         """Returns the edits that take out of a data text what later ones say, and its frame, `data;` and `end;`."""
         cells, sets, defaults = set(), set(self.changes.sets), set()
         cells |= {(name, key) for name, rows in self.changes.params.items() for key in rows}
@@ -359,16 +363,20 @@ class Overrides:
             if statement.set_name and statement.set_name in sets:
                 found += [blank(piece.text, token.start, token.end) for token in statement.set_tokens]
             if statement.default is not None and statement.name in defaults:
-                found += [blank(piece.text, token.start, token.end) for token in (statement.default_word, statement.default)]
+                found += [
+                    blank(piece.text, token.start, token.end)
+                    for token in (statement.default_word, statement.default)
+                    if token is not None
+                ]
             found += [(cell.token.start, cell.token.end, ".") for cell in statement.cells if (cell.name, cell.key) in cells]
         return found
 
 
-def blank(text: str, start: int, end: int) -> tuple:
+def blank(text: str, start: int, end: int) -> Edit:
     return start, end, " " * (end - start)
 
 
-def blanks(text: str, start: int, end: int) -> list:
+def blanks(text: str, start: int, end: int) -> list[Edit]:
     """Blanks in place of a part of a text, line by line."""
     found, at = [], start
     for line in text[start:end].split("\n"):

@@ -3,14 +3,18 @@ from __future__ import annotations
 
 import difflib
 from fractions import Fraction
-from typing import Any, Iterable
+from typing import Any, Iterable, List, Mapping, Sized, Tuple
 
-from ..reading.data import KEY_NUMBER, member_text, set_statement
 from ..errors import DataError
 from ..exact import as_fraction, parse_numeral
+from ..reading.data import KEY_NUMBER, member_text, set_statement
 from ..reading.model import Shapes
-from .scaling import BOUND, scaled_value
 from ..reading.text import few
+from ..types import Key, Member, Value
+from .scaling import BOUND, scaled_value
+
+# A key and a value as Python gives them.
+Pair = Tuple[Tuple[Any, ...], Any]
 
 # The title that pandas gives to a column without one, as the first column of a grid in a file.
 UNNAMED = "Unnamed: 0"
@@ -18,11 +22,11 @@ OPTIONS = ("objective", "scale", "bounds")
 FORMS = "give a dict by key, a list of tuples (key, .., value), a list of dicts, or a Series or DataFrame of pandas"
 
 
-class Layers(list):
+class Layers(List[Any]):
     """Several values of one set or parameter: a later one replaces a set as a whole, and a parameter key by key."""
 
 
-def override(values: dict, others: Any) -> None:
+def override(values: dict[str, Any], others: Mapping[str, Any]) -> None:
     """Adds sets and parameters to those of a dict, which they override."""
     for name, value in others.items():
         before = values.get(name)
@@ -36,12 +40,12 @@ class PythonData:
     A part of a key that is a text in the form of a number becomes that number, unless a set has the text as a member: `texts` are those
     of the model and of data texts. With None every text stays one."""
 
-    def __init__(self, values: dict, sets: dict, keys: dict, texts: set | None = None, shapes: Shapes | None = None) -> None:
+    def __init__(self, values: dict[str, Any], sets: dict[str, int], keys: dict[str, int], texts: set[Member] | None = None, shapes: Shapes | None = None) -> None:
         shapes = shapes or Shapes([])
         layers = {name: value if isinstance(value, Layers) else Layers([value]) for name, value in values.items()}
-        self.sets: dict = {name: members_of(name, value[-1], sets[name]) for name, value in layers.items() if name in sets}
-        self.params: dict = {}
-        self.origins: list = []
+        self.sets: dict[str, list[Key]] = {name: members_of(name, value[-1], sets[name]) for name, value in layers.items() if name in sets}
+        self.params: dict[str, dict[Key, Value]] = {}
+        self.origins: list[tuple[str, Key | None]] = []
         kept = None if texts is None else texts | {part for rows in self.sets.values() for row in rows for part in row}
         for name, given in layers.items():
             if name in keys:
@@ -49,10 +53,10 @@ class PythonData:
             elif name not in sets:
                 raise DataError(f"{name}: the model declares no such set or parameter{declared_text(shapes, name, 'set', 'param')}")
 
-    def numbers(self, name: str) -> list:
+    def numbers(self, name: str) -> list[Fraction]:
         return [number for number in self.params[name].values() if isinstance(number, Fraction)]
 
-    def text(self, factors: dict, add_bounds: bool) -> str:
+    def text(self, factors: dict[str, int], add_bounds: bool) -> str:
         """Returns the statements, the numbers times the factors of their parameters."""
         parts = [set_statement(name, members) for name, members in self.sets.items()]
         self.origins = [(name, key) for name, rows in (*self.sets.items(), *self.params.items()) for key in (None, *rows, None)]
@@ -62,10 +66,10 @@ class PythonData:
             parts.append("\n".join([f"param {name} :=", *lines, ";"]) + "\n")
         return "".join(parts)
 
-    def place(self, row: int) -> tuple:
+    def place(self, row: int) -> tuple[str, Key | None, Value | None]:
         """Returns the name, the key or member, and the value of a line of the text, counted from 1."""
         name, key = self.origins[min(row, len(self.origins)) - 1]
-        return name, key, self.params.get(name, {}).get(key)
+        return name, key, None if key is None else self.params.get(name, {}).get(key)
 
     def described(self, row: int) -> str:
         """Returns what a line of the text says: `the value of van`, `key ('north', 'hill') of cost`, `member 'hill' of SHOPS`."""
@@ -74,7 +78,7 @@ class PythonData:
             return f"{'the members' if name in self.sets else 'the value' if key == () else 'the values'} of {name}"
         return f"{'member' if name in self.sets else 'key'} {key_text(key)} of {name}"
 
-    def value_text(self, name: str, value: Any, factor: int, add_bounds: bool) -> str:
+    def value_text(self, name: str, value: Value, factor: int, add_bounds: bool) -> str:
         if isinstance(value, Fraction):
             return str(scaled_value(name, value, factor))
         if isinstance(value, float):
@@ -84,7 +88,7 @@ class PythonData:
         return member_text(value)
 
 
-def members_of(name: str, value: Any, size: int) -> list:
+def members_of(name: str, value: Any, size: int) -> list[Key]:
     """Returns the members of a set as tuples."""
     if isinstance(value, str) or not hasattr(value, "__iter__"):
         members = value.replace(",", " ").split() if isinstance(value, str) else [value]
@@ -104,12 +108,12 @@ def members_of(name: str, value: Any, size: int) -> list:
     return found
 
 
-def key_text(key: tuple) -> str:
+def key_text(key: Key) -> str:
     """Returns a key as Python writes it; one of one part without parentheses."""
     return repr(key[0]) if len(key) == 1 else repr(key)
 
 
-def plain(member: Any, owner: str) -> Any:
+def plain(member: Any, owner: str) -> Member:
     """Returns a member as an int or a str; `owner` is the set or parameter that an error names."""
     if isinstance(member, str) or (isinstance(member, int) and not isinstance(member, bool)):
         return member
@@ -119,7 +123,7 @@ def plain(member: Any, owner: str) -> Any:
     raise DataError(f"{owner}: {member!r} is no member: a member is a whole number or a text, so use str(..)")
 
 
-def parts(row: Any, what: str = "part") -> str:
+def parts(row: Sized, what: str = "part") -> str:
     """Returns how many parts there are, in words."""
     return f"{len(row)} {what}{'s' * (len(row) != 1)}"
 
@@ -138,10 +142,10 @@ def declared_text(shapes: Shapes, name: str, *kinds: str) -> str:
     return f"; it has {few(known, 8)}" if known else ""
 
 
-def rows_of(name: str, value: Any, size: int, texts: set | None, head: str) -> dict:
+def rows_of(name: str, value: Any, size: int, texts: set[Member] | None, head: str) -> dict[Key, Value]:
     """Returns the values of a parameter by key; a missing value (None, NaN) has no entry. `texts` are members that stay texts; `head` is
     the name with the braces of its declaration."""
-    found: dict = {}
+    found: dict[Key, Value] = {}
     seen = set()
     for key, item in pairs_of(name, value, size):
         key = tuple(key_part(plain(part, f"param {name}"), texts) for part in key)
@@ -157,13 +161,13 @@ def rows_of(name: str, value: Any, size: int, texts: set | None, head: str) -> d
     return found
 
 
-def key_part(part: Any, texts: set | None) -> Any:
+def key_part(part: Member, texts: set[Member] | None) -> Member:
     """Returns a part of a key as a member: a text as its number, as a sheet has it, unless it is in `texts`, or these are None."""
     is_number = texts is not None and isinstance(part, str) and part not in texts and KEY_NUMBER.fullmatch(part)
     return int(part) if is_number else part
 
 
-def value_of(name: str, value: Any) -> Any:
+def value_of(name: str, value: Any) -> Value | None:
     """Returns a number as a Fraction, a text, an infinite float, or None for a missing value."""
     if is_missing(value):
         return None
@@ -198,7 +202,7 @@ def is_row(value: Any) -> bool:
     return isinstance(value, (tuple, list)) or bool(getattr(value, "ndim", 0))
 
 
-def pairs_of(name: str, value: Any, size: int) -> Iterable[tuple]:
+def pairs_of(name: str, value: Any, size: int) -> Iterable[Pair]:
     """Yields keys (tuples) and values."""
     if is_frame(value):
         return frame_pairs(name, value, size)
@@ -213,7 +217,7 @@ def pairs_of(name: str, value: Any, size: int) -> Iterable[tuple]:
     return row_pairs(name, value, size)
 
 
-def flat(value: Any, size: int) -> Iterable[tuple]:
+def flat(value: Any, size: int) -> Iterable[Pair]:
     """The entries of a dict, or of dicts in a dict."""
     for key, item in value.items():
         key = tuple(key) if isinstance(key, (tuple, list)) else (key,)
@@ -223,7 +227,7 @@ def flat(value: Any, size: int) -> Iterable[tuple]:
             yield key, item
 
 
-def frame_pairs(name: str, frame: Any, size: int) -> Iterable[tuple]:
+def frame_pairs(name: str, frame: Any, size: int) -> Iterable[Pair]:
     """A pandas DataFrame: a column of values with the keys in the index or in other columns, or a grid of two keys."""
     if list(frame.columns[:1]) == [UNNAMED]:
         frame = frame.set_index(UNNAMED)
@@ -244,7 +248,7 @@ def frame_pairs(name: str, frame: Any, size: int) -> Iterable[tuple]:
     raise DataError(f"param {name}: the table has no column {name!r}: give the column of its values this name{grid}")
 
 
-def row_pairs(name: str, rows: Iterable, size: int) -> Iterable[tuple]:
+def row_pairs(name: str, rows: Iterable[Any], size: int) -> Iterable[Pair]:
     for row in rows:
         if hasattr(row, "items"):
             keys = [value for title, value in row.items() if title != name]

@@ -13,6 +13,7 @@ from fractions import Fraction
 from ..errors import ScaleError
 from ..exact import LARGEST, common_factor, parse_numeral
 from ..reading.model import Decl, Expr, Phrase
+from ..types import Edit
 
 BOUND = 10**11
 
@@ -24,8 +25,8 @@ class Factors:
 
     flow: int = 1
     cost: int = 1
-    parameters: dict = dataclasses.field(default_factory=dict)
-    in_flows: list = dataclasses.field(default_factory=list)
+    parameters: dict[str, int] = dataclasses.field(default_factory=dict)
+    in_flows: list[str] = dataclasses.field(default_factory=list)
 
     @property
     def value(self) -> int:
@@ -38,16 +39,16 @@ class Factors:
 class Scaler:
     """Computes the factors of a model and the edits that scale it. `needed` has the factor that the data of a parameter need."""
 
-    def __init__(self, decls: list, needed: dict, objective: str | None, add_bounds: bool = False) -> None:
+    def __init__(self, decls: list[Decl], needed: dict[str, int], objective: str | None, add_bounds: bool = False) -> None:
         self.decls, self.needed, self.add_bounds = decls, needed, add_bounds
         self.arcs = {decl.name for decl in decls if decl.kind == "arc"}
-        self.params: dict = {}
-        self.edits: list = []
+        self.params: dict[str, int] = {}
+        self.edits: list[Edit] = []
         self.flow = 1
         objectives = [decl for decl in decls if decl.kind in ("minimize", "maximize")]
         self.chosen = next((decl for decl in objectives if objective in (None, decl.name)), None)
 
-    def scale(self) -> tuple:
+    def scale(self) -> tuple[Factors, list[Edit]]:
         """Returns the factors and the edits of the model."""
         for decl in self.decls:
             if decl.kind == "param":
@@ -63,7 +64,7 @@ class Scaler:
             raise ScaleError(f"arc {whole[0]} is integer, but a bound or a condition has decimals", whole[0], self.flow)
         return Factors(self.flow, cost, dict(self.params), self.in_flows()), self.edits
 
-    def in_flows(self) -> list:
+    def in_flows(self) -> list[str]:
         """Returns the parameters with decimals in bounds and conditions."""
         exprs = [expr for decl in self.decls for phrase in decl.phrases for expr in phrase.exprs
                  if decl.kind == "node" or decl.kind == "arc" and phrase.word in (">=", "<=")]
@@ -82,7 +83,7 @@ class Scaler:
                 factor = math.lcm(factor, self.factor(phrase.exprs[0]))
         return factor
 
-    def bound_factors(self, decl: Decl) -> list:
+    def bound_factors(self, decl: Decl) -> list[int]:
         if decl.kind == "node":
             return [self.factor(term) for side in decl.phrases[0].exprs[0].args for term in terms(side) if not is_net(term)]
         return [self.factor(phrase.exprs[0]) for phrase in decl.phrases if phrase.word in (">=", "<=") and not is_infinite(phrase.exprs[0])]
@@ -243,7 +244,7 @@ class Scaler:
             (self.emit_truth if part.op in ("and", "or", "not", "=", "==", "<>", "!=", "<", "<=", ">", ">=") else self.emit_index)(part)
 
 
-def terms(expr: Expr) -> list:
+def terms(expr: Expr) -> list[Expr]:
     """The terms of a sum, from the left."""
     if expr.op in ("+", "-"):
         return terms(expr.args[0]) + terms(expr.args[1])

@@ -2,7 +2,7 @@
 from __future__ import annotations
 
 from .model import Expr, Unparsed, parse
-from .output import Network
+from .network import Network
 
 
 def mark_open_sides(net: Network, model: str) -> None:
@@ -15,7 +15,7 @@ def mark_open_sides(net: Network, model: str) -> None:
         node.is_low_open, node.is_high_open = sides.get(node.text.partition("[")[0], (False, False))
 
 
-def open_sides(condition: Expr) -> tuple:
+def open_sides(condition: Expr) -> tuple[bool, bool]:
     """Returns whether a condition leaves the low side, and the high side, of the net inflow open."""
     relation = condition.value
     if relation not in ("<=", ">="):

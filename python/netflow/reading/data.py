@@ -9,6 +9,7 @@ import re
 from typing import Any, Iterator, Sequence
 
 from ..exact import parse_numeral
+from ..types import Key, Member
 from .model import Unparsed
 
 # A bare word may have letters of any script; `.` continues a word, so a number with a point is one word.
@@ -31,7 +32,7 @@ class Token:
     def end(self) -> int:
         return self.start + len(self.text)
 
-    def member(self) -> Any:
+    def member(self) -> Member:
         """Returns the member of the token: an int or a str."""
         if self.kind == "text":
             quote = self.text[0]
@@ -47,7 +48,7 @@ class Cell:
     """A value of a parameter: its name, its key, and the token of the value."""
 
     name: str
-    key: tuple
+    key: Key
     token: Token
 
 
@@ -60,15 +61,15 @@ class Statement:
     name: str
     start: int
     end: int
-    cells: list = dataclasses.field(default_factory=list)
+    cells: list[Cell] = dataclasses.field(default_factory=list)
     default: Token | None = None
     default_word: Token | None = None
     set_name: str = ""
-    set_tokens: list = dataclasses.field(default_factory=list)
-    members: list = dataclasses.field(default_factory=list)
+    set_tokens: list[Token] = dataclasses.field(default_factory=list)
+    members: list[Member] = dataclasses.field(default_factory=list)
 
 
-def tokens_of(text: str) -> list:
+def tokens_of(text: str) -> list[Token]:
     found, at = [], 0
     for match in TOKEN.finditer(text):
         start, end = match.span()
@@ -87,13 +88,13 @@ class DataText:
     """The statements of a data text. `keys` and `sets` give the number of key parts of parameters and of set members; in joined texts
     `data;` and `end;` can be anywhere."""
 
-    def __init__(self, text: str, keys: dict, sets: dict, is_joined: bool = False) -> None:
+    def __init__(self, text: str, keys: dict[str, int], sets: dict[str, int], is_joined: bool = False) -> None:
         self.text, self.keys, self.sets, self.is_joined = text, keys, sets, is_joined
-        self.statements: list = []
-        self.frame: list = []
+        self.statements: list[Statement] = []
+        self.frame: list[Token] = []
         self.read([token for token in tokens_of(text) if token.text != "," or token.kind != "mark"])
 
-    def read(self, tokens: list) -> None:
+    def read(self, tokens: list[Token]) -> None:
         """Reads all statements; `frame` gets the tokens of `data;` and `end;`."""
         at = 0
         while at < len(tokens):
@@ -109,7 +110,7 @@ class DataText:
                 self.statements.append(self.statement(words, tokens[stop]))
             at = stop + 1
 
-    def statement(self, words: list, last: Token) -> Statement:
+    def statement(self, words: list[Token], last: Token) -> Statement:
         if not words or words[0].text not in ("set", "param"):
             raise Unparsed(words[0].start if words else last.start)
         made = Statement(words[0].text, "", words[0].start, last.end)
@@ -117,7 +118,8 @@ class DataText:
         if cut is None:
             raise Unparsed(last.start)
         if made.kind == "set":
-            made.name, made.members = words[1].member(), [word.member() for word in words[cut + 1:] if word.kind != "mark"]
+            made.name = str(words[1].member())
+            made.members = [word.member() for word in words[cut + 1:] if word.kind != "mark"]
             return made
         head, body = words[1:cut], words[cut + 1:]
         at = 0
@@ -130,7 +132,7 @@ class DataText:
         self.rows(made, head[at + 3 * is_turned:], body, is_turned)
         return made
 
-    def rows(self, made: Statement, heading: list, body: list, is_turned: bool) -> None:
+    def rows(self, made: Statement, heading: list[Token], body: list[Token], is_turned: bool) -> None:
         """Reads the rows of a `param` statement."""
         if not heading:
             size = self.keys.get(made.name, 0) + 1
@@ -166,7 +168,7 @@ def is_mark(token: Token, text: str) -> bool:
     return token.kind == "mark" and token.text == text
 
 
-def groups(tokens: list, size: int) -> Iterator[list]:
+def groups(tokens: list[Token], size: int) -> Iterator[list[Token]]:
     """Cuts the tokens of a body into rows; brackets of tuples are left out."""
     plain = [token for token in tokens if token.kind != "mark"]
     if len(plain) % size:
@@ -192,13 +194,13 @@ def member_text(member: Any) -> str:
     return "'" + member.replace("'", "''") + "'"
 
 
-def set_statement(name: str, members: Sequence[tuple]) -> str:
+def set_statement(name: str, members: Sequence[Key]) -> str:
     """Returns the statement of a set, its members as tuples."""
     rows = [member_text(member[0]) if len(member) == 1 else f"({','.join(map(member_text, member))})" for member in members]
     return "\n".join([f"set {name} :=", *rows, ";"]) + "\n"
 
 
-def param_statement(name: str, rows: Sequence[tuple]) -> str:
+def param_statement(name: str, rows: Sequence[tuple[Key, str]]) -> str:
     """Returns the statement of a parameter from pairs of a key and the text of a value."""
     lines = [" ".join([*map(member_text, key), value]) for key, value in rows]
     return "\n".join([f"param {name} :=", *lines, ";"]) + "\n"

@@ -4,11 +4,13 @@ from __future__ import annotations
 import bisect
 from typing import Iterable
 
+from ..types import Edit
+
 
 class EditedText:
     """A text with replacements `(start, end, new text)`, none of which has a line end or overlaps another."""
 
-    def __init__(self, text: str, edits: Iterable[tuple], path: str | None = None) -> None:
+    def __init__(self, text: str, edits: Iterable[Edit], path: str | None = None) -> None:
         self.original, self.path = text, path
         self.edits = sorted(edits, key=lambda edit: (edit[0], edit[1]))
         parts, at = [], 0
@@ -20,7 +22,7 @@ class EditedText:
         for line in self.original.split("\n")[:-1]:
             self.starts.append(self.starts[-1] + len(line) + 1)
 
-    def original_place(self, row: int, column: int) -> tuple:
+    def original_place(self, row: int, column: int) -> tuple[int, int]:
         """Returns the row and the byte column in the original of a place in the edited text."""
         lines = self.text.split("\n")
         if not (1 <= row <= len(lines)) or not column:

@@ -42,7 +42,7 @@ class Expr:
     """An expression: `op` is an operator, or `num`, `text`, `name`, `tuple`, `group`, `braces`, `call`; `args` are its parts."""
 
     op: str
-    args: list
+    args: list[Expr]
     start: int
     end: int
     value: str = ""
@@ -58,7 +58,7 @@ class Phrase:
     """A phrase of a declaration: its word, its expressions, and its place. `name` is the objective of `obj`."""
 
     word: str
-    exprs: list
+    exprs: list[Expr]
     start: int
     end: int
     name: str = ""
@@ -72,14 +72,14 @@ class Decl:
     name: str
     start: int
     braces: Expr | None = None
-    phrases: list = dataclasses.field(default_factory=list)
+    phrases: list[Phrase] = dataclasses.field(default_factory=list)
     end: int = 0
 
     def phrase(self, word: str) -> Phrase | None:
         return next((phrase for phrase in self.phrases if phrase.word == word), None)
 
 
-def tokens_of(text: str) -> list:
+def tokens_of(text: str) -> list[Token]:
     found, at = [], 0
     while at < len(text):
         match = TOKEN.match(text, at)
@@ -91,7 +91,7 @@ def tokens_of(text: str) -> list:
     return found
 
 
-def parse(text: str) -> list:
+def parse(text: str) -> list[Decl]:
     """Returns the declarations of a model; raises Unparsed."""
     parser = _Parser(text)
     found = []
@@ -198,7 +198,7 @@ class _Parser:
             parts.append(self.value())
         return Expr("if", parts, start, self.last_end())
 
-    def chain(self, ops: tuple, part: Callable[[], Expr]) -> Expr:
+    def chain(self, ops: tuple[str, ...], part: Callable[[], Expr]) -> Expr:
         left = part()
         while self.peek() in ops:
             word = self.next().text
@@ -244,13 +244,12 @@ class _Parser:
         return self.chain(("*", "div", "mod"), self.unary)
 
     def unary(self) -> Expr:
-        token = self.tokens[self.at] if self.at < len(self.tokens) else None
         if self.peek() in ("+", "-"):
-            self.next()
+            token = self.next()
             part = self.unary()
             return Expr("sign", [part], token.start, part.end, token.text)
         if self.peek() in ("sum", "min", "max") and self.peek(1) == "{":
-            self.next()
+            token = self.next()
             braces = self.braces()
             part = self.product()
             return Expr("reduce", [braces, part], token.start, part.end, token.text)
@@ -308,7 +307,7 @@ class _Parser:
 class Shapes:
     """The number of parts of each set's tuples and of each indexed name's keys. `text` is the model."""
 
-    def __init__(self, decls: list, text: str = "") -> None:
+    def __init__(self, decls: list[Decl], text: str = "") -> None:
         self.text = text
         self.decls, self.sets, self.keys = {decl.name: decl for decl in decls if decl.name}, {}, {}
         for decl in decls:
@@ -322,7 +321,7 @@ class Shapes:
         braces = self.decls[name].braces if name in self.decls else None
         return " ".join(f"{name} {self.text[braces.start:braces.end]}".split()) if braces else name
 
-    def names(self, kind: str) -> list:
+    def names(self, kind: str) -> list[str]:
         """Returns the names that the model declares by a word such as `param`."""
         return [name for name, decl in self.decls.items() if decl.kind == kind]
 

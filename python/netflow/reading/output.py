@@ -4,202 +4,25 @@ Output that does not follow the grammar raises Unreadable; nothing is guessed.
 """
 from __future__ import annotations
 
-import dataclasses
-import functools
-import itertools
 import operator
 import re
+from typing import Iterable, Sequence
 
 from ..errors import Unreadable
-from ..exact import Number, divided
-from ..inputs.scaling import BOUND, Factors
-
-NUMBER = r"(?:0|-?[1-9][0-9]*)"
-MEMBER = rf"(?:'(?:[^']|'')*'|{NUMBER})"
-MEMBERS = re.compile(MEMBER)
-NAME = re.compile(r"[^\[\] ']+")
-KEY = re.compile(rf"{MEMBER}(?:,{MEMBER})*")
-OUTSIDE = "the outside"
+from ..exact import divided
+from .keys import NUMBER, references, shown
+from .network import Arc, Network, Node
+from .text import lines_of
 
 
-class Arc:
-    """An arc of the model. `src` and `dst` are node indices from 0, None for the outside. `worth` is the reduced cost: by how much
-    one more unit on the arc makes the value worse, at the current node prices. `is_open` if the model gives it no upper bound."""
-
-    __slots__ = ("text", "name", "key", "src", "dst", "lower", "upper", "price", "flow", "worth", "is_open")
-
-    def __init__(self, text, name, key, src, dst, lower, upper, price):
-        self.text, self.name, self.key, self.src, self.dst = text, name, key, src, dst
-        self.lower, self.upper, self.price = lower, upper, price
-        self.flow, self.worth, self.is_open = 0, 0, upper == BOUND
-
-    def is_full(self):
-        return self.flow == self.upper and self.lower < self.upper
-
-    def is_tight(self):
-        """Whether the arc is full and more capacity would help; a bound that no plan feels is not tight."""
-        return self.is_full() and self.worth < 0
-
-    def is_lowest(self):
-        return self.flow == self.lower and 0 < self.lower < self.upper
-
-    def most(self):
-        """The upper bound as a text."""
-        return "no limit" if self.is_open else str(self.upper)
-
-
-@dataclasses.dataclass
-class Node:
-    """A node of the model: its net inflow is from `low` to `high`, and its arcs allow it from `fewest` to `greatest`. If the model
-    leaves a side open, the compiled model has what the arcs allow in its place; `is_low_open` and `is_high_open` say so if the text of
-    the model is known. `worth` is the node's price: by how much one more required unit makes the value worse, at least."""
-
-    text: str
-    low: Number = 0
-    high: Number = 0
-    fewest: Number = 0
-    greatest: Number = 0
-    inflow: Number = 0
-    worth: Number = 0
-    is_low_open: bool = False
-    is_high_open: bool = False
-
-    def has_low(self):
-        """Whether the low side requires more than the arcs bring in any case."""
-        return self.low > self.fewest
-
-    def has_high(self):
-        return self.high < self.greatest
-
-    def wish(self):
-        """Returns what the node needs or gives, in a few words; an empty text for a node that passes on what it gets."""
-        low, high = self.low, self.high
-        if low == high:
-            return f"needs {low}" if low > 0 else f"gives {-low}" if low < 0 else ""
-        is_low, is_high = low != min(high, self.fewest), high != max(low, self.greatest)
-        if is_low and is_high:
-            return between(low, high)
-        if is_low:
-            return f"needs {low} or more" if low > 0 else f"gives up to {-low}"
-        if is_high:
-            return f"takes up to {high}" if high >= 0 else f"gives {-high} or more"
-        return "takes or gives what comes"
-
-
-def between(low, high):
-    if low >= 0:
-        return f"needs {low} to {high}" if low else f"takes up to {high}"
-    if high <= 0:
-        return f"gives {-high} to {-low}" if high else f"gives up to {-low}"
-    return f"gives up to {-low} or takes up to {high}"
-
-
-class Network:
-    """Nodes and arcs with the model's own bounds and prices. `problem` is the problem's text without comments; `declarations` are the
-    names of a plan's declarations of arcs, each with whether it is a table; `factors` are those of a scaled model."""
-
-    def __init__(self):
-        self.nodes, self.arcs, self.problem, self.declarations = [], [], "", []
-        self.constant, self.sign, self.objective, self.value = 0, 1, "", 0
-        self.factors = Factors()
-        # The side and the node indices of a cut, if there is no plan.
-        self.cut = None
-
-    @functools.cached_property
-    def lines(self):
-        """The lines of the problem."""
-        return lines_of(self.problem)
-
-    def divide(self, factors: Factors) -> None:
-        """Brings the numbers of a scaled model back to those of the model; `problem` stays as it is."""
-        self.factors = factors
-        if factors.is_plain():
-            return
-        self.value = divided(self.value, factors.value)
-        for arc in self.arcs:
-            arc.lower, arc.upper, arc.flow = (divided(amount, factors.flow) for amount in (arc.lower, arc.upper, arc.flow))
-            arc.price = divided(arc.price, factors.cost)
-        for node in self.nodes:
-            node.low, node.high, node.inflow = (divided(amount, factors.flow) for amount in (node.low, node.high, node.inflow))
-            node.fewest, node.greatest = divided(node.fewest, factors.flow), divided(node.greatest, factors.flow)
-
-    def end(self, number):
-        return OUTSIDE if number is None else self.nodes[number].text
-
-    @functools.cached_property
-    def _declared(self):
-        found = {}
-        for name, arcs in itertools.groupby(self.arcs, operator.attrgetter("name")):
-            found.setdefault(name, []).extend(arcs)
-        return found
-
-    def declared(self):
-        """Returns the arcs by the names of their declarations, in the model's order."""
-        return self._declared
-
-
-class Members(dict):
-    """Members by their printed texts. It grows as keys are read, since many keys have few members."""
-
-    def __missing__(self, text):
-        if not MEMBERS.fullmatch(text):
-            raise KeyError(text)
-        found = self[text] = text[1:-1].replace("''", "'") if text.startswith("'") else int(text)
-        return found
-
-    def key(self, text):
-        """Returns the members of a key as it is printed, texts without their quotes; None if it is no key."""
-        if not text:
-            return []
-        try:
-            # A comma inside a member leaves an odd number of quotes on both sides, and so no member.
-            return list(map(self.__getitem__, text.split(",")))
-        except KeyError:
-            return list(map(self.__getitem__, MEMBERS.findall(text))) if KEY.fullmatch(text) else None
-
-
-def members(text):
-    """Returns the members of a key as it is printed; None if it is no key."""
-    return Members().key(text)
-
-
-def shown(member):
-    """Returns a member as netflow prints it."""
-    return str(member) if isinstance(member, int) else "'" + member.replace("'", "''") + "'"
-
-
-def reference(text):
-    """Returns the name and the key of `Ship['PITT','NE']`."""
-    (name,), (key,) = references([text])
-    return name, key
-
-
-def references(texts):
-    """Returns the names and the keys of references such as `Ship['PITT','NE']`."""
-    known, names, found, keys = Members(), {}, [], []
-    for text in texts:
-        name, bracket, key = text.partition("[")
-        parts = known.key(key[:-1]) if key[-1:] == "]" or not bracket else None
-        if parts is None or name not in names and not NAME.fullmatch(name):
-            raise Unreadable(f"{text!r} is no node and no arc")
-        found.append(names.setdefault(name, name))
-        keys.append(parts)
-    return found, keys
-
-
-def lines_of(text):
-    """Returns the lines of printed text; a name can have characters that `splitlines` takes for line ends."""
-    return text.split("\n")[:-1] if text.endswith("\n") else text.split("\n")
-
-
-def numbers(words):
+def numbers(words: Sequence[str]) -> list[int]:
     try:
         return list(map(int, words))
     except ValueError:
         raise Unreadable(f"{' '.join(words)!r} has a word that is no number") from None
 
 
-def columns(text, mark, width):
+def columns(text: str, mark: str, width: int) -> list[list[int]]:
     """Returns the numbers of lines of one kind, which begin with its mark, column by column."""
     count = text.count("\n") + (text[-1:] not in ("", "\n"))
     words = text.rstrip("\n").replace("\n", " ").split(" ") if text else []
@@ -208,7 +31,7 @@ def columns(text, mark, width):
     return [numbers(words[place::width + 1]) for place in range(1, width + 1)]
 
 
-def beginning(text, mark, start=0):
+def beginning(text: str, mark: str, start: int = 0) -> int:
     """Returns the place of the first line, from a line's start on, that begins with the mark; the text's end if there is none."""
     if text.startswith(mark, start):
         return start
@@ -216,7 +39,7 @@ def beginning(text, mark, start=0):
     return len(text) if place < 0 else place + 1
 
 
-def read_compiled(text):
+def read_compiled(text: str) -> Network:
     """Returns the network of a compiled model (without --lean)."""
     net = Network()
     # Comments come first, then the line with the counts, supplies, and arcs.
@@ -236,7 +59,7 @@ def read_compiled(text):
     return net
 
 
-def read_link(line, net):
+def read_link(line: str, net: Network) -> None:
     """Reads a comment line of a compiled model that is not of an arc."""
     kind, rest = line[2:].split(" ", 1)
     if kind == "node":
@@ -249,7 +72,7 @@ def read_link(line, net):
         raise Unreadable(f"{line!r} is no line of a compiled model")
 
 
-def place_arcs(net, texts, offsets, drawn):
+def place_arcs(net: Network, texts: list[str], offsets: list[int], drawn: list[list[int]]) -> None:
     """Makes the arcs from their names and offsets: ends, bounds without the offsets, prices, and what they allow at each node."""
     outside, sign = len(net.nodes), net.sign
     srcs, dsts, leasts, mosts, costs = (column[:len(texts)] for column in drawn)
@@ -275,7 +98,7 @@ def place_arcs(net, texts, offsets, drawn):
         node.low, node.fewest, node.greatest = sums
 
 
-def place_nodes(net, supplies, rooms):
+def place_nodes(net: Network, supplies: dict[int, int], rooms: Iterable[tuple[int, int]]) -> None:
     """Sets the bounds of each node's net inflow: what the offsets bring minus the supply, and the range above it."""
     for number, node in enumerate(net.nodes, 1):
         node.low -= supplies.get(number, 0)
@@ -284,7 +107,7 @@ def place_nodes(net, supplies, rooms):
         net.nodes[src - 1].high += cap
 
 
-def read_plan(text, net):
+def read_plan(text: str, net: Network) -> None:
     """Sets the network's objective, value and flows; every line has to be that of the expected arc."""
     lines, line = lines_of(text), 1
     net.objective, net.value = valued(lines[0])
@@ -299,7 +122,7 @@ def read_plan(text, net):
                 raise Unreadable(f"the table of {name} does not end after {count} arcs")
         else:
             name, flow = valued(lines[line])
-            count, keys, flows = 1, [""], [flow]
+            count, keys, flows = 1, [""], [str(flow)]
         if "\n".join(keys) != plan_keys(arcs[at:at + count]) or not is_table and [arc.name for arc in arcs[at:at + 1]] != [name]:
             raise Unreadable(f"the plan has other arcs of {name} than the model")
         net.declarations.append((name, is_table))
@@ -309,7 +132,7 @@ def read_plan(text, net):
         raise Unreadable("the plan ends before its last arc")
 
 
-def plan_keys(arcs):
+def plan_keys(arcs: list[Arc]) -> str:
     """Returns the keys of a declaration's arcs as a plan prints them, one a line."""
     start = len(arcs[0].name) + 1 if arcs else 0
     keys = "\n".join([arc.text[start:-1] for arc in arcs])
@@ -319,7 +142,7 @@ def plan_keys(arcs):
     return "\n".join([" ".join(map(shown, arc.key)) for arc in arcs])
 
 
-def take_flows(net, arcs, flows):
+def take_flows(net: Network, arcs: list[Arc], flows: list[int]) -> None:
     """Sets the flows of arcs, and adds them to the net inflows of their ends."""
     nodes = net.nodes
     for arc, flow in zip(arcs, flows):
@@ -331,7 +154,7 @@ def take_flows(net, arcs, flows):
                 nodes[arc.dst].inflow += flow
 
 
-def valued(line):
+def valued(line: str) -> tuple[str, int]:
     found = re.fullmatch(rf"(\S+) = ({NUMBER})", line)
     if not found:
         raise Unreadable(f"{line!r} gives no name a number")
@@ -345,7 +168,7 @@ def divided_cut(text: str, net: Network) -> str:
     return "\n".join([first, " ".join([side, *(str(divided(int(number), net.factors.flow)) for number in numbers)]), *nodes])
 
 
-def read_cut(text, net):
+def read_cut(text: str, net: Network) -> tuple[str, set[int]]:
     """Returns the side and the node indices of a cut. A set that contains the outside is replaced by its complement, which shows the
     same from the other side."""
     lines = lines_of(text)
@@ -358,7 +181,7 @@ def read_cut(text, net):
     return {"over": "under", "under": "over"}[side], set(range(len(net.nodes))) - inside
 
 
-def read_prices(certificate, net):
+def read_prices(certificate: str, net: Network) -> None:
     """Sets the worth of nodes and arcs from the potentials of a certificate; that of the outside is 0. The network is divided."""
     found = columns(certificate[beginning(certificate, "v "):], "v", 2)[1]
     if len(found) != len(net.nodes) + 1:
@@ -374,7 +197,7 @@ def read_prices(certificate, net):
         arc.worth = sign * arc.price + worths[-1 if src is None else src] - worths[-1 if dst is None else dst]
 
 
-def written(net):
+def written(net: Network) -> str:
     """Returns the plan as netflow prints it."""
     lines, declared = [f"{net.objective} = {net.value}"], net.declared()
     for name, is_table in net.declarations:

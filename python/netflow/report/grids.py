@@ -1,8 +1,10 @@
 """The grid of a declaration of arcs with two keys or more: rows by columns, as planners print rosters and shipments."""
 from __future__ import annotations
 
-from .drawing import grouped
+from ..reading.network import Arc
+from ..types import Key, Member
 from .page import text
+from .placement import grouped
 
 # The most rows and columns of a grid, and the smallest part of its cells that has to have arcs.
 ROWS, COLUMNS, FILLED = 400, 60, 0.15
@@ -13,13 +15,13 @@ PRINTED = 1100
 NOTE = '<p class="print-note">The grid is on the page for the screen: it is too wide for print.</p>'
 
 
-def grid_html(arcs: list, titles: list, is_open: bool = True) -> str:
+def grid_html(arcs: list[Arc], titles: list[str], is_open: bool = True) -> str:
     """Returns the grid of the flows; empty if the arcs have fewer than two keys or fill too little of it. Columns are the last key, or
     the one before it if that gives fewer."""
     if not arcs or len(arcs[0].key) < 2 or len(arcs) > ROWS * COLUMNS:
         return ""
     across = list(dict.fromkeys(arc.key[-1] for arc in arcs))
-    rows: dict = {}
+    rows: dict[Key, dict[Member, Arc]] = {}
     for arc in arcs:
         rows.setdefault(tuple(arc.key[:-1]), {})[arc.key[-1]] = arc
     if not 1 < len(across) <= COLUMNS or not 1 < len(rows) <= ROWS or len(arcs) < FILLED * len(across) * len(rows):
@@ -40,12 +42,12 @@ def grid_html(arcs: list, titles: list, is_open: bool = True) -> str:
     return f'<details class="{kind}"{" open" if is_open else ""}><summary>{title}</summary><div class="scroll">{table}</div></details>{note}'
 
 
-def grid_head(titles: list, across: list, kind: str) -> str:
+def grid_head(titles: list[str], across: list[Member], kind: str) -> str:
     heads = [*(("", title) for title in titles), *((kind, member) for member in across)]
     return "".join(f'<th class="{kind}" scope="col"><button type="button">{text(title)}</button></th>' for kind, title in heads)
 
 
-def grid_row(key: tuple, cells: dict, across: list) -> str:
+def grid_row(key: Key, cells: dict[Member, Arc], across: list[Member]) -> str:
     made = [f'<td class="key">{text(member)}</td>' for member in key]
     for member in across:
         arc = cells.get(member)
@@ -58,7 +60,7 @@ def grid_row(key: tuple, cells: dict, across: list) -> str:
     return f'<tr>{"".join(made)}<td class="sum" data-n="{float(total)}">{grouped(total)}</td></tr>'
 
 
-def roster_html(arcs: list, titles: list) -> str:
+def roster_html(arcs: list[Arc], titles: list[str]) -> str:
     """Returns a grid of choices with three keys, as a roster: rows by columns, and in each cell what was chosen; else an empty text."""
     if not arcs or len(arcs[0].key) != 3 or any(arc.lower < 0 or arc.upper > 1 for arc in arcs):
         return ""
@@ -67,7 +69,7 @@ def roster_html(arcs: list, titles: list) -> str:
     if not 1 < counts[column] <= COLUMNS or not 1 < counts[0] <= ROWS:
         return ""
     across = list(dict.fromkeys(arc.key[column] for arc in arcs))
-    rows: dict = {}
+    rows: dict[Member, dict[Member, list[str]]] = {}
     for arc in arcs:
         cell = rows.setdefault(arc.key[0], {}).setdefault(arc.key[column], [])
         cell += [str(arc.key[chosen])] if arc.flow else []

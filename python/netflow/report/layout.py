@@ -2,18 +2,21 @@
 from __future__ import annotations
 
 import math
+from typing import Iterable, Sequence
+
+from ..reading.network import Arc
 
 
 class Bend:
     """A point in a layer that a long arc passes."""
 
 
-def layers(nodes, arcs):
+def layers(nodes: list[int], arcs: Iterable[Arc]) -> dict[int, int]:
     """Returns the layer of each node, from 0: by the longest path that leads to it, or by the shortest if the longest would stretch
     the picture."""
     into, out = neighbours(nodes, arcs)
     order, back = walked(nodes, into, out)
-    longest = {}
+    longest: dict[int, int] = {}
     for node in order:
         longest[node] = 1 + max((longest[before] for before in into[node] if (before, node) not in back), default=-1)
     if back and max(longest.values(), default=0) > 3 + 2 * math.sqrt(len(nodes)):
@@ -21,9 +24,11 @@ def layers(nodes, arcs):
     return pulled(longest, out, back)
 
 
-def walked(nodes, into, out):
+def walked(nodes: list[int], into: dict[int, list[int]], out: dict[int, list[int]]) -> tuple[list[int], set[tuple[int, int]]]:
     """Returns the nodes in topological order, and the steps that close cycles and are left out of it."""
-    order, back, state = [], set(), {}
+    order: list[int] = []
+    back: set[tuple[int, int]] = set()
+    state: dict[int, int] = {}
     for start in sorted(nodes, key=lambda node: (len(into[node]) > 0, node)):
         way = [] if start in state else [(start, iter(out[start]))]
         state.setdefault(start, 1)
@@ -42,11 +47,12 @@ def walked(nodes, into, out):
     return order[::-1], back
 
 
-def nearest(nodes, into, out):
+def nearest(nodes: list[int], into: dict[int, list[int]], out: dict[int, list[int]]) -> dict[int, int]:
     """Returns layers by the number of arcs from the sources."""
     line = [node for node in nodes if not into[node]] or list(nodes)[:1]
     found = dict.fromkeys(line, 0)
-    for rest in ([], nodes):
+    none: list[int] = []
+    for rest in (none, nodes):
         for node in [node for node in rest if node not in found]:
             if node not in found:
                 found[node] = 0
@@ -59,7 +65,7 @@ def nearest(nodes, into, out):
     return found
 
 
-def pulled(found, out, back):
+def pulled(found: dict[int, int], out: dict[int, list[int]], back: set[tuple[int, int]]) -> dict[int, int]:
     """Moves a node that nothing leads to just before the first node that it leads to."""
     for node in found:
         if found[node] == 0:
@@ -68,27 +74,28 @@ def pulled(found, out, back):
     return found
 
 
-def apart(wanted, sizes):
+def apart(wanted: list[float], sizes: list[float]) -> list[float]:
     """Returns positions as near to the wanted ones as possible, in this order, with the distances that the sizes require."""
-    shifts, total = [], 0.0
+    shifts: list[float] = []
+    total = 0.0
     for here, size in enumerate(sizes):
         total += (sizes[here - 1] + size) / 2 if here else 0
         shifts.append(total)
-    blocks = []
+    blocks: list[tuple[float, int]] = []
     for want, shift in zip(wanted, shifts):
-        blocks.append([want - shift, 1])
+        blocks.append((want - shift, 1))
         while len(blocks) > 1 and blocks[-2][0] > blocks[-1][0]:
             (first, many), (second, more) = blocks[-2:]
-            blocks[-2:] = [[(first * many + second * more) / (many + more), many + more]]
+            blocks[-2:] = [((first * many + second * more) / (many + more), many + more)]
     flat = [mean for mean, many in blocks for _ in range(many)]
     return [place + shift for place, shift in zip(flat, shifts)]
 
 
-def components(nodes, arcs):
+def components(nodes: list[int], arcs: Iterable[Arc]) -> list[list[int]]:
     """Returns the sets of nodes that the arcs connect, each in order."""
     head = {node: node for node in nodes}
 
-    def top(node):
+    def top(node: int) -> int:
         while head[node] != node:
             head[node] = node = head[head[node]]
         return node
@@ -96,20 +103,21 @@ def components(nodes, arcs):
         if arc.src in head and arc.dst in head:
             one, two = sorted((top(arc.src), top(arc.dst)))
             head[two] = one
-    found = {}
+    found: dict[int, list[int]] = {}
     for node in nodes:
         found.setdefault(top(node), []).append(node)
     return list(found.values())
 
 
-def has_cycle(nodes, arcs):
+def has_cycle(nodes: list[int], arcs: Iterable[Arc]) -> bool:
     """Whether the arcs between these nodes contain a cycle."""
     into, out = neighbours(nodes, arcs)
     return bool(walked(nodes, into, out)[1])
 
 
-def neighbours(nodes, arcs):
-    into, out = {node: [] for node in nodes}, {node: [] for node in nodes}
+def neighbours(nodes: list[int], arcs: Iterable[Arc]) -> tuple[dict[int, list[int]], dict[int, list[int]]]:
+    into: dict[int, list[int]] = {node: [] for node in nodes}
+    out: dict[int, list[int]] = {node: [] for node in nodes}
     for arc in arcs:
         if arc.src in into and arc.dst in into and arc.src != arc.dst:
             out[arc.src].append(arc.dst)
@@ -117,5 +125,5 @@ def neighbours(nodes, arcs):
     return into, out
 
 
-def mean(numbers, other):
+def mean(numbers: Sequence[float], other: float) -> float:
     return sum(numbers) / len(numbers) if numbers else other

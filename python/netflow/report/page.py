@@ -5,23 +5,29 @@ import datetime
 import os
 from fractions import Fraction
 from html import escape
+from typing import Dict, Sequence
 
 from .. import __version__
-from ..analysis.changes import is_left_out, left_out_text, single_title, total
-from .drawing import grouped
+from ..analysis.changes import LeastChanges, is_left_out, left_out_text, single_title, total
+from ..analysis.gains import Place, better
+from ..analysis.reasons import Part, Reason
+from ..analysis.sensitivity import Marginal
+from ..exact import magnitude
+from ..reading.network import Arc, Network
+from ..types import Number
+from .placement import grouped
 from .style import PAGE_STYLE, SCRIPT
-from ..tools.why import Place, better
 
 HIDDEN_FROM = 5_000
 # From this many rows on a table has a line to find some of them; it has at most so many totals.
 FOUND_FROM, TOTALS = 15, 200
 
 
-def text(value):
+def text(value: object) -> str:
     return escape(str(value), quote=True)
 
 
-def cell(value, kind):
+def cell(value: object, kind: str) -> str:
     """Returns a cell; a number is printed in groups of three digits and sorted by its value."""
     if isinstance(value, (int, Fraction)) and not isinstance(value, bool) and "number" in kind:
         plain, shown = str(value), grouped(value)
@@ -30,19 +36,19 @@ def cell(value, kind):
     return f'<td class="{kind}">{text(value)}</td>'
 
 
-class Cells(dict):
+class Cells(Dict[object, str]):
     """The cells of a column by their values. It grows as rows are made, since most values occur often."""
 
-    def __init__(self, kind):
+    def __init__(self, kind: str) -> None:
         super().__init__()
         self.kind = kind
 
-    def __missing__(self, value):
+    def __missing__(self, value: object) -> str:
         found = self[value] = cell(value, self.kind)
         return found
 
 
-def table(head, rows, classes=""):
+def table(head: Sequence[tuple[str, str]], rows: Sequence[tuple[str, Sequence[object]]], classes: str = "") -> str:
     """Returns a table whose columns a click sorts; a column is (title, class), a row its own class and its cells."""
     titles = "".join(f'<th class="{kind}" scope="col"><button type="button">{text(title)}</button></th>' for title, kind in head)
     columns = [Cells(kind) for _, kind in head]
@@ -51,11 +57,11 @@ def table(head, rows, classes=""):
     return f'<div class="scroll"><table class="{classes}"><thead><tr>{titles}</tr></thead><tbody>\n{body}\n</tbody></table></div>'
 
 
-def section(title, inner, name=""):
+def section(title: str, inner: str, name: str = "") -> str:
     return f'<section{f" id={name}" if name else ""}><h2>{text(title)}</h2>\n{inner}\n</section>'
 
 
-def bullets(lines):
+def bullets(lines: Sequence[str]) -> str:
     return "<ul>" + "".join(f"<li>{text(line)}</li>" for line in lines) + "</ul>" if lines else ""
 
 
@@ -63,16 +69,16 @@ class Arcs:
     """The table of one declaration's arcs; `keys` are the titles of the parts of its keys. `lead` are the ids of the arcs that are shown
     first; a button shows the others."""
 
-    def __init__(self, net, name, keys, arcs, lead, has_plan):
+    def __init__(self, net: Network, name: str, keys: list[str], arcs: list[Arc], lead: set[int], has_plan: bool) -> None:
         self.net, self.name, self.keys, self.arcs, self.lead, self.has_plan = net, name, keys, arcs, lead, has_plan
         self.has_least = any(arc.lower for arc in arcs)
         self.has_worth = has_plan and any(arc.worth and self.gain(arc) for arc in arcs)
         self.has_price = any(arc.price for arc in arcs)
 
-    def gain(self, arc):
+    def gain(self, arc: Arc) -> Number:
         return max(0, -arc.worth if arc.is_full() else arc.worth if arc.is_lowest() else 0)
 
-    def head(self):
+    def head(self) -> list[tuple[str, str]]:
         titles = [(key, "") for key in self.keys]
         titles += [("from", "end"), ("to", "end")] + ([("flow", "number flow")] if self.has_plan else [])
         titles += ([("least", "number")] if self.has_least else []) + [("most", "number")] + ([("price", "number")] if self.has_price else [])
@@ -80,15 +86,15 @@ class Arcs:
         better = "saves" if self.net.sign > 0 else "brings"
         return titles + ([(f"one unit past the bound {better} at most", "number wrap")] if self.has_worth else [])
 
-    def row(self, arc):
-        cells = [*arc.key, self.net.end(arc.src), self.net.end(arc.dst)] + ([arc.flow] if self.has_plan else [])
+    def row(self, arc: Arc) -> tuple[str, list[object]]:
+        cells: list[object] = [*arc.key, self.net.end(arc.src), self.net.end(arc.dst)] + ([arc.flow] if self.has_plan else [])
         cells += ([arc.lower] if self.has_least else []) + ["no limit" if arc.is_open else arc.upper] + ([arc.price] if self.has_price else [])
         cells += [arc.flow * arc.price] if self.has_plan and self.has_price else []
         cells += [self.gain(arc) or ""] if self.has_worth else []
         bound = "full" if self.has_plan and arc.is_tight() else "lowest" if self.has_plan and arc.is_lowest() else ""
         return f"{bound}{'' if id(arc) in self.lead else ' more'}".strip(), cells
 
-    def summary(self):
+    def summary(self) -> str:
         used, count = sum(arc.flow != 0 for arc in self.arcs), len(self.arcs)
         if not self.has_plan:
             across = sum(id(arc) in self.lead for arc in self.arcs)
@@ -100,14 +106,14 @@ class Arcs:
         marks = "".join(f', {many} <span class="{kind}">{what}</span>' for many, kind, what in bounds if many)
         return f"{count} {arcs_word(count)}, {used} in use{marks}.{spent}"
 
-    def finding(self, count):
+    def finding(self, count: int) -> str:
         """Returns a line to find rows by their texts, and the full ones alone."""
         if count < FOUND_FROM:
             return ""
         full = '<label><input type="checkbox"> full only</label>' if self.has_plan and any(arc.is_tight() for arc in self.arcs) else ""
         return f'<p class="find"><label>find <input type="search"></label>{full}<span class="dim"></span></p>'
 
-    def totals(self):
+    def totals(self) -> str:
         """Returns the total flows by each part of the keys."""
         if not self.has_plan or len(self.keys) < 2:
             return ""
@@ -115,8 +121,9 @@ class Arcs:
         made = [item for item in made if item]
         return f'<details><summary>totals</summary><div class="pair">{"".join(made)}</div></details>' if made else ""
 
-    def total(self, place, title):
-        sums = dict.fromkeys([arc.key[place] for arc in self.arcs], (0, 0))
+    def total(self, place: int, title: str) -> str:
+        nothing: tuple[Number, Number] = (0, 0)
+        sums = dict.fromkeys([arc.key[place] for arc in self.arcs], nothing)
         if not 1 < len(sums) <= TOTALS or len(sums) == len(self.arcs):
             return ""
         for arc in self.arcs:
@@ -126,7 +133,7 @@ class Arcs:
         head = [(title, ""), ("flow", "number flow")] + [("flow × price", "number")] * self.has_price
         return f'<div>{table(head, [("", [member, *pair][:len(head)]) for member, pair in sums.items()])}</div>'
 
-    def html(self, grid=""):
+    def html(self, grid: str = "") -> str:
         shown = sorted(self.arcs, key=lambda arc: id(arc) not in self.lead)
         hidden = sum(id(arc) not in self.lead for arc in self.arcs)
         what = f"the {hidden} that {'carries' if hidden == 1 else 'carry'} nothing" if self.has_plan else f"the {hidden} other{'s' * (hidden > 1)}"
@@ -139,13 +146,14 @@ class Arcs:
         return section(self.name, f"<p>{self.summary()} {note}</p>{self.finding(len(shown))}{made}{grid}{self.totals()}")
 
 
-def places_html(net, marginal=None):
+def places_html(net: Network, marginal: Marginal | None = None) -> str:
     """Returns the table of the places: inflow, outflow, and what one more unit that they need or give costs, as netflow-why says."""
-    came, went = [0] * len(net.nodes), [0] * len(net.nodes)
+    came: list[Number] = [0] * len(net.nodes)
+    went: list[Number] = [0] * len(net.nodes)
     for arc in (arc for arc in net.arcs if arc.flow):
         for counts, number, is_forward in ((came, arc.dst, arc.flow > 0), (went, arc.src, arc.flow > 0)):
             if number is not None:
-                (counts if is_forward else went if counts is came else came)[number] += abs(arc.flow)
+                (counts if is_forward else went if counts is came else came)[number] += magnitude(arc.flow)
     places = [Place(net, marginal, number) for number in range(len(net.nodes))] if marginal else []
     worths = [place.cost if place.is_felt() else "" if place.cost is None else 0 for place in places]
     has_worth = any(worths)
@@ -159,21 +167,21 @@ def places_html(net, marginal=None):
     return section("Places", f"<p>{count} {'place' if count == 1 else 'places'}.{note}</p>{table(head, rows, 'numbers')}") if rows else ""
 
 
-def arcs_word(count):
+def arcs_word(count: int) -> str:
     return "arc" if count == 1 else "arcs"
 
 
-def parts_table(title, total, parts, most):
+def parts_table(title: str, total: Number, parts: list[Part], most: int) -> str:
     rows = [("", [part.amount, part.text]) for part in parts[:most]]
     more = f"<p>and {len(parts) - most} more</p>" if len(parts) > most else ""
     return f"<h3>{text(title)}, {total} in all</h3>" + table([("amount", "number"), ("what", "")], rows) + more
 
 
-def capital(words):
+def capital(words: str) -> str:
     return words[:1].upper() + words[1:]
 
 
-def reason_html(net, reason, most):
+def reason_html(net: Network, reason: Reason, most: int) -> str:
     """A set of places that is short, in words and two tables."""
     asked, helping, none, other = reason.words()
     lines = [f'<p class="reason">{text(capital(reason.headline(net)))}.</p>']
@@ -188,7 +196,7 @@ def reason_html(net, reason, most):
     return "".join(lines)
 
 
-def changes_html(net, found, most):
+def changes_html(net: Network, found: LeastChanges, most: int) -> str:
     """The least changes: those at one place, then those of the other kinds of bounds."""
     if found.is_large:
         return "<p>It is not computed: the model is too large.</p>"
@@ -206,14 +214,14 @@ def changes_html(net, found, most):
     return "".join(lines) + "<p>Each unit counts the same, and other changes may be as small.</p>"
 
 
-def date():
+def date() -> str:
     """Returns the date of today, or of SOURCE_DATE_EPOCH."""
     epoch = os.environ.get("SOURCE_DATE_EPOCH")
     day = datetime.datetime.fromtimestamp(int(epoch), datetime.timezone.utc) if epoch and epoch.isdigit() else datetime.datetime.now()
     return day.strftime("%Y-%m-%d")
 
 
-def page(title, files, head, sections):
+def page(title: str, files: str, head: str, sections: list[str]) -> str:
     """Returns the whole page, which needs no other file."""
     return f"""<!DOCTYPE html>
 <html lang="en"><head><meta charset="utf-8"><meta name="viewport" content="width=device-width, initial-scale=1">

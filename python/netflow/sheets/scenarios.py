@@ -7,18 +7,19 @@ import itertools
 import re
 from typing import Any
 
-from ..tools.command import note_grouped, question_of
-from ..hints.diagnostic import Diagnostic
-from ..errors import DataError, ProgramError, ScaleError, Unbounded
-from ..program import REJECTED, USAGE
-from ..inputs.instance import Question
 from ..analysis.reasons import reasons
-from ..reading.output import Network
+from ..errors import DataError, ProgramError, ScaleError, Unbounded
+from ..hints.diagnostic import Diagnostic
+from ..inputs.instance import Instance
+from ..program import REJECTED, USAGE
+from ..reading.network import Network
+from ..tools.command import instance_of, note_grouped
+from ..types import Number
 
 CHANGE = re.compile(r"\w+(?:\[[^\]]*\])?\s*=\s*(?:'[^']*'|\"[^\"]*\"|\S+)")
 
 
-def cases_of(words: argparse.Namespace) -> list:
+def cases_of(words: argparse.Namespace) -> list[list[str]]:
     """Returns the changes of each case: those of --case, then all combinations of the values of --vary."""
     found = [case_words(case) for case in words.case]
     varied = []
@@ -30,7 +31,7 @@ def cases_of(words: argparse.Namespace) -> list:
     return found + ([list(values) for values in itertools.product(*varied)] if varied else [])
 
 
-def case_words(text: str) -> list:
+def case_words(text: str) -> list[str]:
     """Returns the changes of one case; blanks inside brackets and quotes do not separate them."""
     found = CHANGE.findall(text)
     if "".join(found).replace(" ", "") != text.replace(" ", ""):
@@ -38,17 +39,17 @@ def case_words(text: str) -> list:
     return found
 
 
-def answer_of(words: argparse.Namespace, changes: list, extra_data: list | None = None) -> Network:
+def answer_of(words: argparse.Namespace, changes: list[str], extra_data: list[str] | None = None) -> Network:
     """Returns the network with the plan, or the cut, of a case."""
     asked = copy.copy(words)
     asked.data = [*words.data, *(extra_data or [])]
-    with question_of(asked, changes) as question:
-        net = question.network()[1]
-        note_grouped(question)
+    with instance_of(asked, changes) as instance:
+        net = instance.network()[1]
+        note_grouped(instance)
         return net
 
 
-def difference(value: Any, base: Any) -> str:
+def difference(value: Number, base: Number) -> str:
     change = value - base
     return f"+{change}" if change > 0 else str(change)
 
@@ -60,35 +61,36 @@ def scenarios(words: argparse.Namespace, out: Any) -> int:
         raise ProgramError(USAGE, "netflow-sheet scenarios: give at least one --case or --vary\n")
     base = answer_of(words, [])
     out.writerow(["case", "status", "value", "difference", "arcs that differ", "reason"])
-    out.writerow(["as it is", *(["optimal", base.value, 0, 0, ""] if base.cut is None else without_plan(base))])
+    first: list[object] = ["optimal", base.value, 0, 0, ""]
+    out.writerow(["as it is", *(first if base.cut is None else without_plan(base))])
     status = 0
     for case in cases:
         try:
-            with question_of(words, case) as question:
-                row = case_cells(base, question.network()[1])
-                note_grouped(question)
+            with instance_of(words, case) as instance:
+                row = case_cells(base, instance.network()[1])
+                note_grouped(instance)
         except ProgramError as problem:
             if problem.status != REJECTED:
                 raise
-            row, status = ["error", "", "", "", error_text(problem, question)], REJECTED
+            row, status = ["error", "", "", "", error_text(problem, instance)], REJECTED
         except (ScaleError, DataError, Unbounded) as problem:
             row, status = ["error", "", "", "", str(problem)], REJECTED
         out.writerow([" ".join(case), *row])
     return status
 
 
-def error_text(problem: ProgramError, question: Question) -> str:
+def error_text(problem: ProgramError, instance: Instance) -> str:
     """Returns the error line of a case, with a hint if there is one that is sure."""
-    found, line = Diagnostic.of_question(problem, question), problem.message.split("\n")[0]
+    found, line = Diagnostic.of_instance(problem, instance), problem.message.split("\n")[0]
     return f"{line}: {found.hints()[0]}" if found is not None and found.has_sure_hint() else line
 
 
-def without_plan(net: Network) -> list:
+def without_plan(net: Network) -> list[object]:
     """Returns the cells of a case without a plan, with the largest shortage as the reason."""
-    return ["infeasible", "", "", "", reasons(net, *net.cut)[0].headline(net)]
+    return ["infeasible", "", "", "", reasons(net)[0].headline(net)]
 
 
-def case_cells(base: Network, net: Network) -> list:
+def case_cells(base: Network, net: Network) -> list[object]:
     """Returns the cells of a case: status, value, difference, how many arcs differ, and the reason if it has no plan."""
     if net.cut is not None:
         return without_plan(net)

@@ -10,18 +10,19 @@ import sys
 from typing import Any, Callable, Sequence
 
 from .. import __version__
-from ..reading.data import TOKEN
-from ..hints.diagnostic import LINE, Diagnostic
 from ..errors import DataError, ModelError, NetflowError, ProgramError, ScaleError, Unbounded, Unreadable
 from ..exact import Exact, parse_numeral
-from ..reading.model import Unparsed
-from .json_objects import dump_lines, error_json
+from ..hints.diagnostic import LINE, Diagnostic
+from ..inputs.grouped_digits import grouped_lines_of
+from ..inputs.instance import Input, Instance
 from ..program import INTERNAL, REJECTED, UNREADABLE_FILE, USAGE, Patience
-from ..inputs.instance import Input, Question
-from ..reading.output import Network
-from ..inputs.grouped_digits import lines_of_question
+from ..reading.data import TOKEN
+from ..reading.model import Unparsed
+from ..reading.network import Network
+from ..report.json_objects import dump_lines, error_json
+from ..types import Key, Member, Value
 
-NOTED: set = set()
+NOTED: set[str] = set()
 OTHER_VERSION = "the output of netflow does not have the documented form; is the program of another version?"
 
 
@@ -30,8 +31,8 @@ class Words(argparse.ArgumentParser):
 
     def __init__(self, usage: str, **others: Any) -> None:
         summary, _, more = usage.partition("\n\n")
-        words: dict = {"usage": summary.replace("usage: ", "", 1), "description": more, "formatter_class": argparse.RawDescriptionHelpFormatter}
-        arguments: dict = {**words, "allow_abbrev": False, **others}
+        words: dict[str, Any] = {"usage": summary.replace("usage: ", "", 1), "description": more, "formatter_class": argparse.RawDescriptionHelpFormatter}
+        arguments: dict[str, Any] = {**words, "allow_abbrev": False, **others}
         super().__init__(**arguments)
         self.add_argument("--version", action="version", version=f"{self.prog} {__version__}")
 
@@ -40,7 +41,7 @@ class Words(argparse.ArgumentParser):
         sys.stderr.write(f"{self.prog}: {message}\n")
         sys.exit(USAGE)
 
-    def question(self) -> "Words":
+    def instance(self) -> "Words":
         """Adds the files and options of a model with its data."""
         self.add_argument("model", metavar="MODEL")
         self.add_argument("data", metavar="DATA", nargs="*", default=[], help="data files; later ones override earlier ones (none: no data)")
@@ -52,17 +53,17 @@ class Words(argparse.ArgumentParser):
         return self
 
 
-def question_of(words: argparse.Namespace, extra: Sequence[str] = ()) -> Question:
+def instance_of(words: argparse.Namespace, extra: Sequence[str] = ()) -> Instance:
     """Returns the question of parsed words."""
     data = [Input(path) for path in words.data]
     origins = {**origins_of(words.changes, "--set"), **origins_of(extra, "the case")}
-    question = Question(Input(words.model), data, objective=words.objective, changes=changes_of([*words.changes, *extra]),
+    instance = Instance(Input(words.model), data, objective=words.objective, changes=changes_of([*words.changes, *extra]),
                         scale=scale_of(words.scale), add_bounds=words.bounds, origins=origins)
-    question.words = given_words(words, extra)
-    return question
+    instance.words = given_words(words, extra)
+    return instance
 
 
-def given_words(words: argparse.Namespace, extra: Sequence[str]) -> list:
+def given_words(words: argparse.Namespace, extra: Sequence[str]) -> list[str]:
     """Returns the files and options of a question as words; none if a file is a pipe, which can be read only once."""
     files = [words.model, *words.data]
     if any(file == "-" or os.path.exists(file) and not os.path.isfile(file) and os.path.realpath(file) != os.devnull for file in files):
@@ -72,9 +73,9 @@ def given_words(words: argparse.Namespace, extra: Sequence[str]) -> list:
     return [*files, *(word for pair in options for word in pair), *(["--bounds"] if words.bounds else [])]
 
 
-def changes_of(words: Sequence[str]) -> dict:
+def changes_of(words: Sequence[str]) -> dict[str, Any]:
     """Returns the values of `NAME=VALUE` and `NAME[KEY,..]=VALUE` by name."""
-    found: dict = {}
+    found: dict[str, Any] = {}
     for word in words:
         name, key, value = change_of(word)
         if key:
@@ -87,7 +88,7 @@ def changes_of(words: Sequence[str]) -> dict:
     return found
 
 
-def change_of(word: str) -> tuple:
+def change_of(word: str) -> tuple[str, Key, Value | int]:
     """Returns the name, the key, () if it has none, and the value of a change."""
     head, equals, value = word.partition("=")
     name, bracket, key = head.strip().partition("[")
@@ -97,29 +98,29 @@ def change_of(word: str) -> tuple:
     return name, parts, value_of(value)
 
 
-def origins_of(words: Sequence[str], option: str) -> dict:
+def origins_of(words: Sequence[str], option: str) -> dict[tuple[str, Key], str]:
     """Returns for the name and key of each change what the user wrote."""
     return {change_of(word)[:2]: f"{option} {word}" for word in words}
 
 
-def key_parts(key: str) -> list:
+def key_parts(key: str) -> list[str]:
     return [token[0] for token in TOKEN.finditer(key) if token.lastgroup in ("word", "text")]
 
 
-def member_of(text: str) -> Any:
+def member_of(text: str) -> Member:
     if text[:1] in ("'", '"') and len(text) > 1:
         return text[1:-1].replace(text[0] * 2, text[0])
     number = parse_numeral(text)
     return int(number) if number is not None and number.denominator == 1 else text
 
 
-def value_of(text: str) -> Any:
+def value_of(text: str) -> Value | int:
     text = text.strip()
     number = parse_numeral(text)
     return number if number is not None else member_of(text)
 
 
-def scale_of(words: Sequence[str]) -> dict:
+def scale_of(words: Sequence[str]) -> dict[str, int]:
     found = {}
     for word in words:
         name, _, factor = word.partition("=")
@@ -146,9 +147,9 @@ def note_fractions(net: Network) -> None:
         sys.stderr.write(f"{os.path.basename(sys.argv[0])}: {text}\n")
 
 
-def note_grouped(question: Question) -> None:
+def note_grouped(instance: Instance) -> None:
     """Prints on standard error the decimals that may be whole numbers with grouped digits, each once."""
-    new = [line for line in lines_of_question(question) if line not in NOTED]
+    new = [line for line in grouped_lines_of(instance) if line not in NOTED]
     NOTED.update(new)
     sys.stderr.write("".join(f"{os.path.basename(sys.argv[0])}: {line}\n" for line in new))
 
@@ -158,9 +159,9 @@ def title_of(words: argparse.Namespace) -> str:
     return f"{os.path.basename(words.model)}{' with ' if names else ''}{', '.join(names)}"
 
 
-def print_error_json(problem: ProgramError, question: Question) -> int:
+def print_error_json(problem: ProgramError, instance: Instance) -> int:
     """Prints the JSON object of an error of the model or its data, and returns the status."""
-    diagnostic = Diagnostic.of_question(problem, question)
+    diagnostic = Diagnostic.of_instance(problem, instance)
     if diagnostic is None:
         raise problem
     print(dump_lines(error_json(ModelError(diagnostic))))

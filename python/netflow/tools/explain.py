@@ -19,21 +19,23 @@ import unicodedata
 from typing import Sequence
 
 from .. import __version__
-from .command import Words, question_of, run as run_tool
-from ..hints.diagnostic import LINE, TEXTS, Diagnostic
 from ..errors import ModelError, ProgramError
+from ..hints.diagnostic import LINE, TEXTS, Diagnostic
 from ..hints.later_errors import further_errors, further_lines
-from .json_objects import dump_lines, error_json
+from ..inputs.grouped_digits import grouped_lines, grouped_lines_of
+from ..inputs.instance import Instance
 from ..program import USAGE, Session, program
-from ..inputs.instance import Question
-from ..reading.output import divided_cut, shown
-from ..inputs.grouped_digits import grouped_lines, lines_of_question
+from ..reading.keys import shown
+from ..reading.output import divided_cut
 from ..reading.text import read
+from ..report.json_objects import dump_lines, error_json
+from .command import Words, instance_of
+from .command import run as run_tool
 
 WIDTH, AROUND = 100, 60
 
 
-def files_of(words: Sequence[str]) -> list:
+def files_of(words: Sequence[str]) -> list[int]:
     """Returns the indices of the words that name files."""
     places, skip = [], False
     for here, word in enumerate(words[1:], 1):
@@ -49,7 +51,7 @@ def width(text: str) -> int:
     return sum(0 if unicodedata.combining(letter) else 2 if unicodedata.east_asian_width(letter) in "WF" else 1 for letter in text)
 
 
-def source_lines(diagnostic: Diagnostic) -> list:
+def source_lines(diagnostic: Diagnostic) -> list[str]:
     """Returns the line of the input, of a long one the part around the place, and the mark below it."""
     before, after = diagnostic.before, diagnostic.at()
     if len(before) > AROUND:
@@ -61,7 +63,7 @@ def source_lines(diagnostic: Diagnostic) -> list:
     return [f"    {before}{after}", *([f"    {under}^"] if diagnostic.column else [])]
 
 
-def lines_of(diagnostic: Diagnostic) -> list:
+def lines_of(diagnostic: Diagnostic) -> list[str]:
     """Returns the explanation. A sure hint comes alone; without one, what to do in general comes last."""
     place = diagnostic.place() if diagnostic.called or diagnostic.is_change() else ""
     means, remedy = diagnostic.catalogue()
@@ -74,7 +76,7 @@ def lines_of(diagnostic: Diagnostic) -> list:
     return lines
 
 
-def explain(words: list, is_json: bool) -> int:
+def explain(words: list[str], is_json: bool) -> int:
     places = files_of(words)
     with Session([words[place] for place in places]) as session:
         asked = list(words)
@@ -114,42 +116,42 @@ def is_rewriting(words: Sequence[str]) -> bool:
     return len(files) > 2 or any(word.partition("=")[0] in ("--set", "--scale", "--bounds") for word in words)
 
 
-def explain_rewritten(words: list, is_json: bool) -> int:
+def explain_rewritten(words: list[str], is_json: bool) -> int:
     """Asks for the answer as the other tools do, and explains the error if there is one."""
-    parser = Words(__doc__ or "", prog="netflow-explain").question()
+    parser = Words(__doc__ or "", prog="netflow-explain").instance()
     parser.add_argument("--lean", action="store_true", help="with compile: no lower bounds in the problem")
     parsed = parser.parse_args(words[1:])
-    with question_of(parsed) as question:
-        question.options += ["--lean"] if parsed.lean else []
+    with instance_of(parsed) as instance:
+        instance.options += ["--lean"] if parsed.lean else []
         try:
             if words[0] == "compile":
-                sys.stdout.write(question.ask("compile").text)
+                sys.stdout.write(instance.ask("compile").text)
                 return 0
-            answer = question.ask("solve")
-            sys.stdout.write(answer.text if question.factors.is_plain() else divided_text(question))
-            write_hints(lines_of_question(question))
+            answer = instance.ask("solve")
+            sys.stdout.write(answer.text if instance.factors.is_plain() else divided_text(instance))
+            write_hints(grouped_lines_of(instance))
             return answer.status
         except ProgramError as problem:
-            found = Diagnostic.of_question(problem, question)
+            found = Diagnostic.of_instance(problem, instance)
             if found is None:
                 raise
             if is_json:
-                print_json(found, question.options)
+                print_json(found, instance.options)
             else:
-                lines = [problem.message.rstrip("\n"), *lines_of(found), *further_lines(found, question.options)]
+                lines = [problem.message.rstrip("\n"), *lines_of(found), *further_lines(found, instance.options)]
                 sys.stderr.write("".join(f"{line}\n" for line in lines))
             return problem.status
 
 
-def write_hints(lines: list) -> None:
+def write_hints(lines: list[str]) -> None:
     """Writes on standard error what is worth a look next to an answer."""
     sys.stdout.flush()
     sys.stderr.write("".join(f"Hint: {line}\n" for line in lines))
 
 
-def divided_text(question: Question) -> str:
+def divided_text(instance: Instance) -> str:
     """Returns the answer to a scaled question in netflow's form, its numbers divided again."""
-    answer, net = question.network()
+    answer, net = instance.network()
     if net.cut is not None:
         return divided_cut(answer.text, net)
     lines, declared = [f"{net.objective} = {net.value}"], net.declared()

@@ -28,20 +28,22 @@ import sys
 from fractions import Fraction
 from typing import Sequence
 
-from .command import Words, question_of, run as run_tool, scale_of
-from ..reading.data import PLAIN_NAME
 from ..errors import ProgramError
 from ..exact import common_factor, parse_numeral
-from ..program import REJECTED
-from ..sheets.scenarios import diff, scenarios
-from ..sheets.files import filled, column_number, read_sheet, stem
-from ..sheets.plans import plan
 from ..inputs.grouped_digits import GROUPED, meant
+from ..program import REJECTED
+from ..reading.data import PLAIN_NAME
+from ..sheets.files import Cell, column_number, filled, read_sheet, stem
+from ..sheets.plans import plan
+from ..sheets.scenarios import diff, scenarios
+from .command import Words, instance_of
+from .command import run as run_tool
+from .command import scale_of
 
 KINDS = ("plan", "scenarios", "diff", "set", "list", "grid", "data")
 
 
-def chosen(rows: list, columns: str) -> list:
+def chosen(rows: list[list[Cell]], columns: str) -> list[list[Cell]]:
     """Returns the columns by the titles of the first row, or by letters."""
     if not columns:
         return rows
@@ -58,13 +60,13 @@ def chosen(rows: list, columns: str) -> list:
     return [[filled(row, width)[index] for index in places] for row in rows]
 
 
-def as_set(name: str, rows: list, has_heading: bool) -> list:
+def as_set(name: str, rows: list[list[Cell]], has_heading: bool) -> list[str]:
     if has_heading:
         rows = rows[1:]
     elif looks_like_heading(name, rows):
         sys.stderr.write(f"netflow-sheet: {rows[0][0].place()}: {rows[0][0].text!r} becomes a member; if it is a heading, add --heading\n")
     width = len(rows[0]) if rows else 1
-    lines: dict = {}
+    lines: dict[str, Cell] = {}
     for row in rows:
         members = [index.member() for index in filled(row, width)]
         lines.setdefault(members[0] if width == 1 else f"({','.join(members)})", row[0])
@@ -73,12 +75,12 @@ def as_set(name: str, rows: list, has_heading: bool) -> list:
     return [f"set {name} :=", *lines, ";"]
 
 
-def looks_like_heading(name: str, rows: list) -> bool:
+def looks_like_heading(name: str, rows: list[list[Cell]]) -> bool:
     first = rows[0][0].text.lower()
     return len(rows) > 1 and any(difflib.SequenceMatcher(None, first, other.lower()).ratio() > 0.75 for other in (name, stem(rows[0][0].path)))
 
 
-def as_list(rows: list, keys: int, members: str, scale: dict, has_comma: bool) -> list:
+def as_list(rows: list[list[Cell]], keys: int, members: str, scale: dict[str, int], has_comma: bool) -> list[str]:
     titles = rows[0][keys:]
     if not titles:
         rows[0][0].reject(f"is in the first row, which has {len(rows[0])} of at least {keys + 1} titles: the keys, then the parameters. "
@@ -92,9 +94,9 @@ def as_list(rows: list, keys: int, members: str, scale: dict, has_comma: bool) -
     return [f"param: {members + ': ' if members else ''}{' '.join(names)} :=", *lines, ";"]
 
 
-def note_decimals(names: Sequence[str], cells: list) -> None:
+def note_decimals(names: Sequence[str], cells: list[list[str]]) -> None:
     """Reports the parameters with decimals, which netflow itself rejects, and their factors."""
-    factors: dict = {}
+    factors: dict[str, int] = {}
     for row in cells:
         for name, cell in zip(names, row):
             number = parse_numeral(cell)
@@ -105,7 +107,7 @@ def note_decimals(names: Sequence[str], cells: list) -> None:
         sys.stderr.write(f"netflow-sheet: {', '.join(factors)}: decimals are kept, and the tools scale them; for netflow itself add {scale}\n")
 
 
-def note_points(cells: list) -> None:
+def note_points(cells: list[Cell]) -> None:
     """Reports the decimals of a text file that may be whole numbers with a point between groups of digits."""
     found = [cell for cell in cells if GROUPED.fullmatch(cell.text) and not cell.path.lower().endswith(".xlsx")]
     for cell in found[:3]:
@@ -114,7 +116,7 @@ def note_points(cells: list) -> None:
         sys.stderr.write(f"netflow-sheet: {len(found) - 3} more cells of {found[0].path} have such a point\n")
 
 
-def as_grid(name: str, rows: list, is_turned: bool, scale: dict, has_comma: bool) -> list:
+def as_grid(name: str, rows: list[list[Cell]], is_turned: bool, scale: dict[str, int], has_comma: bool) -> list[str]:
     columns = [cell.member() for cell in rows[0][1:]]
     if not columns:
         rows[0][0].reject("has no column to its right")
@@ -126,7 +128,7 @@ def as_grid(name: str, rows: list, is_turned: bool, scale: dict, has_comma: bool
     return [f"param {name}{' (tr)' if is_turned else ''}: {' '.join(columns)} :=", *lines, ";"]
 
 
-def statement(words: argparse.Namespace) -> list:
+def statement(words: argparse.Namespace) -> list[str]:
     """Returns the lines of the statement that a sheet becomes."""
     rows = chosen(read_sheet(words.sheet), getattr(words, "columns", ""))
     if words.kind == "set":
@@ -137,7 +139,7 @@ def statement(words: argparse.Namespace) -> list:
     return as_grid(words.name, rows, words.turned, scale, words.comma)
 
 
-def data(words: argparse.Namespace, parser: Words) -> list:
+def data(words: argparse.Namespace, parser: Words) -> list[str]:
     """Returns all statements that a configuration lists."""
     import configparser
     import os
@@ -168,7 +170,7 @@ def build_parser() -> Words:
     usages = {line.replace("usage: ", "").split()[1]: line.replace("usage: ", "").strip() for line in usage.splitlines()}
     made = {kind: kinds.add_parser(kind, usage=usages[kind], prog="netflow-sheet") for kind in KINDS}
     for kind in ("plan", "scenarios", "diff"):
-        made[kind].question()
+        made[kind].instance()
     add_plan_options(made)
     for kind in ("set", "grid"):
         made[kind].add_argument("name", metavar="NAME")
@@ -187,7 +189,7 @@ def build_parser() -> Words:
     return parser
 
 
-def add_plan_options(made: dict) -> None:
+def add_plan_options(made: dict[str, Words]) -> None:
     made["plan"].add_argument("--only", metavar="NAME", default="", help="the table of one declaration of arcs")
     made["plan"].add_argument("--grid", action="store_true", help="a grid for each declaration")
     made["plan"].add_argument("--used", action="store_true", help="only arcs that carry something")
@@ -208,7 +210,7 @@ def main(words: Sequence[str]) -> int:
     if getattr(parsed, "keys", 1) < 0:
         parser.error("--keys takes a number from 0 up")
     if parsed.kind == "plan":
-        return plan(parsed, question_of(parsed))
+        return plan(parsed, instance_of(parsed))
     if parsed.kind in ("scenarios", "diff"):
         out = csv.writer(sys.stdout, lineterminator="\n")
         return (scenarios if parsed.kind == "scenarios" else diff)(parsed, out)

@@ -7,55 +7,58 @@ line. If a check of the model fails, it asks again without the check. The exit s
 """
 from __future__ import annotations
 
-import math
 import re
-from typing import Any, Sequence
+from typing import Sequence
 
 from ..analysis.changes import is_left_out, least_changes, left_out_text, single_title, total
-from .command import Words, note_fractions, note_grouped, print_error_json, question_of, run as run_tool
-from ..errors import ProgramError
-from ..reading.model import Unparsed, parse
-from .json_objects import cut_json, dump_lines, plan_columns
-from ..inputs.instance import Input, Question
-from ..analysis.reasons import reasons
-from ..analysis.suspicions import remark_lines
-from ..analysis.sensitivity import Marginal, arc_change, arc_units
 from ..analysis.directions import opposite_sides
-from ..reading.output import Network
-from ..inputs.grouped_digits import lines_of_question
-from ..reading.text import compared_texts, few
+from ..analysis.gains import EXACT_WORK, Gains, Place, better, bottleneck
+from ..analysis.reasons import Part, Reason, reasons
+from ..analysis.sensitivity import Marginal
+from ..analysis.suspicions import remark_lines
+from ..errors import ProgramError
+from ..exact import magnitude
+from ..inputs.grouped_digits import grouped_lines_of
+from ..inputs.instance import Input, Instance
+from ..reading.headings import compared_texts
+from ..reading.model import Unparsed, parse
+from ..reading.network import Arc, Network
+from ..reading.text import few
+from ..report.json_objects import arc_columns, dump_lines, no_plan_json, node_columns, plan_json_head
+from ..types import Number
+from .command import Words, instance_of, note_fractions, note_grouped, print_error_json
+from .command import run as run_tool
 
 SHOWN, SETS = 20, 3
-# Up to how many steps exact changes are computed: arcs of the network times listed arcs, or pairs of places.
-EXACT_WORK = 300_000
-# Up to how many steps it is looked for how far one change holds.
-LIMIT_WORK = 50_000
 
 
-def rows(pairs: list, most: int) -> list:
+def rows(pairs: Sequence[tuple[object, object]], most: int) -> list[str]:
     """Returns amounts and texts, one below the other."""
     wide = max((len(str(amount)) for amount, _ in pairs[:most]), default=0)
     lines = [f"    {str(amount):>{wide}}  {text}" for amount, text in pairs[:most]]
     return lines + ([f"    {'':>{wide}}  and {len(pairs) - most} more (--all shows them)"] if len(pairs) > most else [])
 
 
-def part_rows(parts: list, most: int) -> list:
+def part_rows(parts: list[Part], most: int) -> list[str]:
     """Returns the lines of a list of amounts; a long one by declaration, with the closed arcs first."""
     if len(parts) <= most:
         return rows([(part.amount, part.text) for part in parts], most)
-    groups: dict = {}
+    groups: dict[str, list[Part]] = {}
     for part in parts:
         groups.setdefault(part.name, []).append(part)
-    found = [(sum(part.amount for part in group), group_text(name, group)) for name, group in groups.items()]
+    found: list[tuple[Number, str]] = [
+        (sum(part.amount for part in group), group_text(name, group)) for name, group in groups.items()
+    ]
     closed = [part for part in parts if part.is_arc and not part.amount]
-    lines = rows(sorted(found, key=lambda pair: -pair[0]), most)
+    found.sort(key=lambda pair: pair[0], reverse=True)
+    lines = rows(found, most)
     if closed:
         lines.append(f"    closed: {few([part.text[3:].rpartition(', which carries')[0] for part in closed], 5)}")
     largest = [part for part in parts if part.amount][:5]
     return [*lines, f"    the largest: {few([f'{part.text} ({part.amount})' for part in largest], 5)} (--all shows every line)"]
 
 
-def group_text(name: str, group: list) -> str:
+def group_text(name: str, group: list[Part]) -> str:
     what = "arcs" if group[0].is_arc else "places"
     closed = sum(not part.amount for part in group)
     return f"{name}: {len(group)} {what[:-1] if len(group) == 1 else what}" + (f", {closed} of them 0" if closed and group[0].is_arc else "")
@@ -63,7 +66,7 @@ def group_text(name: str, group: list) -> str:
 
 # No plan
 
-def reason_lines(net: Network, reason: Any, most: int) -> list:
+def reason_lines(net: Network, reason: Reason, most: int) -> list[str]:
     asked, helping, none, other = reason.words()
     lines = [reason.headline(net), f"  {asked}, {reason.needed()} in all:", *part_rows(reason.asks, most)]
     lines += [f"  {helping}, {reason.given()} in all:", *part_rows(reason.helps, most)] if reason.helps else [f"  {none}"]
@@ -73,7 +76,7 @@ def reason_lines(net: Network, reason: Any, most: int) -> list:
     return lines + ([f"  pass on what they get: {few(quiet, most)}"] if quiet else [])
 
 
-def change_lines(net: Network, most: int) -> list:
+def change_lines(net: Network, most: int) -> list[str]:
     """Returns the changes at one place that are enough, then the least change of each other kind of bounds."""
     found = least_changes(net)
     if found.is_large:
@@ -82,7 +85,7 @@ def change_lines(net: Network, most: int) -> list:
     lines = ["", f"Least change with which there is a plan{':' if found.single else ','} {title}", *(f"    {change.sentence()}" for change in found.single)]
     for what, changes in found.others().items():
         lines.append(f"  {what}: none is enough" if changes is None else f"  {what}: {total(changes)} in all")
-        if is_left_out(changes):
+        if changes is not None and is_left_out(changes):
             lines[-1] += f". {left_out_text(net, changes, most)}"
             continue
         listed = sorted(changes or [], key=lambda change: -change.amount)
@@ -90,7 +93,7 @@ def change_lines(net: Network, most: int) -> list:
     return lines + ["  (Each unit counts the same, and other changes may be as small.)"]
 
 
-def infeasible_lines(net: Network, found: list, most: int) -> list:
+def infeasible_lines(net: Network, found: list[Reason], most: int) -> list[str]:
     """Returns the text of a model without a plan."""
     lines = ["No plan.", *(text for line in opposite_sides(net) for text in ("", line))]
     for reason in found[:most if most > SHOWN else SETS]:
@@ -102,49 +105,12 @@ def infeasible_lines(net: Network, found: list, most: int) -> list:
 
 # A plan
 
-class Gains:
-    """What one more unit of a bound saves, of each arc at a bound: exactly if the network is small, else at most."""
 
-    def __init__(self, net: Network, marginal: Marginal) -> None:
-        arcs = [arc for arc in net.arcs if arc.is_full() or arc.is_lowest()]
-        felt = [arc for arc in arcs if arc.worth]
-        self.is_exact = len(net.arcs) * len(felt) <= EXACT_WORK
-        gain = (lambda arc: arc_change(net, marginal.residual, arc)) if self.is_exact else (lambda arc: abs(arc.worth))
-        self.residual = marginal.residual
-        self.felt = sorted(((gain(arc), arc) for arc in felt), key=lambda pair: -pair[0])
-        self.free = [arc for arc in arcs if not arc.worth] + [arc for amount, arc in self.felt if not amount]
-        self.felt = [(amount, arc) for amount, arc in self.felt if amount]
-
-    def limit(self, arc: Any) -> str:
-        """Returns up to which bound the gain of an arc holds, in words; an empty text if it is not known."""
-        units = arc_units(self.residual, arc, LIMIT_WORK) if self.is_exact else 0
-        return limit_text(arc.upper, units) if arc.is_full() else limit_text(arc.lower, -units)
-
-
-def limit_text(amount: Any, units: Any) -> str:
-    """Returns up to which amount the value of one unit holds; `units` below 0 lead down."""
-    if not units:
-        return ""
-    return "; holds for any number" if abs(units) == math.inf else f"; holds {'up' if units > 0 else 'down'} to {amount + units}"
-
-
-def bound_text(arc: Any) -> str:
+def bound_text(arc: Arc) -> str:
     return f"at its most, {arc.upper}" if arc.is_full() else f"at its least, {arc.lower}"
 
 
-def better(net: Network) -> str:
-    return "saves" if net.sign > 0 else "brings"
-
-
-def bottleneck(net: Network, gains: Gains) -> list:
-    """Returns the arcs of a minimum cut if the plan is a maximum flow: each is worth 1, and together they carry the value."""
-    cut = [arc for arc in net.arcs if arc.is_full() and arc.worth == -1]
-    if net.sign > 0 or not cut or any(arc.worth not in (-1, 0) for _, arc in gains.felt) or sum(arc.upper for arc in cut) != net.value:
-        return []
-    return cut
-
-
-def bottleneck_lines(net: Network, gains: Gains, most: int) -> list:
+def bottleneck_lines(net: Network, gains: Gains, most: int) -> list[str]:
     cut = bottleneck(net, gains)
     if not cut:
         return []
@@ -153,66 +119,37 @@ def bottleneck_lines(net: Network, gains: Gains, most: int) -> list:
             *rows([(arc.upper, f"{arc.text} from {net.end(arc.src)} to {net.end(arc.dst)}") for arc in listed], most)]
 
 
-def arc_lines(net: Network, gains: Gains, most: int) -> list:
+def arc_lines(net: Network, gains: Gains, most: int) -> list[str]:
     count = len(gains.felt) + len(gains.free)
     if not count:
         return ["", "No arc is full, and none is at a lower bound other than 0."]
     lines = ["", f"Arcs at a bound: {count} of {len(net.arcs)}. Arcs at their lower bound 0 are not counted."]
     title = f"  If the bound were one unit wider, the plan would {better(net)[:-1]}{'' if gains.is_exact else ' at most'}:"
     # Only the lines that are shown get a limit.
-    listed = [(amount, f"{arc.text} {bound_text(arc)}{gains.limit(arc)}") for amount, arc in gains.felt[:most]]
-    lines += [title, *rows(listed + gains.felt[most:], most)] if gains.felt else []
+    listed: list[tuple[object, object]] = [
+        (amount, f"{arc.text} {bound_text(arc)}{gains.limit(arc)}") for amount, arc in gains.felt[:most]
+    ]
+    lines += [title, *rows([*listed, *gains.felt[most:]], most)] if gains.felt else []
     return lines + ([f"  A wider bound {better(net)} nothing at: {free_text(gains.free, most)}"] if gains.free else [])
 
 
-def free_text(arcs: list, most: int) -> str:
+def free_text(arcs: list[Arc], most: int) -> str:
     if len(arcs) <= most:
         return ", ".join(arc.text for arc in arcs)
-    groups: dict = {}
+    groups: dict[str, int] = {}
     for arc in arcs:
         groups[arc.name] = groups.get(arc.name, 0) + 1
     return ", ".join(f"{name} ({count} arcs)" for name, count in groups.items())
 
 
-class Place:
-    """A node with a condition, and what one more unit there costs (`cost`, below 0 if it saves), None if it cannot change alone."""
-
-    def __init__(self, net: Network, marginal: Marginal, number: int) -> None:
-        self.node = net.nodes[number]
-        self.number, self.wish = number, self.node.wish()
-        self.is_giver = self.wish.startswith("gives")
-        self.cost = (marginal.less if self.is_giver else marginal.more)[number]
-        low, high = (self.node.inflow == self.node.low, self.node.inflow == self.node.high)
-        self.side = "fixed" if self.node.low == self.node.high else "most" if (low if self.is_giver else high) else \
-            "least" if (high if self.is_giver else low) else ""
-
-    def is_felt(self) -> bool:
-        if self.side == "fixed":
-            return bool(self.cost) and bool(self.wish)
-        node = self.node
-        is_own = node.has_low() if (self.side == "least") != self.is_giver else node.has_high()
-        return bool(self.cost) and is_own and (self.cost < 0 if self.side == "most" else self.side == "least" and self.cost > 0)
-
-    def line(self, net: Network, units: Any = 0) -> str:
-        """Returns the place with its cost, which holds for so many units, if that is known."""
-        verb = f"costs {self.cost}" if self.cost > 0 else f"{better(net)} {-self.cost}"
-        amount = abs(self.node.inflow)
-        at = "" if self.side == "fixed" else f", and {'gives' if self.is_giver else 'gets'} the {self.side}, {amount}"
-        return f"    {self.node.text} {self.wish}{at}: one more {verb}{limit_text(amount, units)}"
-
-    def units(self, marginal: Marginal) -> Any:
-        """Returns for how many units the cost holds."""
-        return (marginal.units_less if self.is_giver else marginal.units_more)(self.number, LIMIT_WORK)
-
-
-def matched_lines(net: Network, marginal: Marginal, places: list, most: int) -> list:
+def matched_lines(net: Network, marginal: Marginal, places: list[Place], most: int) -> list[str]:
     """Returns what pairs of changes cost, if what places need and give matches exactly, so that none can change alone."""
     stuck = [place for place in places if place.side == "fixed" and place.wish and place.cost is None]
     if not stuck:
         return []
     whole = len(stuck) == sum(place.side == "fixed" and bool(place.wish) for place in places)
     lines = ["", f"What {'the places' if whole else few([place.node.text for place in stuck], 3)} need and give matches exactly: none can change alone."]
-    needing = sorted((place for place in stuck if not place.is_giver), key=lambda place: -abs(place.node.low))
+    needing = sorted((place for place in stuck if not place.is_giver), key=lambda place: magnitude(place.node.low), reverse=True)
     for place in needing[:max(1, min(most, EXACT_WORK // max(1, len(net.arcs))))]:
         found = marginal.pair(place.number)
         if found is None:
@@ -224,10 +161,10 @@ def matched_lines(net: Network, marginal: Marginal, places: list, most: int) -> 
     return lines + ([f"    and {len(needing) - shown} more (--all shows them)"] if shown and len(needing) > shown else [])
 
 
-def place_lines(net: Network, marginal: Marginal, most: int) -> list:
+def place_lines(net: Network, marginal: Marginal, most: int) -> list[str]:
     places = [Place(net, marginal, number) for number in range(len(net.nodes))]
     matched = matched_lines(net, marginal, places, most)
-    felt = sorted((place for place in places if place.is_felt()), key=lambda place: -abs(place.cost))
+    felt = sorted((place for place in places if place.is_felt()), key=lambda place: magnitude(place.felt_cost), reverse=True)
     if not felt:
         return matched or ["", "One more unit at a place costs nothing, anywhere."]
     has_units = len(net.arcs) * len(felt[:most]) <= EXACT_WORK
@@ -237,7 +174,7 @@ def place_lines(net: Network, marginal: Marginal, most: int) -> list:
     return lines + ([others] if left and not matched else []) + matched
 
 
-def warning_lines(net: Network) -> list:
+def warning_lines(net: Network) -> list[str]:
     """Returns what is allowed and often a mistake: a value of 0, declarations of arcs without a price."""
     unpriced = [name for name, arcs in net.declared().items() if not any(arc.price for arc in arcs)]
     if net.arcs and not any(arc.price for arc in net.arcs):
@@ -247,7 +184,7 @@ def warning_lines(net: Network) -> list:
     return ["", f"Without a price: {few(unpriced, 5)}."] if unpriced else []
 
 
-def feasible_lines(net: Network, most: int) -> list:
+def feasible_lines(net: Network, most: int) -> list[str]:
     """Returns the text of a model with a plan; the network has its prices."""
     marginal = Marginal(net)
     gains = Gains(net, marginal)
@@ -263,12 +200,12 @@ def feasible_lines(net: Network, most: int) -> list:
     return [*lines, "", last]
 
 
-def without_check(question: Question, problem: ProgramError) -> Question | None:
+def without_check(instance: Instance, problem: ProgramError) -> Instance | None:
     """Returns the question without the check that fails; None if that is not the error."""
     found = re.match(r"E35 \w+ model (\d+):(\d+)", problem.message)
     if not found:
         return None
-    text = question.model.text()
+    text = instance.model.text()
     lines = text.split("\n")
     place = sum(len(line) + 1 for line in lines[:int(found[1]) - 1])
     place += len(lines[int(found[1]) - 1].encode("utf-8", "surrogateescape")[:int(found[2]) - 1].decode("utf-8", "surrogateescape"))
@@ -277,22 +214,22 @@ def without_check(question: Question, problem: ProgramError) -> Question | None:
     except (StopIteration, Unparsed):
         return None
     blank = re.sub(r"[^\n]", " ", text[decl.start:decl.end + 1])
-    made = Question(Input(text=text[:decl.start] + blank + text[decl.end + 1:]), question.data, objective=question.objective,
-                    changes=question.changes, scale=question.scale, add_bounds=question.add_bounds)
+    made = Instance(Input(text=text[:decl.start] + blank + text[decl.end + 1:]), instance.data, objective=instance.objective,
+                    changes=instance.changes, scale=instance.scale, add_bounds=instance.add_bounds)
     print(f"The check in line {found[1]} fails: {' '.join(text[decl.start:decl.end + 1].split())}\nWithout it:\n")
     return made
 
 
-def answer_lines(net: Network, most: int) -> list:
+def answer_lines(net: Network, most: int) -> list[str]:
     if net.cut is None:
         return feasible_lines(net, most)
-    return infeasible_lines(net, reasons(net, *net.cut), most)
+    return infeasible_lines(net, reasons(net), most)
 
 
-def text_lines(question: Question, net: Network, most: int) -> list:
+def text_lines(instance: Instance, net: Network, most: int) -> list[str]:
     """Returns the answer with what is worth a look; below `No plan.` the numbers that may be the reason come first."""
-    lines, grouped = answer_lines(net, most), lines_of_question(question)
-    odd = [*compared_texts(question.model.text(), [source.text() for source in question.data]), *remark_lines(question, net)]
+    lines, grouped = answer_lines(net, most), grouped_lines_of(instance)
+    odd = [*compared_texts(instance.model.text(), [source.text() for source in instance.data]), *remark_lines(instance, net)]
     if net.cut is not None and grouped:
         lines[1:1] = ["", *grouped]
         grouped = []
@@ -300,40 +237,39 @@ def text_lines(question: Question, net: Network, most: int) -> list:
 
 
 def print_json(net: Network) -> None:
-    if net.cut is None:
-        found = plan_columns(net)
-        found["nodes"]["one_more_costs"] = Marginal(net).more
-        found["arcs"]["reduced_cost"] = [arc.worth for arc in net.arcs]
-    else:
-        side, inside = net.cut
-        found = cut_json(side, [net.nodes[number].text for number in sorted(inside)], reasons(net, side, inside), net, least_changes(net))
-    print(dump_lines(found))
+    if net.cut is not None:
+        print(dump_lines(no_plan_json(net, least_changes(net))))
+        return
+    arcs, nodes = arc_columns(net), node_columns(net)
+    nodes["one_more_costs"] = Marginal(net).more
+    arcs["reduced_cost"] = [arc.worth for arc in net.arcs]
+    print(dump_lines({**plan_json_head(net), "arcs": arcs, "nodes": nodes}))
 
 
 def main(words: Sequence[str]) -> int:
-    parser = Words(__doc__, prog="netflow-why").question()
+    parser = Words(__doc__, prog="netflow-why").instance()
     parser.add_argument("--all", action="store_true", help="every line of each list")
     parser.add_argument("--json", action="store_true", help="the answer as a JSON object")
     parsed = parser.parse_args(words)
-    question, refused = question_of(parsed), 0
+    instance, refused = instance_of(parsed), 0
     while True:
-        with question:
+        with instance:
             try:
-                answer, net = question.network(with_prices=True)
+                answer, net = instance.network(with_prices=True)
             except ProgramError as problem:
                 if parsed.json:
-                    return print_error_json(problem, question)
-                again = without_check(question, problem)
+                    return print_error_json(problem, instance)
+                again = without_check(instance, problem)
                 if again is None:
                     raise
-                question, refused = again, problem.status
+                instance, refused = again, problem.status
                 continue
             note_fractions(net)
             if parsed.json:
-                note_grouped(question)
+                note_grouped(instance)
                 print_json(net)
             else:
-                print("\n".join(text_lines(question, net, 10**9 if parsed.all else SHOWN)))
+                print("\n".join(text_lines(instance, net, 10**9 if parsed.all else SHOWN)))
             return refused or answer.status
 
 

@@ -3,11 +3,14 @@ from __future__ import annotations
 
 import json
 import re
-from json.encoder import encode_basestring
 from fractions import Fraction
-from typing import Any, Mapping, Sequence
+from typing import Any, Dict, Mapping, Sequence
 
-from ..reading.output import Network
+from ..analysis.changes import Change, LeastChanges
+from ..analysis.reasons import Reason
+from ..analysis.reasons import reasons as reasons_of
+from ..errors import ModelError
+from ..reading.network import Network
 
 SCHEMA = 1
 
@@ -17,7 +20,7 @@ MARK = "\0"
 MARKED = re.compile(r'"\\u0000([-0-9.]+)"')
 
 
-def marked(value: Any) -> Any:
+def marked(value: object) -> int | str:
     """Returns what the JSON encoder does not know, a fraction: a decimal with a mark, and one such as 1/3 as a text."""
     if isinstance(value, Fraction):
         text = str(value)
@@ -25,51 +28,60 @@ def marked(value: Any) -> Any:
     raise TypeError(f"{value!r} has no JSON form")
 
 
-def dumps(value: Any, indent: int | None = None) -> str:
+def dumps(value: object, indent: int | None = None) -> str:
     """Returns the JSON text of an object; exact decimals are numbers with all their digits."""
     return MARKED.sub(r"\1", json.dumps(value, default=marked, indent=indent, ensure_ascii=False))
 
 
-class Columns(dict):
+# The JSON text of a string; an encoder that is made once is fast.
+quoted = json.JSONEncoder(ensure_ascii=False).encode
+
+
+class Columns(Dict[str, Sequence[Any]]):
     """A list of objects with the same fields, as a list for each field."""
 
-    def items_of(self) -> list:
+    def items_of(self) -> list[dict[str, object]]:
         """Returns the objects as dicts."""
         return [dict(zip(self, row)) for row in zip(*self.values())]
 
 
-class JsonTexts(dict):
+class JsonTexts(Dict[Any, str]):
     """JSON texts by value. Each is made once, since a large network has few members, bounds and prices."""
 
-    def __missing__(self, value: Any) -> str:
-        text = self[value] = encode_basestring(value) if isinstance(value, str) else str(value) if isinstance(value, int) else dumps(value)
+    def __missing__(self, value: object) -> str:
+        text = quoted(value) if isinstance(value, str) else str(value) if isinstance(value, int) else dumps(value)
+        self[value] = text
         return text
 
-    def of_column(self, values: list) -> list:
+    def of_column(self, values: Sequence[Any]) -> list[str]:
         if values and isinstance(values[0], list):
             return ["[" + ", ".join(map(self.__getitem__, value)) + "]" for value in values]
         return list(map(self.__getitem__, values))
 
 
-def dump_lines(value: Mapping) -> str:
+def dump_lines(value: Mapping[str, object]) -> str:
     """Returns the JSON text of an object with a line for each field and for each item of its lists: readable, and fast for many arcs."""
     fields, texts = [], JsonTexts()
     for name, field in value.items():
-        is_list = isinstance(field, list) and field and isinstance(field[0], Mapping)
-        lines = column_lines(field, texts) if isinstance(field, Columns) else list(map(dumps, field)) if is_list else []
-        text = "[\n    " + ",\n    ".join(lines) + "\n  ]" if lines else dumps([] if isinstance(field, Columns) else field)
+        lines = []
+        if isinstance(field, Columns):
+            lines, field = column_lines(field, texts), []
+        elif isinstance(field, list) and field and isinstance(field[0], Mapping):
+            lines = list(map(dumps, field))
+        text = "[\n    " + ",\n    ".join(lines) + "\n  ]" if lines else dumps(field)
         fields.append(f"  {dumps(name)}: {text}")
     return "{\n" + ",\n".join(fields) + "\n}"
 
 
-def column_lines(columns: Columns, texts: JsonTexts) -> list:
+def column_lines(columns: Columns, texts: JsonTexts) -> list[str]:
     """Returns the JSON text of each object; `dumps` of the object gives the same and takes longer."""
     template = "{" + ", ".join(f'"{name}": %s' for name in columns) + "}"
     return list(map(template.__mod__, zip(*map(texts.of_column, columns.values()))))
 
 
 def arc_columns(net: Network) -> Columns:
-    arcs, ends = net.arcs, {None: None, **{number: node.text for number, node in enumerate(net.nodes)}}
+    arcs = net.arcs
+    ends: dict[int | None, str | None] = {None: None, **{number: node.text for number, node in enumerate(net.nodes)}}
     return Columns({"name": [arc.name for arc in arcs], "key": [arc.key for arc in arcs], "from": [ends[arc.src] for arc in arcs],
                     "to": [ends[arc.dst] for arc in arcs], "flow": [arc.flow for arc in arcs], "lower": [arc.lower for arc in arcs],
                     "upper": [None if arc.is_open else arc.upper for arc in arcs], "price": [arc.price for arc in arcs]})
@@ -81,32 +93,37 @@ def node_columns(net: Network) -> Columns:
                     "net_in": [node.inflow for node in nodes]})
 
 
-def plan_columns(net: Network) -> dict:
+def plan_columns(net: Network) -> dict[str, object]:
     """Returns the object of a plan, its arcs and nodes as columns."""
-    return {"schema": SCHEMA, "status": "optimal",
-            "objective": {"name": net.objective, "sense": "minimize" if net.sign > 0 else "maximize", "value": net.value},
-            "arcs": arc_columns(net), "nodes": node_columns(net)}
+    return {**plan_json_head(net), "arcs": arc_columns(net), "nodes": node_columns(net)}
 
 
-def plan_json(net: Network) -> dict:
+def plan_json_head(net: Network) -> dict[str, object]:
+    """Returns the object of a plan without its arcs and nodes."""
+    sense = "minimize" if net.sign > 0 else "maximize"
+    objective = {"name": net.objective, "sense": sense, "value": net.value}
+    return {"schema": SCHEMA, "status": "optimal", "objective": objective}
+
+
+def plan_json(net: Network) -> dict[str, object]:
     """Returns the object of a plan."""
     return {name: field.items_of() if isinstance(field, Columns) else field for name, field in plan_columns(net).items()}
 
 
-def reason_json(net: Network, reason: Any) -> dict:
+def reason_json(net: Network, reason: Reason) -> dict[str, object]:
     return {"side": reason.side, "nodes": [net.nodes[number].text for number in reason.nodes], "required": reason.needed(),
             "possible": reason.given(), "short": reason.short(), "sentence": reason.headline(net),
             "asks": [{"amount": part.amount, "what": part.text} for part in reason.asks],
             "helps": [{"amount": part.amount, "what": part.text} for part in reason.helps]}
 
 
-def change_json(change: Any) -> dict:
+def change_json(change: Change) -> dict[str, object]:
     return {"amount": change.amount, "what": change.text, "bound": change.what, "was": change.was, "becomes": change.becomes}
 
 
-def cut_json(side: str, cut: Sequence[str], reasons: Sequence, net: Network | None, changes: Any = None) -> dict:
+def cut_json(side: str, cut: Sequence[str], reasons: Sequence[Reason], net: Network | None, changes: LeastChanges | None = None) -> dict[str, object]:
     """Returns the object of a model without a plan, with its least changes if they are given and were computed."""
-    found: dict = {"schema": SCHEMA, "status": "infeasible", "cut": {"side": side, "nodes": list(cut)}}
+    found: dict[str, object] = {"schema": SCHEMA, "status": "infeasible", "cut": {"side": side, "nodes": list(cut)}}
     found["reasons"] = [reason_json(net, reason) for reason in reasons] if net is not None else []
     if changes is not None and not changes.is_large:
         found["single_changes"] = list(map(change_json, changes.single))
@@ -114,14 +131,20 @@ def cut_json(side: str, cut: Sequence[str], reasons: Sequence, net: Network | No
     return found
 
 
-def error_json(error: Any) -> dict:
+def no_plan_json(net: Network, changes: LeastChanges | None = None) -> dict[str, object]:
+    """Returns the object of a network without a plan."""
+    side, inside = net.cut if net.cut is not None else ("", set())
+    return cut_json(side, [net.nodes[number].text for number in sorted(inside)], reasons_of(net), net, changes)
+
+
+def error_json(error: ModelError) -> dict[str, object]:
     """Returns the object of a ModelError."""
     return {"schema": SCHEMA, **error.to_dict()}
 
 
-def arc_rows(net: Network, headings: Mapping[str, list], name: str | None = None, used_only: bool = False) -> list:
+def arc_rows(net: Network, headings: Mapping[str, Sequence[str]], name: str | None = None, used_only: bool = False) -> list[dict[str, object]]:
     """Returns a dict for each arc, with its key's parts by their headings."""
-    found = []
+    found: list[dict[str, object]] = []
     for arc in net.arcs:
         if (name is None or arc.name == name) and (arc.flow or not used_only):
             keys = dict(zip(headings.get(arc.name, ()), arc.key))
