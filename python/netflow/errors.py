@@ -25,8 +25,8 @@ def _rebuilt(kind: type[NetflowError], arguments: tuple[Any, ...], attributes: d
 
 
 class ProgramError(NetflowError):
-    """The program could not be run, or ended without an answer. `line` is the error line with its place in the joined data; `words`
-    are the words of the command that asked, if they can be given again."""
+    """The program could not be run, or ended without an answer. `line` is the error line with its place in the joined
+    data; `words` are the words of the command that asked, if they can be given again."""
 
     def __init__(self, status: int, message: str, line: str | None = None) -> None:
         super().__init__(message.rstrip("\n"))
@@ -40,10 +40,12 @@ class Unreadable(NetflowError):
 
 
 class ScaleError(NetflowError):
-    """Decimals that cannot be scaled to whole numbers: `parameter` and `factor` are the parameter and its factor, None if unknown;
-    `is_numeral` if it is a numeral of the model, which the program reports by its position."""
+    """Decimals that cannot be scaled to whole numbers: `parameter` and `factor` are the parameter and its factor, None
+    if unknown; `is_numeral` if it is a numeral of the model, which the program reports by its position."""
 
-    def __init__(self, message: str, parameter: str | None = None, factor: int | None = None, is_numeral: bool = False) -> None:
+    def __init__(
+        self, message: str, parameter: str | None = None, factor: int | None = None, is_numeral: bool = False
+    ) -> None:
         super().__init__(message)
         self.parameter, self.factor, self.is_numeral = parameter, factor, is_numeral
 
@@ -55,10 +57,10 @@ class DataError(NetflowError, ValueError):
 class ModelError(NetflowError, ValueError):
     """An error in a model, its data, a problem or a certificate.
 
-    `code` is the number (`E12`), `name` its name, `text` the input (`model`, `data`, ..), `file` the path if it has one,
-    `line` and `column` the place counted from 1 (0 if there is none), `place` the place in words, such as `bread.dat:5:14`, or
-    `the value of van` for data from Python, `source` the line of the input, `detail` what the program adds, `meaning` a sentence on
-    the code, `hint` the most likely fix, `hints` all of them.
+    `code` is the number (`E12`), `name` its name, `text` the input (`model`, `data`, ..), `file` the path if it has
+    one, `line` and `column` the place counted from 1 (0 if there is none), `place` the place in words, such as
+    `bread.dat:5:14`, or `the value of van` for data from Python, `source` the line of the input, `detail` what the
+    program adds, `meaning` a sentence on the code, `hint` the most likely fix, `hints` all of them.
     """
 
     def __init__(self, diagnostic: Diagnostic) -> None:
@@ -69,21 +71,37 @@ class ModelError(NetflowError, ValueError):
         self.meaning, self.remedy = diagnostic.catalogue()
         self.hint = self.hints[0] if self.hints else self.remedy
         self.place = diagnostic.place()
-        where = f"{self.detail} in {self.place}".lstrip() if diagnostic.is_change() else f"{self.place or self.text or ''} {self.detail}"
+        where = (
+            f"{self.detail} in {self.place}".lstrip()
+            if diagnostic.is_change()
+            else f"{self.place or self.text or ''} {self.detail}"
+        )
         said = [f"{self.code} {self.name} {where}".rstrip(), *([f"    {self.source}"] if self.source.strip() else [])]
         super().__init__("\n".join([*said, *([self.hint] if self.hint else [])]))
 
     def to_dict(self) -> dict[str, object]:
         """Returns the error as the documented JSON object."""
-        return {"status": "error", "error": {
-            "code": self.code, "name": self.name, "input": self.text, "file": self.file, "line": self.line or None,
-            "column": self.column or None, "detail": self.detail or None, "source": self.source or None,
-            "meaning": self.meaning or None, "hints": self.hints, "remedy": self.remedy or None}}
+        return {
+            "status": "error",
+            "error": {
+                "code": self.code,
+                "name": self.name,
+                "input": self.text,
+                "file": self.file,
+                "line": self.line or None,
+                "column": self.column or None,
+                "detail": self.detail or None,
+                "source": self.source or None,
+                "meaning": self.meaning or None,
+                "hints": self.hints,
+                "remedy": self.remedy or None,
+            },
+        }
 
 
 class Infeasible(NetflowError):
-    """No plan exists. `cut` are the names of the nodes that show it, `side` is `under` if they need more than can come and `over` if
-    they have more than can leave; `reasons` are the smallest such sets, with amounts."""
+    """No plan exists. `cut` are the names of the nodes that show it, `side` is `under` if they need more than can come
+    and `over` if they have more than can leave; `reasons` are the smallest such sets, with amounts."""
 
     def __init__(
         self, message: str, cut: list[Any], side: str, reasons: list[Reason], network: Network | None = None
@@ -97,11 +115,13 @@ class Infeasible(NetflowError):
         if self.network is None:
             return str(self)
         from .tools.why import infeasible_lines
+
         return "\n".join(infeasible_lines(self.network, self.reasons, 20))
 
     def to_dict(self) -> dict[str, object]:
         """Returns the documented JSON object."""
         from .report.json_objects import cut_json
+
         return cut_json(self.side, self.cut, self.reasons, self.network)
 
 

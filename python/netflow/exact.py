@@ -101,7 +101,8 @@ def as_fraction(value: Any) -> Fraction | None:
 
 
 def common_factor(values: Iterable[Fraction]) -> int:
-    """Returns the least factor that makes all values whole: a power of ten if decimals are exact, else the common denominator."""
+    """Returns the least factor that makes all values whole: a power of ten if decimals are exact, else the common
+    denominator."""
     bottom = 1
     for value in values:
         bottom = math.lcm(bottom, value.denominator)

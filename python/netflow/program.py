@@ -97,7 +97,9 @@ class Session:
 
     def write(self, text: str) -> str:
         """Writes a text to a file that lasts as long as the session, and returns its path."""
-        with tempfile.NamedTemporaryFile("w", prefix="netflow-", delete=False, encoding="utf-8", errors="surrogateescape", newline="") as copy:
+        with tempfile.NamedTemporaryFile(
+            "w", prefix="netflow-", delete=False, encoding="utf-8", errors="surrogateescape", newline=""
+        ) as copy:
             self.copies.append(copy.name)
             copy.write(text)
         return copy.name

@@ -13,8 +13,9 @@ from .analysis.sensitivity import Marginal
 from .errors import DataError, Infeasible, ModelError, ProgramError
 from .hints.diagnostic import Diagnostic
 from .inputs.grouped_digits import grouped_lines_of
-from .inputs.instance import Input, Instance
+from .inputs.instance import Instance
 from .inputs.python_data import override
+from .inputs.source import Input
 from .program import REJECTED, UNREADABLE_FILE, call
 from .reading.headings import headings
 from .reading.model import Shapes, Unparsed, parse
@@ -72,7 +73,8 @@ class Flows(Mapping[FlowKey, Number]):
 class Solution(Mapping[str, Union[Flows, Number]]):
     """A plan of least cost, or of greatest value: `objective` is the objective's name, `value` its value.
 
-    It maps the name of each declaration of arcs to its `Flows`, or to a number if the declaration has no keys; `arcs` are all arcs.
+    It maps the name of each declaration of arcs to its `Flows`, or to a number if the declaration has no keys; `arcs`
+    are all arcs.
     """
 
     status = "optimal"
@@ -124,10 +126,7 @@ class Solution(Mapping[str, Union[Flows, Number]]):
         import pandas
 
         rows = [
-            {
-                title: float(value) if isinstance(value, Fraction) else value
-                for title, value in row.items()
-            }
+            {title: float(value) if isinstance(value, Fraction) else value for title, value in row.items()}
             for row in self.to_rows(name)
         ]
         return pandas.DataFrame(rows)
@@ -141,12 +140,14 @@ class Solution(Mapping[str, Union[Flows, Number]]):
 
     @property
     def prices(self) -> dict[str, Number]:
-        """By how much the value changes if a node requires one more unit, exactly; nodes whose need cannot change alone have no entry."""
+        """By how much the value changes if a node requires one more unit, exactly; nodes whose need cannot change alone
+        have no entry."""
         sign, costs = self.network.sign, self._priced().more
         return {node.text: sign * cost for node, cost in zip(self.network.nodes, costs) if cost is not None}
 
     def price_range(self, node: str) -> Amount:
-        """For how many more required units at a node, such as `"Shop['hill']"`, its price holds; infinity for any number."""
+        """For how many more required units at a node, such as `"Shop['hill']"`, its price holds; infinity for any
+        number."""
         numbers = {other.text: number for number, other in enumerate(self.network.nodes)}
         if node not in numbers:
             raise KeyError(f"the model has no node {node}")
@@ -184,17 +185,19 @@ def solve(
 ) -> Solution:
     """Solves a model and returns its best plan.
 
-    `model` is a file or a text, and `data` a file, a text, a dict of sets and parameters, or a list of these, of which later ones
-    override earlier ones value by value; keyword arguments override all of them. A `pathlib.Path` is a file. A `str` is a text if it
-    has a line end or a `;`, and else the path of a file.
+    `model` is a file or a text, and `data` a file, a text, a dict of sets and parameters, or a list of these, of which
+    later ones override earlier ones value by value; keyword arguments override all of them. A `pathlib.Path` is a file.
+    A `str` is a text if it has a line end or a `;`, and else the path of a file.
 
-    A set is a list of members or tuples; a parameter is a number, a dict by key, a list of tuples that end with the value, a list of
-    dicts, or a pandas object. A set or parameter named `model`, `data`, `objective`, `scale` or `bounds` is given in a dict of `data`.
+    A set is a list of members or tuples; a parameter is a number, a dict by key, a list of tuples that end with the
+    value, a list of dicts, or a pandas object. A set or parameter named `model`, `data`, `objective`, `scale` or
+    `bounds` is given in a dict of `data`.
 
-    Decimals are scaled exactly; `scale` gives the factor of a parameter. `bounds=True` lets arcs have no upper or lower bound.
+    Decimals are scaled exactly; `scale` gives the factor of a parameter. `bounds=True` lets arcs have no upper or lower
+    bound.
 
-    Raises ModelError if the model or its data have an error, Infeasible if no plan exists, DataError if Python data do not fit. Warns
-    of decimals in a model or data file that may be whole numbers with grouped digits, such as 1.200.
+    Raises ModelError if the model or its data have an error, Infeasible if no plan exists, DataError if Python data do
+    not fit. Warns of decimals in a model or data file that may be whole numbers with grouped digits, such as 1.200.
     """
     first = input_of(model)
     options = {"data": data, "objective": objective, "scale": scale, "bounds": bounds or None}
@@ -202,9 +205,7 @@ def solve(
     require_options(objective, scale, bounds)
     texts, changes = inputs_of(data)
     override(changes, sets_and_params)
-    instance = Instance(
-        first, texts, objective=objective, changes=changes, scale=dict(scale or {}), add_bounds=bounds
-    )
+    instance = Instance(first, texts, objective=objective, changes=changes, scale=dict(scale or {}), add_bounds=bounds)
     try:
         net = instance.network()[1]
     except ProgramError as problem:
@@ -221,7 +222,8 @@ def solve(
 
 
 def require_no_parameter(model: Input, options: Mapping[str, object]) -> None:
-    """Raises DataError if the model has a set or parameter with the name of an option that is given, and no data have it.
+    """Raises DataError if the model has a set or parameter with the name of an option that is given, and no data have
+    it.
 
     In a model with `param scale`, `scale=5` would be an option, and the parameter would have no value.
     """

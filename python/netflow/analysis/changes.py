@@ -10,7 +10,8 @@ from ..reading.network import Network
 from ..reading.text import few
 from .single_moves import SingleMoves
 
-# The most lines of a problem; how many moves are preferred one by one, how many by their size, and up to how many lines in all.
+# The most lines of a problem; how many moves are preferred one by one, how many by their size, and up to how
+# many lines in all.
 LARGEST, TRIES, RANKS = 200_000, 6, 20
 TRIED = 30_000
 FAR, MOST_COST = 10**15, 10**12
@@ -35,13 +36,17 @@ class Change:
     def sentence(self) -> str:
         if self.becomes < 0 and self.what in ("needs", "gives"):
             other, doing = ("gives", "needing") if self.what == "needs" else ("takes", "giving")
-            return f"{self.text}: {other}{'' if self.is_exact else ' at most'} {-self.becomes} in place of {doing} {self.was}"
+            return (
+                f"{self.text}: {other}{'' if self.is_exact else ' at most'} {-self.becomes} in place of"
+                f" {doing} {self.was}"
+            )
         return f"{self.text}: {self.what} {self.becomes} in place of {self.was}"
 
 
 @dataclasses.dataclass
 class Move:
-    """A bound that can be moved: the ends of the arc that represents it in the problem, and the change that a flow on it means."""
+    """A bound that can be moved: the ends of the arc that represents it in the problem, and the change that a flow on
+    it means."""
 
     ends: str
     text: str
@@ -59,9 +64,15 @@ class Move:
 
 
 def choices(net: Network) -> set[str]:
-    """Returns the declarations whose arcs all carry 0 or 1: such an arc is a choice, and a larger bound is no advice."""
-    return {name for name, arcs in net.declared().items() if len(arcs) > 1 and all(arc.lower >= 0 and arc.upper <= 1 for arc in arcs)
-            and any(arc.upper == 1 for arc in arcs)}
+    """Returns the declarations whose arcs all carry 0 or 1: such an arc is a choice, and a larger bound is no
+    advice."""
+    return {
+        name
+        for name, arcs in net.declared().items()
+        if len(arcs) > 1
+        and all(arc.lower >= 0 and arc.upper <= 1 for arc in arcs)
+        and any(arc.upper == 1 for arc in arcs)
+    }
 
 
 def moves_of_arcs(net: Network) -> Iterator[Move]:
@@ -84,21 +95,33 @@ def moves_of_nodes(net: Network) -> Iterator[Move]:
         is_exact = node.low == node.high
         gives, takes = ("gives", "needs") if is_exact else ("gives at most", "takes at most")
         if node.has_low():
-            yield Move(f"{outside} {number}", node.text, *((node.low, -1, "needs") if node.low > 0 else (-node.low, 1, gives)), is_exact)
+            yield Move(
+                f"{outside} {number}",
+                node.text,
+                *((node.low, -1, "needs") if node.low > 0 else (-node.low, 1, gives)),
+                is_exact,
+            )
         if node.has_high():
-            yield Move(f"{number} {outside}", node.text, *((-node.high, -1, "gives") if node.high < 0 else (node.high, 1, takes)), is_exact)
+            yield Move(
+                f"{number} {outside}",
+                node.text,
+                *((-node.high, -1, "gives") if node.high < 0 else (node.high, 1, takes)),
+                is_exact,
+            )
 
 
 class Costless:
-    """The problem of a network without its costs, to which moves are added as arcs. Sides that the model leaves open limit nothing,
-    whatever the bounds of arcs become."""
+    """The problem of a network without its costs, to which moves are added as arcs. Sides that the model leaves open
+    limit nothing, whatever the bounds of arcs become."""
 
     def __init__(self, net: Network) -> None:
         outside = len(net.nodes) + 1
         supplies = [line for line in net.lines if line.startswith("n ")]
         arcs = [line.rpartition(" ")[0] + " 0" for line in net.lines if line.startswith("a ")]
         for number, node in enumerate(net.nodes, 1):
-            arcs += [f"a {outside} {number} 0 {FAR} 0"] * node.is_low_open + [f"a {number} {outside} 0 {FAR} 0"] * node.is_high_open
+            arcs += [f"a {outside} {number} 0 {FAR} 0"] * node.is_low_open + [
+                f"a {number} {outside} 0 {FAR} 0"
+            ] * node.is_high_open
         self.nodes, self.arcs, self.size = outside, len(arcs), len(net.lines)
         self.text = "\n".join([*supplies, *arcs])
 
@@ -106,14 +129,19 @@ class Costless:
         """Returns by how much each bound is moved at least cost; None if there is no plan even so."""
         status, lines = self.answer(moves, costs)
         # The lines of arcs follow the line with the value.
-        return None if status else [int(line.rpartition(" ")[2]) for line in lines[1 + self.arcs:1 + self.arcs + len(moves)]]
+        return (
+            None
+            if status
+            else [int(line.rpartition(" ")[2]) for line in lines[1 + self.arcs : 1 + self.arcs + len(moves)]]
+        )
 
     def least_total(self, moves: Sequence[Move]) -> list[int] | None:
         """Returns by how much each bound is moved with the least total; None if no such moves are enough."""
         return self.least_flows(moves, [1] * len(moves)) if moves else None
 
     def cut_with(self, move: Move) -> tuple[str, set[int]] | None:
-        """Returns the side and the nodes, counted from 1, of a set that is short even with one bound moved; None if there is a plan."""
+        """Returns the side and the nodes, counted from 1, of a set that is short even with one bound moved; None if
+        there is a plan."""
         status, lines = self.answer([move], [1])
         return (lines[0][2:], {int(line[2:]) for line in lines if line.startswith("m ")}) if status else None
 
@@ -127,8 +155,10 @@ class Costless:
 
 @dataclasses.dataclass
 class LeastChanges:
-    """The least changes with which there is a plan. `single` are changes at one place, each of which is enough alone, the oddest number
-    first. `kinds` has the least change of each kind of bounds, None if none is enough. `is_large` if they were not computed."""
+    """The least changes with which there is a plan. `single` are changes at one place, each of which is enough alone,
+    the oddest number first. `kinds` has the least change of each kind of bounds, None if none is enough. `is_large` if
+    they were not computed.
+    """
 
     single: list[Change] = dataclasses.field(default_factory=list)
     kinds: dict[str, list[Change] | None] = dataclasses.field(default_factory=dict)
@@ -136,18 +166,23 @@ class LeastChanges:
 
     def others(self) -> dict[str, list[Change] | None]:
         """Returns the kinds of bounds that have no change at one place."""
-        return {kind: changes for kind, changes in self.kinds.items() if changes is None or changes[0] not in self.single}
+        return {
+            kind: changes for kind, changes in self.kinds.items() if changes is None or changes[0] not in self.single
+        }
 
 
 def concentrated(problem: Costless, moves: Sequence[Move], flows: list[int]) -> list[int]:
-    """Returns moves of the same total in fewer places, if some are found: first each of the largest ones is preferred to all others,
-    then those of the best answer by their size."""
+    """Returns moves of the same total in fewer places, if some are found: first each of the largest ones is preferred
+    to all others, then those of the best answer by their size."""
     whole, limit = sum(flows), min(TRIES, TRIED // (problem.size + len(moves)))
     largest = sorted((index for index, flow in enumerate(flows) if flow), key=lambda index: -flows[index])
     for first in [[index] for index in largest[:limit]] + [None]:
         if sum(map(bool, flows)) == 1:
             break
-        order = first or sorted((index for index, flow in enumerate(flows) if flow), key=lambda index: -flows[index])[:RANKS]
+        order = (
+            first
+            or sorted((index for index, flow in enumerate(flows) if flow), key=lambda index: -flows[index])[:RANKS]
+        )
         ranks = {index: rank for rank, index in enumerate(order)}
         base = whole * len(ranks) + 1  # one unit more in all costs more than any order saves
         if base > MOST_COST:
@@ -159,7 +194,8 @@ def concentrated(problem: Costless, moves: Sequence[Move], flows: list[int]) -> 
 
 
 def least_changes(net: Network) -> LeastChanges:
-    """Returns the least changes at one place, those of each kind of bounds, and that of both kinds if it is less than each alone."""
+    """Returns the least changes at one place, those of each kind of bounds, and that of both kinds if it is less than
+    each alone."""
     moves = {NODES: list(moves_of_nodes(net)), ARCS: list(moves_of_arcs(net))}
     both = [*moves[NODES], *moves[ARCS]]
     if len(net.lines) + len(both) > LARGEST:
@@ -172,7 +208,9 @@ def least_changes(net: Network) -> LeastChanges:
     whole = sum(least or [])
     search, single = SingleMoves(net, problem, divided(whole, net.factors.flow)), {}
     for kind, amounts in flows.items():
-        single[kind] = search.found(moves[kind], amounts) if amounts and sum(amounts) == whole and BOTH not in flows else []
+        single[kind] = (
+            search.found(moves[kind], amounts) if amounts and sum(amounts) == whole and BOTH not in flows else []
+        )
     found = LeastChanges()
     for kind, amounts in flows.items():
         best = [move.change(search.amount) for _, move in single[kind][:1]]
@@ -182,7 +220,9 @@ def least_changes(net: Network) -> LeastChanges:
     return found
 
 
-def least_change(net: Network, problem: Costless, moves: Sequence[Move], flows: list[int] | None) -> list[Change] | None:
+def least_change(
+    net: Network, problem: Costless, moves: Sequence[Move], flows: list[int] | None
+) -> list[Change] | None:
     """Returns the changes of least total in few places; None if no moves are enough."""
     if flows is None:
         return None
@@ -192,12 +232,19 @@ def least_change(net: Network, problem: Costless, moves: Sequence[Move], flows: 
 
 def is_left_out(changes: Sequence[Change] | None) -> bool:
     """Whether the changes take from several places all that they ask for."""
-    return changes is not None and len(changes) > 1 and all(change.becomes == 0 and change.what in ("needs", "gives") for change in changes)
+    return (
+        changes is not None
+        and len(changes) > 1
+        and all(change.becomes == 0 and change.what in ("needs", "gives") for change in changes)
+    )
 
 
 def left_out_text(net: Network, changes: Sequence[Change], most: int) -> str:
-    """Returns which places get or give nothing with the changes; only how many if they are most of those that ask for something."""
-    verbs = [verb for what, verb in (("needs", "get"), ("gives", "give")) if any(change.what == what for change in changes)]
+    """Returns which places get or give nothing with the changes; only how many if they are most of those that ask for
+    something."""
+    verbs = [
+        verb for what, verb in (("needs", "get"), ("gives", "give")) if any(change.what == what for change in changes)
+    ]
     asking = sum(node.low > 0 or node.high < 0 for node in net.nodes)
     names = few([change.text for change in changes], most) if 2 * len(changes) <= asking else ""
     return f"{len(changes)} places would {' or '.join(verbs)} nothing{names and ': '}{names}"

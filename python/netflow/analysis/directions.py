@@ -1,4 +1,5 @@
-"""Conditions of nodes with the wrong sign: net_out instead of net_in, or the other way round, or arcs that are reversed."""
+"""Conditions of nodes with the wrong sign: net_out instead of net_in, or the other way round, or arcs that are
+reversed."""
 from __future__ import annotations
 
 from ..reading.network import Arc, Network, Node
@@ -8,7 +9,8 @@ GIVES, NEEDS = "gives units, but no arc leads out", "needs units, but no arc lea
 
 
 class Declared:
-    """The nodes of one declaration that must give or get something, by number, and the arcs of the network at each of them."""
+    """The nodes of one declaration that must give or get something, by number, and the arcs of the network at each of
+    them."""
 
     def __init__(self, name: str, nodes: dict[int, Node]) -> None:
         self.name, self.nodes = name, nodes
@@ -16,13 +18,20 @@ class Declared:
         self.giving = {node.high < 0 for node in nodes.values()}
 
     def is_opposite(self) -> bool:
-        """Whether no arc of any of these nodes leads the way that the node needs: out of those that give, into those that need."""
+        """Whether no arc of any of these nodes leads the way that the node needs: out of those that give, into those
+        that need."""
         srcs, dsts = {arc.src for arc in self.arcs}, {arc.dst for arc in self.arcs}
-        return bool(self.arcs) and not any(number in (srcs if node.high < 0 else dsts) for number, node in self.nodes.items())
+        return bool(self.arcs) and not any(
+            number in (srcs if node.high < 0 else dsts) for number, node in self.nodes.items()
+        )
 
     def line(self, net: Network) -> str:
         """Returns what is opposite, with the question that the other ends of the arcs suggest."""
-        who = next(iter(self.nodes.values())).text if len(self.nodes) == 1 else f"{self.name}: each of its {len(self.nodes)} places"
+        who = (
+            next(iter(self.nodes.values())).text
+            if len(self.nodes) == 1
+            else f"{self.name}: each of its {len(self.nodes)} places"
+        )
         if len(self.giving) > 1:
             return f"{who} either {GIVES}, or {NEEDS}. Is the sign in the condition of {self.name} wrong?"
         gives = True in self.giving
@@ -31,7 +40,10 @@ class Declared:
         others = {net.nodes[number].wish().partition(" ")[0] for number in ends if number is not None}
         alike, contrary = ("gives", "needs") if gives else ("needs", "gives")
         names = few(list(dict.fromkeys(arc.name for arc in self.arcs)), 3)
-        sign, turned = f"{meant} meant instead of {said} in the condition of {self.name}", f"the direction of {names} reversed"
+        sign, turned = (
+            f"{meant} meant instead of {said} in the condition of {self.name}",
+            f"the direction of {names} reversed",
+        )
         asked = sign if alike in others else turned if contrary in others else f"{sign}, or {turned}"
         return f"{who} {GIVES if gives else NEEDS}. Is {asked}?"
 

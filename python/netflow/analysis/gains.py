@@ -41,11 +41,16 @@ def limit_text(amount: Number, units: Amount) -> str:
     """Returns up to which amount the value of one unit holds; `units` below 0 lead down."""
     if not units:
         return ""
-    return "; holds for any number" if abs(units) == math.inf else f"; holds {'up' if units > 0 else 'down'} to {amount + units}"
+    return (
+        "; holds for any number"
+        if abs(units) == math.inf
+        else f"; holds {'up' if units > 0 else 'down'} to {amount + units}"
+    )
 
 
 class Place:
-    """A node with a condition, and what one more unit there costs (`cost`, below 0 if it saves), None if it cannot change alone."""
+    """A node with a condition, and what one more unit there costs (`cost`, below 0 if it saves), None if it cannot
+    change alone."""
 
     def __init__(self, net: Network, marginal: Marginal, number: int) -> None:
         self.node = net.nodes[number]
@@ -54,8 +59,15 @@ class Place:
         self.cost = (marginal.less if self.is_giver else marginal.more)[number]
         self.felt_cost: Number = self.cost or 0
         low, high = (self.node.inflow == self.node.low, self.node.inflow == self.node.high)
-        self.side = "fixed" if self.node.low == self.node.high else "most" if (low if self.is_giver else high) else \
-            "least" if (high if self.is_giver else low) else ""
+        self.side = (
+            "fixed"
+            if self.node.low == self.node.high
+            else "most"
+            if (low if self.is_giver else high)
+            else "least"
+            if (high if self.is_giver else low)
+            else ""
+        )
 
     def is_felt(self) -> bool:
         if self.side == "fixed":
@@ -77,9 +89,15 @@ class Place:
 
 
 def bottleneck(net: Network, gains: Gains) -> list[Arc]:
-    """Returns the arcs of a minimum cut if the plan is a maximum flow: each is worth 1, and together they carry the value."""
+    """Returns the arcs of a minimum cut if the plan is a maximum flow: each is worth 1, and together they carry the
+    value."""
     cut = [arc for arc in net.arcs if arc.is_full() and arc.worth == -1]
-    if net.sign > 0 or not cut or any(arc.worth not in (-1, 0) for _, arc in gains.felt) or sum(arc.upper for arc in cut) != net.value:
+    if (
+        net.sign > 0
+        or not cut
+        or any(arc.worth not in (-1, 0) for _, arc in gains.felt)
+        or sum(arc.upper for arc in cut) != net.value
+    ):
         return []
     return cut
 

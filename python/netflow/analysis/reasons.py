@@ -1,7 +1,7 @@
 """Why there is no plan: the sets of nodes that are short, in the model's own numbers.
 
-The amounts of a set are sums of bounds in the compiled model. `netflow check` confirms that the set shows that there is no plan:
-nothing is reported that the program has not confirmed.
+The amounts of a set are sums of bounds in the compiled model. `netflow check` confirms that the set shows that there is
+no plan: nothing is reported that the program has not confirmed.
 """
 from __future__ import annotations
 
@@ -34,8 +34,10 @@ class Part:
 
 @dataclasses.dataclass
 class Reason:
-    """A set of nodes that needs more than can arrive (`under`), or has more than can leave (`over`). `asks` are the parts that
-    have to be met, `helps` those that can meet them, at most; `idle` are arcs that lead out of it, or into it, and do not help."""
+    """A set of nodes that needs more than can arrive (`under`), or has more than can leave (`over`). `asks` are the
+    parts that have to be met, `helps` those that can meet them, at most; `idle` are arcs that lead out of it, or into
+    it, and do not help.
+    """
 
     side: str
     nodes: list[int]
@@ -78,8 +80,8 @@ class Reason:
         return self.needed() - self.given()
 
     def is_mirror(self, other: Reason) -> bool:
-        """Whether both say the same from two sides: what cannot leave one set is short in the other, and mostly the same arcs carry too
-        little."""
+        """Whether both say the same from two sides: what cannot leave one set is short in the other, and mostly the
+        same arcs carry too little."""
         ours, theirs = ({part.arc for part in reason.helps if part.arc and part.amount} for reason in (self, other))
         return self.side != other.side and self.short() == other.short() and 2 * len(ours & theirs) > len(ours | theirs)
 
@@ -131,7 +133,8 @@ class Cuts:
         return lost
 
     def thinned(self, nodes: AbstractSet[int]) -> set[int]:
-        """Returns the set without nodes that add nothing to the shortage: those without a binding side, then others one by one."""
+        """Returns the set without nodes that add nothing to the shortage: those without a binding side, then others one
+        by one."""
         nodes = {number for number in nodes if self.binds(number)}
         again = True
         while again:
@@ -170,7 +173,9 @@ class Cuts:
             amount = self.carried(arc, is_inward)
             is_way = is_inward == self.is_under
             if amount or is_way:
-                (asks if amount < 0 else helps).append(Part(magnitude(amount), "by " + self.way(arc, is_inward), arc.name, arc.text))
+                (asks if amount < 0 else helps).append(
+                    Part(magnitude(amount), "by " + self.way(arc, is_inward), arc.name, arc.text)
+                )
             else:
                 idle.append(Part(0, self.way(arc, is_inward), arc.name, arc.text))
         for parts in (asks, helps, idle):
@@ -183,8 +188,8 @@ class Cuts:
 
 
 def reasons(net: Network) -> list[Reason]:
-    """Returns the sets of a network without a plan that are short, the largest shortage first, without those that say the same as one before them from its other
-    side."""
+    """Returns the sets of a network without a plan that are short, the largest shortage first, without those that say
+    the same as one before them from its other side."""
     found: list[Reason] = []
     for reason in all_reasons(net, *net.cut) if net.cut is not None else ():
         if not any(reason.is_mirror(other) for other in found):
@@ -193,13 +198,15 @@ def reasons(net: Network) -> list[Reason]:
 
 
 def all_reasons(net: Network, side: str, nodes: AbstractSet[int]) -> list[Reason]:
-    """Returns the sets that are short: those of the cut, and further ones that remain short if the sets before them get what they
-    lack."""
+    """Returns the sets that are short: those of the cut, and further ones that remain short if the sets before them get
+    what they lack."""
     found = reasons_of_cut(net, side, nodes)
     for _ in range(min(ROUNDS, LARGEST // len(net.lines))):
         cut = cut_besides(net, found)
         known = {(reason.side, *reason.nodes) for reason in found}
-        more = [reason for reason in reasons_of_cut(net, *cut) if (reason.side, *reason.nodes) not in known] if cut else []
+        more = (
+            [reason for reason in reasons_of_cut(net, *cut) if (reason.side, *reason.nodes) not in known] if cut else []
+        )
         if not more:
             break
         found += more
@@ -216,8 +223,8 @@ def reasons_of_cut(net: Network, side: str, nodes: AbstractSet[int]) -> list[Rea
 
 
 def cut_besides(net: Network, found: Sequence[Reason]) -> tuple[str, set[int]] | None:
-    """Returns the side and the nodes of a set that is short although each set of `found` gets what it lacks, or can leave what it has
-    too much; None if there is no such set."""
+    """Returns the side and the nodes of a set that is short although each set of `found` gets what it lacks, or can
+    leave what it has too much; None if there is no such set."""
     outside = len(net.nodes) + 1
     arcs = []
     for grant, reason in enumerate(found, outside + 1):

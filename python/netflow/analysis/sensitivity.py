@@ -1,8 +1,9 @@
-"""What one more unit really costs, and how far that holds: shortest paths in the residual network of a plan of least cost.
+"""What one more unit really costs, and how far that holds: shortest paths in the residual network of a plan of least
+cost.
 
-A path from the outside to a node shows the cheapest way to bring one more unit there; if there is none, the need of the node cannot
-grow by itself. The lengths are exact for the next unit, whichever of several best plans is at hand. They hold for as many units as all
-paths of that length can carry together.
+A path from the outside to a node shows the cheapest way to bring one more unit there; if there is none, the need of the
+node cannot grow by itself. The lengths are exact for the next unit, whichever of several best plans is at hand. They
+hold for as many units as all paths of that length can carry together.
 """
 from __future__ import annotations
 
@@ -13,14 +14,15 @@ from typing import List, Optional, Tuple
 from ..reading.network import Arc, Network
 from ..types import Amount, Number
 
-# An arc of the residual network: a node, a reduced cost, and a capacity. Lengths are by node, None if there is no path.
+# An arc of the residual network: a node, a reduced cost, and a capacity. Lengths are by node, None if there is
+# no path.
 Step = Tuple[int, Number, Amount]
 Lengths = List[Optional[Number]]
 
 
 class Residual:
-    """The residual network of a plan with prices; node `len(net.nodes)` is the outside. For each node `out` has the arcs that leave it,
-    as triples of a node, a reduced cost and a capacity, and `into` those that enter it."""
+    """The residual network of a plan with prices; node `len(net.nodes)` is the outside. For each node `out` has the
+    arcs that leave it, as triples of a node, a reduced cost and a capacity, and `into` those that enter it."""
 
     def __init__(self, net: Network) -> None:
         self.net, self.outside = net, len(net.nodes)
@@ -53,7 +55,8 @@ class Residual:
         return 0 if number == self.outside else self.net.nodes[number].worth
 
     def labels(self, start: int, is_backward: bool = False) -> Lengths:
-        """Returns the least reduced cost from `start` to each node (or from each node to it); None if there is no path."""
+        """Returns the least reduced cost from `start` to each node (or from each node to it); None if there is
+        no path."""
         near = self.into if is_backward else self.out
         found: Lengths = [None] * (self.outside + 1)
         heap: list[tuple[Number, int]] = [(0, start)]
@@ -70,15 +73,18 @@ class Residual:
     def costs(self, labels: Lengths, start: int, is_backward: bool = False) -> Lengths:
         """Returns the costs that belong to labels."""
         sign = -1 if is_backward else 1
-        return [None if length is None else length + sign * (self.worth(number) - self.worth(start)) for number, length in enumerate(labels)]
+        return [
+            None if length is None else length + sign * (self.worth(number) - self.worth(start))
+            for number, length in enumerate(labels)
+        ]
 
     def distances(self, start: int, is_backward: bool = False) -> Lengths:
         """Returns the least cost from `start` to each node (or from each node to it); None if there is no path."""
         return self.costs(self.labels(start, is_backward), start, is_backward)
 
     def units(self, start: int, end: int, labels: Lengths, work: float = math.inf) -> Amount:
-        """Returns how many units all cheapest paths from start to end carry together, infinity for any number; 0 if it takes more steps
-        than `work`. `labels` are those of the start."""
+        """Returns how many units all cheapest paths from start to end carry together, infinity for any number; 0 if it
+        takes more steps than `work`. `labels` are those of the start."""
         if start == end:
             return math.inf
         rooms: dict[int, dict[int, Amount]] = {}
@@ -95,8 +101,8 @@ class Residual:
 
 
 def greatest_flow(rooms: dict[int, dict[int, Amount]], start: int, end: int, work: float) -> Amount:
-    """Returns the greatest flow through arcs with these capacities, by shortest augmenting paths; 0 if it takes more steps than `work`.
-    It changes the capacities."""
+    """Returns the greatest flow through arcs with these capacities, by shortest augmenting paths; 0 if it takes more
+    steps than `work`. It changes the capacities."""
     total: Amount = 0
     while work > 0:
         before, line = {start: start}, [start]
@@ -127,8 +133,8 @@ def greatest_flow(rooms: dict[int, dict[int, Amount]], start: int, end: int, wor
 
 
 class Marginal:
-    """For each node what one more required unit costs (`more`), and what one unit less saves, as a cost (`less`); None if the network
-    has no plan with that change alone."""
+    """For each node what one more required unit costs (`more`), and what one unit less saves, as a cost (`less`); None
+    if the network has no plan with that change alone."""
 
     def __init__(self, net: Network) -> None:
         self.net, self.residual = net, Residual(net)
@@ -144,7 +150,8 @@ class Marginal:
         return self.residual.units(number, self.residual.outside, self.residual.labels(number), work)
 
     def pair(self, number: int) -> tuple[int, Number] | None:
-        """Returns the giving node with which one more unit at the node has a plan, and the cost; None if there is none."""
+        """Returns the giving node with which one more unit at the node has a plan, and the cost; None if there
+        is none."""
         found = self.residual.distances(number, True)
         givers = [
             (cost, giver)
@@ -166,7 +173,8 @@ def arc_change(net: Network, residual: Residual, arc: Arc) -> Number:
 
 
 def arc_units(residual: Residual, arc: Arc, work: float = math.inf) -> Amount:
-    """Returns for how many units past its bound an arc saves as much as for the first; 0 if that takes more steps than `work`."""
+    """Returns for how many units past its bound an arc saves as much as for the first; 0 if that takes more steps than
+    `work`."""
     start, end = way_back(residual, arc)
     return residual.units(start, end, residual.labels(start), work)
 

@@ -1,7 +1,7 @@
 """Which bounds are enough alone: with one of them moved there is a plan.
 
-Each set of nodes that is short rules out the bounds that cannot help it, so few are tried. What one bound needs is what the set that
-is most short lacks, which no other change can do with less. So these changes are least changes.
+Each set of nodes that is short rules out the bounds that cannot help it, so few are tried. What one bound needs is what
+the set that is most short lacks, which no other change can do with less. So these changes are least changes.
 """
 from __future__ import annotations
 
@@ -14,7 +14,8 @@ from ..types import Number
 if TYPE_CHECKING:
     from .changes import Costless, Move
 
-# The name, the kind and the direction of bounds, the usual bound of each, and how likely a move is the right one (less is better).
+# The name, the kind and the direction of bounds, the usual bound of each, and how likely a move is the right
+# one (less is better).
 Group = Tuple[str, str, int]
 Usual = Dict[Group, Number]
 Rank = Tuple[bool, float]
@@ -29,11 +30,18 @@ class SingleMoves:
     def __init__(self, net: Network, problem: Costless, amount: Number) -> None:
         side, inside = net.cut if net.cut is not None else ("", set())
         # A set with an open side is short only as long as the bounds of its arcs are what they are.
-        is_open = any(net.nodes[number].is_low_open if side == "under" else net.nodes[number].is_high_open for number in inside)
-        self.problem, self.amount, self.cuts = problem, amount, [] if is_open else [(side, {number + 1 for number in inside})]
+        is_open = any(
+            net.nodes[number].is_low_open if side == "under" else net.nodes[number].is_high_open for number in inside
+        )
+        self.problem, self.amount, self.cuts = (
+            problem,
+            amount,
+            [] if is_open else [(side, {number + 1 for number in inside})],
+        )
 
     def found(self, moves: Sequence[Move], flows: Sequence[int]) -> list[tuple[Rank, Move]]:
-        """Returns pairs of a rank and a move, the best rank first. `flows` say how far a least change moves each bound."""
+        """Returns pairs of a rank and a move, the best rank first. `flows` say how far a least change moves
+        each bound."""
         known = [move for move, flow in zip(moves, flows) if flow]
         found: list[tuple[Rank, Move]] = []
         usual, tried = usual_bounds(moves), 0
@@ -53,7 +61,8 @@ class SingleMoves:
         return found
 
     def rank(self, move: Move, usual: Usual) -> Rank:
-        """Returns the rank of a move: the oddest bound comes first, and a place that would need or give nothing at all last."""
+        """Returns the rank of a move: the oddest bound comes first, and a place that would need or give nothing at all
+        last."""
         return move.was + move.sign * self.amount == 0 and move.is_node, -oddness(move, usual)
 
     def is_sensible(self, move: Move) -> bool:
@@ -63,7 +72,10 @@ class SingleMoves:
     def helps(self, move: Move) -> bool:
         """Whether the move helps each known set that is short."""
         src, dst = map(int, move.ends.split(" "))
-        return all((dst in inside and src not in inside) if side == "under" else (src in inside and dst not in inside) for side, inside in self.cuts)
+        return all(
+            (dst in inside and src not in inside) if side == "under" else (src in inside and dst not in inside)
+            for side, inside in self.cuts
+        )
 
 
 def usual_bounds(moves: Sequence[Move]) -> Usual:
@@ -79,7 +91,8 @@ def group_of(move: Move) -> Group:
 
 
 def oddness(move: Move, usual: Usual) -> float:
-    """Returns how many times a bound is above the usual one, or below it if it has to be raised; 1 if it is not known."""
+    """Returns how many times a bound is above the usual one, or below it if it has to be raised; 1 if it is not
+    known."""
     other = usual.get(group_of(move), move.was)
     large, small = (move.was, other) if move.sign < 0 else (other, move.was)
     return float(large / small) if small > 0 else math.inf if large > 0 else 1.0

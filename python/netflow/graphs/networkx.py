@@ -16,17 +16,22 @@ Edge = Tuple[Hashable, Hashable, Hashable, Mapping[str, Any]]
 class Graph(Protocol):
     """What a directed graph of NetworkX has, with several arcs between two nodes or not."""
 
-    def is_directed(self) -> bool: ...
+    def is_directed(self) -> bool:
+        ...
 
-    def is_multigraph(self) -> bool: ...
+    def is_multigraph(self) -> bool:
+        ...
 
-    def __iter__(self) -> Iterator[Any]: ...
+    def __iter__(self) -> Iterator[Any]:
+        ...
 
     @property
-    def nodes(self) -> Any: ...
+    def nodes(self) -> Any:
+        ...
 
     @property
-    def edges(self) -> Any: ...
+    def edges(self) -> Any:
+        ...
 
 
 def network_simplex(
@@ -34,16 +39,23 @@ def network_simplex(
 ) -> tuple[GraphNumber, GraphFlows]:
     """Returns the least cost and the flows of a directed graph, as `networkx.network_simplex` does.
 
-    A node's demand is what it takes (below 0: what it gives), an arc's capacity its limit (none: no limit), its weight the cost of a
-    unit. Raises Infeasible, with the nodes of a cut, or Unbounded; if NetworkX is imported these are its exceptions too. With
-    `certify` the answer is checked by `netflow check` before it is returned.
+    A node's demand is what it takes (below 0: what it gives), an arc's capacity its limit (none: no limit), its weight
+    the cost of a unit. Raises Infeasible, with the nodes of a cut, or Unbounded; if NetworkX is imported these are its
+    exceptions too. With `certify` the answer is checked by `netflow check` before it is returned.
     """
     if not G.is_directed():
         raise _error("UndirectedGraph", "min_cost_flow takes a directed graph")
     number = Numbers()
     index = {node: here for here, node in enumerate(G)}
-    supplies = {index[node]: -finite(number(amount, f"demand of {node!r}"), node) for node, amount in G.nodes(data=demand, default=0)}
-    edges: list[Edge] = list(G.edges(keys=True, data=True)) if G.is_multigraph() else [(src, dst, None, data) for src, dst, data in G.edges(data=True)]
+    supplies = {
+        index[node]: -finite(number(amount, f"demand of {node!r}"), node)
+        for node, amount in G.nodes(data=demand, default=0)
+    }
+    edges: list[Edge] = (
+        list(G.edges(keys=True, data=True))
+        if G.is_multigraph()
+        else [(src, dst, None, data) for src, dst, data in G.edges(data=True)]
+    )
     arcs = [_arc_of(index, number, edge, capacity, weight) for edge in edges]
     try:
         if any(arc.capacity is not None and arc.capacity < 0 for arc in arcs):
@@ -51,7 +63,9 @@ def network_simplex(
         result = Problem(len(index), supplies, arcs).solve(certify)
     except Infeasible as problem:
         nodes = list(index)
-        raise _error("InfeasibleGraph", str(problem), [nodes[place] for place in problem.cut], problem.side, []) from None
+        raise _error(
+            "InfeasibleGraph", str(problem), [nodes[place] for place in problem.cut], problem.side, []
+        ) from None
     except Unbounded as problem:
         raise _error("UnboundedGraph", str(problem)) from None
     flows: GraphFlows = {node: {} for node in G}
@@ -68,7 +82,8 @@ def network_simplex(
 def min_cost_flow(
     G: Graph, demand: str = "demand", capacity: str = "capacity", weight: str = "weight", *, certify: bool = False
 ) -> GraphFlows:
-    """Returns the flows of least cost, as `networkx.min_cost_flow` does: `flows[u][v]`, of a multigraph `flows[u][v][key]`."""
+    """Returns the flows of least cost, as `networkx.min_cost_flow` does: `flows[u][v]`, of a multigraph
+    `flows[u][v][key]`."""
     return network_simplex(G, demand, capacity, weight, certify=certify)[1]
 
 

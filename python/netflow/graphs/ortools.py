@@ -37,7 +37,9 @@ class SimpleMinCostFlow:
         self._result: Result | None = None
         self.cut: list[int] = []
 
-    def add_arc_with_capacity_and_unit_cost(self, tail: int, head: int, capacity: SupportsFloat | None, unit_cost: SupportsFloat) -> int:
+    def add_arc_with_capacity_and_unit_cost(
+        self, tail: int, head: int, capacity: SupportsFloat | None, unit_cost: SupportsFloat
+    ) -> int:
         """Adds an arc and returns its index; a capacity of None has no limit."""
         room = None if capacity is None else self._number(capacity, "capacity")
         cost = self._number(unit_cost, "unit_cost")
@@ -46,7 +48,13 @@ class SimpleMinCostFlow:
         self._arcs.append(Arc(_node(tail), _node(head), room, cost))
         return len(self._arcs) - 1
 
-    def add_arcs_with_capacity_and_unit_cost(self, tails: Iterable[int], heads: Iterable[int], capacities: Iterable[SupportsFloat | None], unit_costs: Iterable[SupportsFloat]) -> list[int]:
+    def add_arcs_with_capacity_and_unit_cost(
+        self,
+        tails: Iterable[int],
+        heads: Iterable[int],
+        capacities: Iterable[SupportsFloat | None],
+        unit_costs: Iterable[SupportsFloat],
+    ) -> list[int]:
         return [self.add_arc_with_capacity_and_unit_cost(*arc) for arc in zip(tails, heads, capacities, unit_costs)]
 
     def set_node_supply(self, node: int, supply: SupportsFloat) -> None:

@@ -1,6 +1,7 @@
 """Minimum-cost flow problems in exact numbers.
 
-Numbers can have decimals: they are scaled exactly to whole numbers and divided again. An arc without a capacity has no limit.
+Numbers can have decimals: they are scaled exactly to whole numbers and divided again. An arc without a capacity has no
+limit.
 """
 from __future__ import annotations
 
@@ -48,23 +49,47 @@ class Problem:
 
     def __init__(self, count: int, supplies: Mapping[int, Fraction], arcs: Sequence[Arc]) -> None:
         self.count, self.supplies, self.arcs = max(count, 1), supplies, list(arcs)
-        amounts = [*supplies.values(), *(arc.lower for arc in arcs), *(arc.capacity for arc in arcs if arc.capacity is not None)]
+        amounts = [
+            *supplies.values(),
+            *(arc.lower for arc in arcs),
+            *(arc.capacity for arc in arcs if arc.capacity is not None),
+        ]
         self.flow_factor, self.cost_factor = common_factor(amounts), common_factor(arc.cost for arc in arcs)
         # No optimal flow needs more on an arc without a limit, if the cost has a limit.
         finite = sum((arc.capacity for arc in arcs if arc.capacity is not None), Fraction(0))
-        self.bound = finite + sum((abs(supply) for supply in supplies.values()), Fraction(0)) + sum((arc.lower for arc in arcs), Fraction(0))
+        self.bound = (
+            finite
+            + sum((abs(supply) for supply in supplies.values()), Fraction(0))
+            + sum((arc.lower for arc in arcs), Fraction(0))
+        )
 
     def text(self) -> str:
-        """Returns the problem in the DIMACS format; raises DataError or ScaleError if it is past the program's limits."""
+        """Returns the problem in the DIMACS format; raises DataError or ScaleError if it is past the program's
+        limits."""
         if self.count > NODES or len(self.arcs) > ARCS:
-            raise DataError(f"the problem has {self.count} nodes and {len(self.arcs)} arcs; netflow takes at most {NODES} and {ARCS}")
+            raise DataError(
+                f"the problem has {self.count} nodes and {len(self.arcs)} arcs; netflow takes at most {NODES} and"
+                f" {ARCS}"
+            )
         if self.bound * self.flow_factor > LARGEST_FLOW:
-            raise ScaleError(f"capacities and supplies, times {self.flow_factor}, are past {LARGEST_FLOW}", None, self.flow_factor)
+            raise ScaleError(
+                f"capacities and supplies, times {self.flow_factor}, are past {LARGEST_FLOW}", None, self.flow_factor
+            )
         if any(abs(arc.cost * self.cost_factor) > LARGEST for arc in self.arcs):
             raise ScaleError(f"costs, times {self.cost_factor}, are past {LARGEST}", None, self.cost_factor)
-        rows = [(arc.src, arc.dst, int(arc.lower * self.flow_factor), int((self.bound if arc.capacity is None else arc.capacity) * self.flow_factor),
-                 int(arc.cost * self.cost_factor)) for arc in self.arcs]
-        return problem_text(self.count, {node: int(supply * self.flow_factor) for node, supply in self.supplies.items()}, rows)
+        rows = [
+            (
+                arc.src,
+                arc.dst,
+                int(arc.lower * self.flow_factor),
+                int((self.bound if arc.capacity is None else arc.capacity) * self.flow_factor),
+                int(arc.cost * self.cost_factor),
+            )
+            for arc in self.arcs
+        ]
+        return problem_text(
+            self.count, {node: int(supply * self.flow_factor) for node, supply in self.supplies.items()}, rows
+        )
 
     def solve(self, certify: bool = False) -> Result:
         """Returns a flow of least cost; raises Infeasible with the indices of a cut, or Unbounded."""
@@ -92,8 +117,10 @@ class Problem:
 
 def require_certificate(problem: str, certificate: str) -> None:
     """Raises ProgramError unless `netflow check` accepts the certificate."""
-    with tempfile.NamedTemporaryFile("w", prefix="netflow-", encoding="ascii") as first, \
-            tempfile.NamedTemporaryFile("w", prefix="netflow-", encoding="ascii") as second:
+    with (
+        tempfile.NamedTemporaryFile("w", prefix="netflow-", encoding="ascii") as first,
+        tempfile.NamedTemporaryFile("w", prefix="netflow-", encoding="ascii") as second,
+    ):
         first.write(problem)
         second.write(certificate)
         first.flush()
@@ -116,7 +143,9 @@ def require_bounded(net: Network) -> None:
         # A node whose arcs alone limit it takes or gives any amount.
         rows += [(number, outside, 0, 1, 0)] if not node.has_high() and node.low != node.high else []
         rows += [(outside, number, 0, 1, 0)] if not node.has_low() and node.low != node.high else []
-    if any(row[4] < 0 for row in rows) and not call(["min", "/dev/stdin"], problem_text(outside + 1, {}, rows)).text.startswith("s 0\n"):
+    if any(row[4] < 0 for row in rows) and not call(
+        ["min", "/dev/stdin"], problem_text(outside + 1, {}, rows)
+    ).text.startswith("s 0\n"):
         raise Unbounded(f"{net.objective} has no limit: arcs without an upper bound improve it forever")
 
 

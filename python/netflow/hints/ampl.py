@@ -4,8 +4,14 @@ from __future__ import annotations
 # The word at which E14 (or E10, E12) is reported, and what to write; docs/guide/from-ampl.md has the same rows.
 REPLACEMENTS = {
     "var": "a network has arcs in place of variables: arc X {..} >= 0, <= 40, from A[i], to B[j], obj Cost c[i,j];",
-    "subject": "a constraint `subject to` that balances flows becomes a node: node B {j in S}: net_in = need[j]; others have no place in a network",
-    "s.t.": "a constraint `s.t.` that balances flows becomes a node: node B {j in S}: net_in = need[j]; others have no place in a network",
+    "subject": (
+        "a constraint `subject to` that balances flows becomes a node: node B {j in S}: net_in = need[j]; others have"
+        " no place in a network"
+    ),
+    "s.t.": (
+        "a constraint `s.t.` that balances flows becomes a node: node B {j in S}: net_in = need[j]; others have no"
+        " place in a network"
+    ),
     "solve": "take `solve;` out of the model: `netflow solve MODEL DATA` solves it",
     "display": "take `display` out of the model: `netflow solve` prints all arcs",
     "data": "the data are a file of their own: move what follows `data;` there",
@@ -15,8 +21,14 @@ REPLACEMENTS = {
     "printf": "take `printf` out of the model: `netflow-sheet` writes tables",
     "let": "set the value in the data, or call a tool with --set NAME=VALUE",
     "fix": "give the arc two equal bounds: >= 5, <= 5",
-    "Infinity": "for no limit write a number that no plan reaches, such as sum {i in S} supply[i]; the tools add it with --bounds",
-    "inf": "for no limit write a number that no plan reaches, such as sum {i in S} supply[i]; the tools add it with --bounds",
+    "Infinity": (
+        "for no limit write a number that no plan reaches, such as sum {i in S} supply[i]; the tools add it with"
+        " --bounds"
+    ),
+    "inf": (
+        "for no limit write a number that no plan reaches, such as sum {i in S} supply[i]; the tools add it with"
+        " --bounds"
+    ),
     "/": "`/` is left out, since results have to be whole: multiply the other side, or use div",
     "^": "there are no powers: write a product, or a value in the data",
     "**": "there are no powers: write a product, or a value in the data",
@@ -50,10 +62,61 @@ REPLACEMENTS = {
     "objective": "choose the objective with --objective NAME",
     "//": "comments begin with #",
 }
-KEYWORDS = ("set", "param", "check", "node", "arc", "minimize", "maximize", "within", "dimen", "default", "symbolic", "integer", "from",
-            "to", "obj", "net_in", "net_out", "union", "inter", "diff", "symdiff", "cross", "then", "else", "sum", "in", "mod", "div")
+KEYWORDS = (
+    "set",
+    "param",
+    "check",
+    "node",
+    "arc",
+    "minimize",
+    "maximize",
+    "within",
+    "dimen",
+    "default",
+    "symbolic",
+    "integer",
+    "from",
+    "to",
+    "obj",
+    "net_in",
+    "net_out",
+    "union",
+    "inter",
+    "diff",
+    "symdiff",
+    "cross",
+    "then",
+    "else",
+    "sum",
+    "in",
+    "mod",
+    "div",
+)
 # What people write for a keyword, besides small misspellings of it.
-MEANT = {"minimise": "minimize", "maximise": "maximize", "min": "minimize", "max": "maximize", "minimum": "minimize", "sets": "set",
-         "params": "param", "parameter": "param", "parameters": "param", "nodes": "node", "arcs": "arc", "edge": "arc", "link": "arc",
-         "cost": "obj", "price": "obj", "objective": "obj", "netin": "net_in", "netout": "net_out", "inflow": "net_in", "outflow": "net_out",
-         "modulo": "mod", "int": "integer", "subset": "within", "source": "from", "target": "to"}
+MEANT = {
+    "minimise": "minimize",
+    "maximise": "maximize",
+    "min": "minimize",
+    "max": "maximize",
+    "minimum": "minimize",
+    "sets": "set",
+    "params": "param",
+    "parameter": "param",
+    "parameters": "param",
+    "nodes": "node",
+    "arcs": "arc",
+    "edge": "arc",
+    "link": "arc",
+    "cost": "obj",
+    "price": "obj",
+    "objective": "obj",
+    "netin": "net_in",
+    "netout": "net_out",
+    "inflow": "net_in",
+    "outflow": "net_out",
+    "modulo": "mod",
+    "int": "integer",
+    "subset": "within",
+    "source": "from",
+    "target": "to",
+}

@@ -25,14 +25,23 @@ def sheet(diagnostic: Diagnostic) -> Hints:
     """Data that are a CSV file: the first line has commas and no `:=`."""
     lines = [line for line in diagnostic.texts.get("data", "").split("\n") if line.strip()]
     first = lines[0] if lines else ""
-    if diagnostic.text == "data" and ":=" not in diagnostic.texts["data"] and (first.count(",") or first.count("\t") or first.count(";") > 1) and len(lines) > 1:
+    if (
+        diagnostic.text == "data"
+        and ":=" not in diagnostic.texts["data"]
+        and (first.count(",") or first.count("\t") or first.count(";") > 1)
+        and len(lines) > 1
+    ):
         yield "the data are a CSV file: `netflow-sheet list FILE.csv` makes data of it", True
 
 
 def joined(diagnostic: Diagnostic) -> Hints:
     if diagnostic.text == "data" and diagnostic.word() in ("data", "end") and len(diagnostic.statement()) <= 2:
         place = "first" if diagnostic.word() == "data" else "last"
-        yield f"{diagnostic.word()}; is allowed only as the {place} statement: are two data files joined? Give both to the tools", True
+        yield (
+            f"{diagnostic.word()}; is allowed only as the {place} statement: are two data files joined? Give both"
+            " to the tools",
+            True,
+        )
 
 
 def unended_statement(diagnostic: Diagnostic) -> Hints:
@@ -44,7 +53,13 @@ def unended_statement(diagnostic: Diagnostic) -> Hints:
             yield f"is a ; missing at the end of {diagnostic.line_text(whole[here - 1].row)}?", True
             return
     is_known = list(sheet(diagnostic)) or list(misspelt_statement(diagnostic))
-    if whole and whole[0].row == diagnostic.row and whole[0].text == diagnostic.word() and whole[0].text not in ("set", "param", ";", "data", "end") and not is_known:
+    if (
+        whole
+        and whole[0].row == diagnostic.row
+        and whole[0].text == diagnostic.word()
+        and whole[0].text not in ("set", "param", ";", "data", "end")
+        and not is_known
+    ):
         yield f"is set or param missing before {whole[0].text}?", True
 
 
@@ -65,14 +80,20 @@ def uneven(diagnostic: Diagnostic) -> Hints:
     if cut is None or re.fullmatch(r"\d+-\d+", diagnostic.word()):
         return
     rows: dict[int, list[Token]] = {}
-    for token in whole[cut + 1:]:
+    for token in whole[cut + 1 :]:
         if token.text != ";":
             rows.setdefault(token.row, []).append(token)
     cells = {row: sum(token.text != "," for token in line) for row, line in rows.items()}
     counts = sorted(cells.values())
-    usual = wanted_cells(whole[:cut]) or next((count for count in counts if 2 * counts.count(count) > len(counts) > 2), 0)
+    usual = wanted_cells(whole[:cut]) or next(
+        (count for count in counts if 2 * counts.count(count) > len(counts) > 2), 0
+    )
     whole_rows = [[token for token in line if token.text != ","] for line in rows.values()]
-    heading = heading_fault(diagnostic, whole[:cut], whole_rows, wanted_cells(whole[:cut])) if diagnostic.number == "E21" else ""
+    heading = (
+        heading_fault(diagnostic, whole[:cut], whole_rows, wanted_cells(whole[:cut]))
+        if diagnostic.number == "E21"
+        else ""
+    )
     if heading:
         yield heading, True
         return
@@ -84,32 +105,38 @@ def uneven(diagnostic: Diagnostic) -> Hints:
         return
     for row in [row for row, count in cells.items() if count != usual][:3]:
         comma = cells[row] > usual and any(token.text == "," for token in rows[row])
-        yield f"{diagnostic.line_text(row)} has {cells[row]} cells, and {usual} are expected" + (": is a comma part of a number?" if comma else ""), True
+        yield f"{diagnostic.line_text(row)} has {cells[row]} cells, and {usual} are expected" + (
+            ": is a comma part of a number?" if comma else ""
+        ), True
 
 
 def wanted_cells(head: list[Token]) -> int:
     """Returns the cells of a row of `param NAME: COLUMN .. :=`; 0 if the heading does not say."""
     marks = [here for here, token in enumerate(head) if token.text == ":"]
     named = len(marks) == 1 and marks[0] > 1
-    return sum(token.text != "," for token in head[marks[0] + 1:]) + 1 if named else 0
+    return sum(token.text != "," for token in head[marks[0] + 1 :]) + 1 if named else 0
 
 
 def misfit(diagnostic: Diagnostic, head: list[Token], cells: list[Token]) -> str:
-    """In a list whose rows are not one a line: the first row with a text for a number, with the number of keys that fits best."""
+    """In a list whose rows are not one a line: the first row with a text for a number, with the number of keys that
+    fits best."""
     marks = [here for here, token in enumerate(head) if token.text == ":"]
-    values = sum(token.text != "," for token in head[marks[-1] + 1:]) if marks else 1
+    values = sum(token.text != "," for token in head[marks[-1] + 1 :]) if marks else 1
     if head[0].text != "param" or len(cells) < 3:
         return ""
     fits = []
     for keys in [1] if wanted_cells(head) else range(1, 5):
         size = keys + values
-        first = fitting([cells[here:here + size] for here in range(0, len(cells), size)], keys, size)
-        last = fitting([cells[max(0, here - size):here] for here in range(len(cells), 0, -size)], keys, size)
+        first = fitting([cells[here : here + size] for here in range(0, len(cells), size)], keys, size)
+        last = fitting([cells[max(0, here - size) : here] for here in range(len(cells), 0, -size)], keys, size)
         fits.append((min(first + last, len(cells)), -keys, first))
     place = max(fits)[2]
     if place == len(cells):
         return ""
-    return f"in {diagnostic.line_text(cells[place].row)} the cells from {cells[place].text} on do not fit: is a cell missing there, or one too many before?"
+    return (
+        f"in {diagnostic.line_text(cells[place].row)} the cells from {cells[place].text} on do not fit: is a cell"
+        " missing there, or one too many before?"
+    )
 
 
 def fitting(rows: list[list[Token]], keys: int, size: int) -> int:
@@ -123,7 +150,8 @@ def fitting(rows: list[list[Token]], keys: int, size: int) -> int:
 
 
 def named(diagnostic: Diagnostic) -> set[str]:
-    """Returns the words of the data that name members outside the error's line: of sets, of headings, and at the start of rows."""
+    """Returns the words of the data that name members outside the error's line: of sets, of headings, and at the start
+    of rows."""
     found, word, is_heading, last = set(), "", False, 0
     for token in tokens(diagnostic.texts.get("data", "")):
         if token.text == ";":
@@ -145,7 +173,7 @@ def listed(diagnostic: Diagnostic) -> dict[str, list[Token]]:
     for here in range(len(words) - 2):
         if words[here].text == "set" and words[here + 2].text == ":=":
             row = found.setdefault(words[here + 1].text, [])
-            for token in words[here + 3:]:
+            for token in words[here + 3 :]:
                 if token.text == ";":
                     break
                 row += [token] if token.text not in "(),*" else []
@@ -153,7 +181,8 @@ def listed(diagnostic: Diagnostic) -> dict[str, list[Token]]:
 
 
 def unknown_member(diagnostic: Diagnostic) -> Hints:
-    """A key of sets that are not plain with a member that no set lists: it is misspelt; else perhaps the members are exchanged."""
+    """A key of sets that are not plain with a member that no set lists: it is misspelt; else perhaps the members are
+    exchanged."""
     if list(outside_set(diagnostic)) or list(missing_in_set(diagnostic)):
         return
     members = [bare(part) for part in MEMBER.findall(diagnostic.detail.partition("[")[2])]
@@ -161,12 +190,20 @@ def unknown_member(diagnostic: Diagnostic) -> Hints:
     in_model = [part for part in diagnostic.words("model") if re.fullmatch(r"[A-Za-z_]\w*", part)]
     found = False
     for member in [part for part in members if sets and part not in sets and not part.lstrip("-").isdigit()]:
-        others = near(member, list(sets)) or [part for part in difflib.get_close_matches(member, in_model, 2, 0.8) if part != member]
+        others = near(member, list(sets)) or [
+            part for part in difflib.get_close_matches(member, in_model, 2, 0.8) if part != member
+        ]
         if others:
             found = True
             yield f"{member}: is {others[0]} meant?", True
             yield from heading_place(diagnostic, member)
-    if not found and diagnostic.text == "data" and len(members) == 2 and set(members) <= named(diagnostic) and not set(members) <= sets:
+    if (
+        not found
+        and diagnostic.text == "data"
+        and len(members) == 2
+        and set(members) <= named(diagnostic)
+        and not set(members) <= sets
+    ):
         yield "are the two members exchanged? In a table (tr) before the : turns rows and columns", False
 
 
@@ -190,7 +227,14 @@ def indices(words: list[Token]) -> Iterator[str]:
 def declared_below(diagnostic: Diagnostic, name: str) -> int:
     """Returns the line after the error in which a name is declared; 0 if there is none."""
     words = list(tokens(diagnostic.texts.get("model", "")))
-    return next((token.row for before, token in zip(words, words[1:]) if before.text in DECLARING and token.text == name and token.row > diagnostic.row), 0)
+    return next(
+        (
+            token.row
+            for before, token in zip(words, words[1:])
+            if before.text in DECLARING and token.text == name and token.row > diagnostic.row
+        ),
+        0,
+    )
 
 
 def declared_as(diagnostic: Diagnostic, kind: str) -> set[str]:
@@ -210,7 +254,11 @@ def late(diagnostic: Diagnostic) -> Hints:
     if statement[0].text == "node" and diagnostic.detail in declared_as(diagnostic, "arc"):
         return
     if statement[0].text in ("minimize", "maximize"):
-        yield f"{diagnostic.detail} is declared below, in line {row}: move the objective after its arcs, or use obj in the arcs", True
+        yield (
+            f"{diagnostic.detail} is declared below, in line {row}: move the objective after its arcs, or use obj"
+            " in the arcs",
+            True,
+        )
     else:
         yield f"{diagnostic.detail} is declared below, in line {row}: move that declaration up", True
 
@@ -244,7 +292,11 @@ def gain(diagnostic: Diagnostic) -> Hints:
     """A number after an end of an arc."""
     is_end = re.search(r"\b(?:from|to)\s+\w+(?:\[[^\]]*\])?\s*$", diagnostic.before)
     if diagnostic.text == "model" and is_end and diagnostic.word() not in declared_as(diagnostic, "node"):
-        yield "a number after an end of an arc is a gain, and no network has gains: what leaves one end arrives at the other", True
+        yield (
+            "a number after an end of an arc is a gain, and no network has gains: what leaves one end arrives at"
+            " the other",
+            True,
+        )
 
 
 def fraction(diagnostic: Diagnostic) -> Hints:
@@ -260,7 +312,12 @@ def fraction(diagnostic: Diagnostic) -> Hints:
 def comma_in_number(diagnostic: Diagnostic) -> Hints:
     """A second value after a comma."""
     before = diagnostic.before.rstrip()
-    if diagnostic.text == "data" and before.endswith(",") and re.search(r"\d\s*,$", before) and diagnostic.word()[:1].isdigit():
+    if (
+        diagnostic.text == "data"
+        and before.endswith(",")
+        and re.search(r"\d\s*,$", before)
+        and diagnostic.word()[:1].isdigit()
+    ):
         first = before.rstrip(",").split()[-1]
         second = diagnostic.word().rstrip(";")
         if re.fullmatch(r"\d{3}", second):
@@ -286,7 +343,11 @@ def speaking(diagnostic: Diagnostic) -> Hints:
     whole = [row for row in whole if diagnostic.instance is not None and diagnostic.instance.change_at(row)] or whole
     some = sorted((row for row, words in rows.items() if members & words), key=lambda row: -len(members & rows[row]))
     if rows:
-        yield f"see {name} in {diagnostic.rows_text((whole or some or [first])[:3])}{'' if diagnostic.instance is not None and diagnostic.instance.change_at(first) else ' of the data'}", False
+        yield (
+            f"see {name} in"
+            f" {diagnostic.rows_text((whole or some or [first])[:3])}{'' if diagnostic.instance is not None and diagnostic.instance.change_at(first) else ' of the data'}",
+            False,
+        )
 
 
 def no_data(diagnostic: Diagnostic) -> Hints:
@@ -300,7 +361,10 @@ def no_data(diagnostic: Diagnostic) -> Hints:
 
 def failed_check(diagnostic: Diagnostic) -> Hints:
     words = [token.text for token in diagnostic.statement()]
-    text, again = " ".join(words).replace("> =", ">=").replace("< =", "<="), "netflow-why MODEL DATA asks again without this check"
+    text, again = (
+        " ".join(words).replace("> =", ">=").replace("< =", "<="),
+        "netflow-why MODEL DATA asks again without this check",
+    )
     signs = [found[0] for found in re.finditer(r"<=|>=|<>|!=|(?<!:)=|<|>", text.replace(":=", ""))]
     is_lone = len(signs) == 1 and not {"and", "or", "not", "if"} & set(words)
     if words.count("sum") >= 2 and signs == ["="]:
@@ -330,4 +394,3 @@ HINTS: HintTable = (
     (("E31", "E32", "E34", "E53", "E54"), speaking),
     (("E35",), failed_check),
 )
-

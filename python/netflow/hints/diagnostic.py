@@ -13,7 +13,12 @@ if TYPE_CHECKING:
     from ..inputs.instance import Instance
 
 LINE = re.compile(r"(E\d\d) (\w+)(?: (model|data|problem|certificate)(?: (\d+)(?::(\d+))?(?: (.*))?)?)?", re.S)
-TEXTS = {"solve": ("model", "data"), "compile": ("model", "data"), "min": ("problem",), "check": ("problem", "certificate")}
+TEXTS = {
+    "solve": ("model", "data"),
+    "compile": ("model", "data"),
+    "min": ("problem",),
+    "check": ("problem", "certificate"),
+}
 DECLARING = {"set", "param", "check", "node", "arc", "minimize", "maximize"}
 # The page of codes: inside a wheel; in a checkout; in an installed tree.
 PAGES = ("errors.md", "../../docs/reference/errors.md", "../../doc/netflow/docs/reference/errors.md")
@@ -23,7 +28,14 @@ REMEDY = re.compile(r"Fix: ")
 class Diagnostic:
     """An error line with the inputs of its call: `paths` are the files, `names` what the user calls them."""
 
-    def __init__(self, line: str, command: str, paths: Sequence[str | None], names: Sequence[str | None], texts: dict[str, str] | None = None) -> None:
+    def __init__(
+        self,
+        line: str,
+        command: str,
+        paths: Sequence[str | None],
+        names: Sequence[str | None],
+        texts: dict[str, str] | None = None,
+    ) -> None:
         found = LINE.fullmatch(line.rstrip("\n"))
         if found is None:
             raise ValueError(f"{line!r} is no error line of netflow")
@@ -37,7 +49,7 @@ class Diagnostic:
         lines = self.texts.get(self.text, "").split("\n")
         self.shown = lines[self.row - 1].rstrip("\r") if 0 < self.row <= len(lines) else ""
         raw = self.shown.encode("utf-8", "surrogateescape")
-        self.before = raw[:max(self.column - 1, 0)].decode("utf-8", "surrogateescape")
+        self.before = raw[: max(self.column - 1, 0)].decode("utf-8", "surrogateescape")
 
     @classmethod
     def of_instance(cls, problem: ProgramError, instance: Instance) -> Diagnostic | None:
@@ -49,8 +61,13 @@ class Diagnostic:
         if not found:
             return None
         data = instance.data or []
-        texts = {"model": instance.model.text(), "data": "\n".join([*(source.text() for source in data), instance.changed_text])}
-        paths, names = ([getattr(instance.model, kind), getattr(data[0], kind) if data else None] for kind in ("path", "name"))
+        texts = {
+            "model": instance.model.text(),
+            "data": "\n".join([*(source.text() for source in data), instance.changed_text]),
+        }
+        paths, names = (
+            [getattr(instance.model, kind), getattr(data[0], kind) if data else None] for kind in ("path", "name")
+        )
         made = cls(line, "solve", paths, names, texts)
         made.instance = instance
         if unread:
@@ -70,21 +87,31 @@ class Diagnostic:
     @property
     def line(self) -> int:
         """The line in the user's file; `row` is the one in the joined data. 0 if the place is no line of a file."""
-        return self.instance.source_of(self.row)[1] if self.instance is not None and self.text == "data" and self.row else self.row
+        return (
+            self.instance.source_of(self.row)[1]
+            if self.instance is not None and self.text == "data" and self.row
+            else self.row
+        )
 
     def change(self) -> str:
-        """Returns in words the change, by an option or from Python, that has the error; an empty text if a file has it."""
-        return self.instance.change_at(self.row) if self.instance is not None and self.text == "data" and self.row else ""
+        """Returns in words the change, by an option or from Python, that has the error; an empty text if a file
+        has it."""
+        return (
+            self.instance.change_at(self.row) if self.instance is not None and self.text == "data" and self.row else ""
+        )
 
     def is_change(self) -> bool:
         return bool(self.change())
 
     def place(self) -> str:
         """Returns the place in words; an empty text if the error has none."""
-        return self.change() or ":".join(str(part) for part in (self.called or self.text, self.line, self.column) if part)
+        return self.change() or ":".join(
+            str(part) for part in (self.called or self.text, self.line, self.column) if part
+        )
 
     def rows_text(self, rows: Sequence[int]) -> str:
-        """Returns lines of the data in words: `line 4, 5`. Of several files it names each that is not the error's; a change has its own place."""
+        """Returns lines of the data in words: `line 4, 5`. Of several files it names each that is not the error's; a
+        change has its own place."""
         if self.instance is None:
             return f"line {', '.join(map(str, rows))}"
         files: dict[tuple[str | None, str], list[str]] = {}
@@ -93,14 +120,17 @@ class Diagnostic:
             files.setdefault((path, self.instance.change_at(row)), []).append(str(line))
         here = self.called if self.text == "data" else None
         is_lone = len(self.instance.data) < 2
-        return ", ".join(change or f"line {', '.join(lines)}{'' if is_lone or path == here else f' of {path}'}" for (path, change), lines in files.items())
+        return ", ".join(
+            change or f"line {', '.join(lines)}{'' if is_lone or path == here else f' of {path}'}"
+            for (path, change), lines in files.items()
+        )
 
     def line_text(self, row: int) -> str:
         """Returns a line of the input that has the error in words."""
         return self.rows_text([row]) if self.text == "data" else f"line {row}"
 
     def at(self) -> str:
-        return self.shown[len(self.before):]
+        return self.shown[len(self.before) :]
 
     def word(self) -> str:
         found = TOKEN.match(self.at())
@@ -113,7 +143,7 @@ class Diagnostic:
             whole = [] if whole and whole[-1].text == ";" else whole
             whole.append(token)
         whole = [] if whole and whole[-1].text == ";" else whole
-        rest = "\n".join([self.at(), *self.texts.get(self.text, "").split("\n")[max(self.row, 1):]])
+        rest = "\n".join([self.at(), *self.texts.get(self.text, "").split("\n")[max(self.row, 1) :]])
         for token in tokens(rest):
             token.row += max(self.row, 1) - 1
             whole.append(token)
@@ -134,7 +164,7 @@ class Diagnostic:
 
     def tokens_before(self) -> list[Token]:
         """Returns the tokens of the input before the place."""
-        text = "\n".join([*self.texts.get(self.text, "").split("\n")[:self.row - 1], self.before])
+        text = "\n".join([*self.texts.get(self.text, "").split("\n")[: self.row - 1], self.before])
         return list(tokens(text))
 
     def catalogue(self) -> list[str]:
@@ -143,13 +173,18 @@ class Diagnostic:
         if self.number == "E10":
             is_first = self.word() in DECLARING
             advice = [(r"\bif\b", re.search(r"\bif\b", self.shown)), ("first word of a declaration", is_first)]
-            kept = [sentence for sentence in re.split(r"(?<=\.)\s+(?=[A-Z])", remedy) if all(fits or not re.search(about, sentence) for about, fits in advice)]
+            kept = [
+                sentence
+                for sentence in re.split(r"(?<=\.)\s+(?=[A-Z])", remedy)
+                if all(fits or not re.search(about, sentence) for about, fits in advice)
+            ]
             remedy = " ".join(kept)
         return [means, remedy]
 
     def graded_hints(self) -> Iterator[tuple[str, bool]]:
         """Yields hints, each with whether it is sure."""
         from .engine import hints_of
+
         yield from hints_of(self)
 
     def hints(self) -> list[str]:
@@ -165,7 +200,9 @@ class Diagnostic:
 def catalogue(number: str) -> list[str]:
     """Returns the first paragraph of a code's section, and its list item "Fix:"; empty texts without the page."""
     for place in PAGES:
-        found = re.search(rf"(?ms)^## {number} \w+\n\n(.*?)(?=^## |\Z)", read(os.path.normpath(os.path.join(HERE, place))))
+        found = re.search(
+            rf"(?ms)^## {number} \w+\n\n(.*?)(?=^## |\Z)", read(os.path.normpath(os.path.join(HERE, place)))
+        )
         if found:
             said = [paragraph.strip().replace("\n", " ") for paragraph in re.split(r"\n\n(?:- )?|\n- ", found[1])]
             remedy = next((REMEDY.sub("", paragraph, count=1) for paragraph in said if REMEDY.match(paragraph)), "")

@@ -1,13 +1,12 @@
 """Hints for the errors of models: what the text suggests was meant.
 
-A hint can be wrong, so it is a question unless the text leaves no doubt; each hint is a pair of its text and whether it is sure.
+A hint can be wrong, so it is a question unless the text leaves no doubt; each hint is a pair of its text and whether it
+is sure.
 """
 from __future__ import annotations
 
 import difflib
-import os
 import re
-import unicodedata
 
 from ..reading.text import TOKEN, tokens
 from . import data as hints_data
@@ -23,6 +22,7 @@ from . import tables as hints_tables
 from . import values as hints_values
 from .ampl import KEYWORDS, MEANT, REPLACEMENTS
 from .diagnostic import DECLARING, Diagnostic
+from .files import empty_model, exchanged, not_utf8, odd_character, unread_file
 from .hint import Hints, HintTable
 
 FUNCTIONS = {"card", "abs", "next", "prev", "first", "last"}
@@ -31,72 +31,31 @@ PAIRS = {")": "(", "]": "[", "}": "{"}
 
 
 def hints_of(diagnostic: Diagnostic) -> Hints:
-    """Yields the hints for an error. Some leave no doubt, and come without others, which would be wrong next to them."""
-    alone = [found for numbers, hint in (*hints_numbers.ALONE, *hints_tables.ALONE, *hints_network.ALONE) if diagnostic.number in numbers for found in hint(diagnostic)]
+    """Yields the hints for an error. Some leave no doubt, and come without others, which would be wrong next to
+    them."""
+    alone = [
+        found
+        for numbers, hint in (*hints_numbers.ALONE, *hints_tables.ALONE, *hints_network.ALONE)
+        if diagnostic.number in numbers
+        for found in hint(diagnostic)
+    ]
     yield from alone[:1] or all_hints(diagnostic)
 
 
 def all_hints(diagnostic: Diagnostic) -> Hints:
-    for numbers, hint in (*hints_syntax.HINTS, *hints_forms.HINTS, *hints_sets.HINTS, *HINTS, *hints_keys.HINTS, *hints_values.HINTS,
-                          *hints_names.HINTS, *hints_data.HINTS, *hints_sizes.HINTS):
+    for numbers, hint in (
+        *hints_syntax.HINTS,
+        *hints_forms.HINTS,
+        *hints_sets.HINTS,
+        *HINTS,
+        *hints_keys.HINTS,
+        *hints_values.HINTS,
+        *hints_names.HINTS,
+        *hints_data.HINTS,
+        *hints_sizes.HINTS,
+    ):
         if diagnostic.number in numbers:
             yield from hint(diagnostic)
-
-
-def unread_file(diagnostic: Diagnostic) -> Hints:
-    path = diagnostic.path if diagnostic.path is not None else ""
-    try:
-        with open(path, "rb") as file:
-            file.read(1)
-    except OSError as problem:
-        yield f"{diagnostic.called}: {problem.strerror}", True
-        if "\\" in path:
-            yield "on Linux and in WSL a path has /, as in /mnt/c/plans/x.mod", True
-        folder, name = os.path.split(path)
-        if isinstance(problem, FileNotFoundError) and os.path.isdir(folder or "."):
-            near = difflib.get_close_matches(name, os.listdir(folder or "."), 1, 0.7)
-            if near:
-                yield f"is {os.path.join(folder, near[0])} meant?", True
-
-
-def spreadsheet(diagnostic: Diagnostic) -> str:
-    """Returns what to do with a spreadsheet that is given as a model or as data; an empty text if the file is none."""
-    raw = diagnostic.texts.get(diagnostic.text, "").encode("utf-8", "surrogateescape")
-    if raw.startswith(b"\xd0\xcf\x11\xe0"):
-        return "this is a spreadsheet of an old form (.xls): save it as .xlsx, and `netflow-sheet list FILE.xlsx` makes data of it"
-    if not raw.startswith(b"PK\x03\x04"):
-        return ""
-    if b"opendocument" in raw[:100]:
-        return "this is a spreadsheet (.ods): save it as .xlsx, and `netflow-sheet list FILE.xlsx` makes data of it"
-    name = diagnostic.called if diagnostic.called and diagnostic.called.lower().endswith(".xlsx") else "FILE.xlsx"
-    return f"this is a spreadsheet (.xlsx): `netflow-sheet list {name}` makes data of it"
-
-
-def odd_character(diagnostic: Diagnostic) -> Hints:
-    character = diagnostic.at()[:1]
-    found = spreadsheet(diagnostic)
-    if found:
-        yield found, True
-    elif character == "\ufeff":
-        yield "the file begins with a byte order mark, which cannot be seen: save it as UTF-8 without one", True
-    elif character == "=" and diagnostic.text == "data":
-        yield "write := for = in data", True
-    elif character == "/" and diagnostic.text == "data" and re.search(r"[:=\s]\d+$", diagnostic.before) and re.match(r"/\d+\b", diagnostic.at()):
-        yield "a value is one number: write 0.5 for 1/2", True
-    elif character == "/" and diagnostic.text == "data":
-        yield ("comments begin with #", True) if diagnostic.at().startswith("//") else ("quote a text with /: 'a/b'", False)
-    elif character and not character.isascii():
-        yield f"the character is {unicodedata.name(character, 'one without a name')} (U+{ord(character):04X})", False
-
-
-def not_utf8(diagnostic: Diagnostic) -> Hints:
-    raw, found = diagnostic.texts.get(diagnostic.text, "").encode("utf-8", "surrogateescape")[:2], spreadsheet(diagnostic)
-    if found:
-        yield found, True
-    elif raw in (b"\xff\xfe", b"\xfe\xff"):
-        yield "the file is UTF-16: save it as UTF-8, or use iconv -f utf-16 -t utf-8", True
-    else:
-        yield "the file is perhaps Latin-1 or Windows-1252: save it as UTF-8, or use iconv -f latin1 -t utf-8", False
 
 
 def replaced_word(diagnostic: Diagnostic) -> Hints:
@@ -105,7 +64,11 @@ def replaced_word(diagnostic: Diagnostic) -> Hints:
     if diagnostic.text != "model":
         return
     at = diagnostic.at()
-    if at.startswith("--") and not diagnostic.before.strip(" ;").endswith(tuple("+-*([{,=<>")) and not diagnostic.statement_before():
+    if (
+        at.startswith("--")
+        and not diagnostic.before.strip(" ;").endswith(tuple("+-*([{,=<>"))
+        and not diagnostic.statement_before()
+    ):
         yield REPLACEMENTS["//"], True
     if at.startswith("//"):
         yield REPLACEMENTS["//"], True
@@ -132,7 +95,14 @@ def is_meant(word: str, at: str) -> bool:
 
 def misspelt_keyword(diagnostic: Diagnostic) -> Hints:
     word = diagnostic.word()
-    if diagnostic.text != "model" or not re.fullmatch(r"[A-Za-z_.]+", word) or word in DECLARING or word in REPLACEMENTS or diagnostic.number == "E12" and diagnostic.before.strip():
+    if (
+        diagnostic.text != "model"
+        or not re.fullmatch(r"[A-Za-z_.]+", word)
+        or word in DECLARING
+        or word in REPLACEMENTS
+        or diagnostic.number == "E12"
+        and diagnostic.before.strip()
+    ):
         return
     declared = {name.bare() for name in tokens(diagnostic.texts["model"])}
     lower = word.lower()
@@ -155,7 +125,11 @@ def condition_word(diagnostic: Diagnostic) -> Hints:
     if diagnostic.text != "model" or not statement or statement[0].text != "node":
         return
     for token in statement:
-        if token.text.lower().replace("-", "_") in ("netout", "netin", "net.in", "net.out") or token.text in ("net_In", "Net_in", "Net_out"):
+        if token.text.lower().replace("-", "_") in ("netout", "netin", "net.in", "net.out") or token.text in (
+            "net_In",
+            "Net_in",
+            "Net_out",
+        ):
             yield f"{token.text}: is {'net_out' if 'out' in token.text.lower() else 'net_in'} meant?", True
             return
         if token.text in ("to_come", "cover", "coeff"):
@@ -187,12 +161,6 @@ def unended_text(diagnostic: Diagnostic) -> Hints:
             yield f"is a ; missing at the end of {diagnostic.line_text(diagnostic.row)}?", True
 
 
-def exchanged(diagnostic: Diagnostic) -> Hints:
-    shaping = {"node", "arc", "minimize", "maximize"}
-    if diagnostic.text == "model" and not shaping & set(diagnostic.words("model")) and shaping & set(diagnostic.words("data")):
-        yield "are the two files exchanged? The model comes first", True
-
-
 def in_braces(diagnostic: Diagnostic) -> bool:
     """Whether the place is inside braces of its statement."""
     text = " ".join(token.text for token in diagnostic.statement_before())
@@ -204,7 +172,11 @@ def misplaced(diagnostic: Diagnostic) -> Hints:
     before, statement = diagnostic.before.rstrip(), diagnostic.statement()
     if diagnostic.word() == "if":
         yield "put an if that is an operand in parentheses: (if .. then .. else ..)", True
-    if diagnostic.word() == "=" and any(token.text == "arc" for token in statement) and diagnostic.at()[:2] not in ("=<", "=>"):
+    if (
+        diagnostic.word() == "="
+        and any(token.text == "arc" for token in statement)
+        and diagnostic.at()[:2] not in ("=<", "=>")
+    ):
         yield "an arc has a lower and an upper bound: are >= and <= meant?", True
     if diagnostic.word() == "=" and any(token.text == "param" for token in statement[:1]):
         yield "a parameter gets its value by :=, not by =", True
@@ -212,10 +184,20 @@ def misplaced(diagnostic: Diagnostic) -> Hints:
         yield "in: is within meant?", True
     if diagnostic.word() == "=" and any(token.text == "set" for token in statement[:1]):
         yield "a set gets its members by :=, not by =", True
-    if before.endswith(",") and diagnostic.word() not in REPLACEMENTS and re.search(r"\bfrom\b[^,]*(\[[^\]]*\])?,$", before):
+    if (
+        before.endswith(",")
+        and diagnostic.word() not in REPLACEMENTS
+        and re.search(r"\bfrom\b[^,]*(\[[^\]]*\])?,$", before)
+    ):
         yield f"is a to missing before {diagnostic.detail or diagnostic.word()}?", True
     mark = diagnostic.at()[:2]
-    if statement and statement[0].text == "arc" and mark in ("<=", ">=") and mark in before and not in_braces(diagnostic):
+    if (
+        statement
+        and statement[0].text == "arc"
+        and mark in ("<=", ">=")
+        and mark in before
+        and not in_braces(diagnostic)
+    ):
         yield f"an arc has one lower and one upper bound, and this is a second {mark}", True
 
 
@@ -241,7 +223,7 @@ def unclosed(diagnostic: Diagnostic) -> Hints:
     """A bracket that is open at the end of the declaration, or when another kind is closed, or a phrase begins."""
     if diagnostic.text != "model":
         return
-    text = "\n".join([*diagnostic.texts["model"].split("\n")[:diagnostic.row - 1], diagnostic.before])
+    text = "\n".join([*diagnostic.texts["model"].split("\n")[: diagnostic.row - 1], diagnostic.before])
     opened: list[str] = []
     here, is_closer = diagnostic.word(), False
     for token in tokens(text):
@@ -254,7 +236,12 @@ def unclosed(diagnostic: Diagnostic) -> Hints:
     is_closer = here in PAIRS
     if opened and (here == ";" or is_closer and PAIRS[here] != opened[-1] or not diagnostic.at().strip()):
         yield f"is the {opened[-1]} before it not closed?", True
-    elif opened and opened[-1] == "{" and not list(hints_syntax.chained(diagnostic)) and (here in ("from", "to", "obj", ":=", "default", "net_in", "net_out") or here[:1] in "<>="):
+    elif (
+        opened
+        and opened[-1] == "{"
+        and not list(hints_syntax.chained(diagnostic))
+        and (here in ("from", "to", "obj", ":=", "default", "net_in", "net_out") or here[:1] in "<>=")
+    ):
         yield "is the { before it not closed?", True
     elif is_closer and not opened:
         yield f"is this {here} one too many, or its {PAIRS[here]} missing?", True
@@ -263,7 +250,13 @@ def unclosed(diagnostic: Diagnostic) -> Hints:
 def unopened(diagnostic: Diagnostic) -> Hints:
     """A second comparison inside braces: the brace is not closed before a bound."""
     opened = diagnostic.shown.count("{") - diagnostic.shown.count("}")
-    if diagnostic.text == "model" and opened > 0 and re.search(r"\{[^}]*>=", diagnostic.shown) and diagnostic.word() not in (";",) and diagnostic.word() not in PAIRS:
+    if (
+        diagnostic.text == "model"
+        and opened > 0
+        and re.search(r"\{[^}]*>=", diagnostic.shown)
+        and diagnostic.word() not in (";",)
+        and diagnostic.word() not in PAIRS
+    ):
         yield "is the { before it not closed?", True
 
 
@@ -276,7 +269,9 @@ def exchanged_words(diagnostic: Diagnostic) -> Hints:
 
 
 def no_colon(diagnostic: Diagnostic) -> Hints:
-    if diagnostic.word() in ("net_in", "net_out") and re.search(r"\bnode\s+\w+\s*(\{[^{}]*\})?$", diagnostic.before.rstrip()):
+    if diagnostic.word() in ("net_in", "net_out") and re.search(
+        r"\bnode\s+\w+\s*(\{[^{}]*\})?$", diagnostic.before.rstrip()
+    ):
         yield f"is a : missing before {diagnostic.word()}?", True
 
 
@@ -284,7 +279,13 @@ def bare_text(diagnostic: Diagnostic) -> Hints:
     """A text without quotes in a model."""
     statement = diagnostic.statement()
     words = [token.text for token in statement]
-    if diagnostic.text == "model" and words[:1] == ["set"] and ":=" in words and "{" in words and diagnostic.word() == diagnostic.detail:
+    if (
+        diagnostic.text == "model"
+        and words[:1] == ["set"]
+        and ":=" in words
+        and "{" in words
+        and diagnostic.word() == diagnostic.detail
+    ):
         yield f"quote a text in a model: '{diagnostic.detail}'", True
 
 
@@ -295,15 +296,12 @@ def unused_parameter(diagnostic: Diagnostic) -> Hints:
     unused = [name for name in names if words.count(name) == 1]
     if diagnostic.text == "model" and unused:
         many = len(unused) > 1
-        yield (f"{', '.join(unused[:3])} {'are' if many else 'is'} declared and used nowhere: "
-               f"is the bound meant to be {'one of them' if many else 'it'}?"), True
+        yield (
+            f"{', '.join(unused[:3])} {'are' if many else 'is'} declared and used nowhere: "
+            f"is the bound meant to be {'one of them' if many else 'it'}?"
+        ), True
     elif diagnostic.text == "model":
         yield "the tools add a bound that no plan reaches with --bounds", False
-
-
-def empty_model(diagnostic: Diagnostic) -> Hints:
-    if not list(tokens(diagnostic.texts.get("model", ""))):
-        yield "the model is empty: is the first file the right one?", True
 
 
 HINTS: HintTable = (
@@ -327,4 +325,3 @@ HINTS: HintTable = (
     (("E10", "E12", "E14"), misspelt_keyword),
     (("E51", "E52"), unused_parameter),
 )
-

@@ -1,4 +1,5 @@
-"""Hints for models: functions that do not exist, relations and words at the wrong place, numbers of subscripts, kinds of names."""
+"""Hints for models: functions that do not exist, relations and words at the wrong place, numbers of subscripts, kinds
+of names."""
 from __future__ import annotations
 
 import difflib
@@ -12,13 +13,24 @@ from .diagnostic import Diagnostic
 from .hint import Hints, HintTable
 
 NAME = r"[A-Za-z_]\w*"
-KINDS = {"set": "a set", "param": "a parameter", "node": "a node", "arc": "an arc", "minimize": "an objective", "maximize": "an objective"}
+KINDS = {
+    "set": "a set",
+    "param": "a parameter",
+    "node": "a node",
+    "arc": "an arc",
+    "minimize": "an objective",
+    "maximize": "an objective",
+}
 
 
 def kinds(diagnostic: Diagnostic) -> dict[str, tuple[str, int]]:
     """Returns the word that declares each name, with its row."""
     words = list(tokens(diagnostic.texts.get("model", "")))
-    return {name.text: (word.text, word.row) for word, name in zip(words, words[1:]) if word.text in KINDS and re.fullmatch(NAME, name.text)}
+    return {
+        name.text: (word.text, word.row)
+        for word, name in zip(words, words[1:])
+        if word.text in KINDS and re.fullmatch(NAME, name.text)
+    }
 
 
 def statement_words(diagnostic: Diagnostic) -> list[str]:
@@ -37,7 +49,24 @@ def no_function(diagnostic: Diagnostic) -> Hints:
         yield f"{name}: {REPLACEMENTS[name]}", True
     elif name == "sum":
         yield "sum is followed by its index in braces: sum {i in S} x[i]", True
-    elif name not in ("to", "from", "if", "and", "or", "not", "in", "within", "cross", "then", "else", "obj", "div", "mod", "by", "default"):
+    elif name not in (
+        "to",
+        "from",
+        "if",
+        "and",
+        "or",
+        "not",
+        "in",
+        "within",
+        "cross",
+        "then",
+        "else",
+        "obj",
+        "div",
+        "mod",
+        "by",
+        "default",
+    ):
         yield f"there is no function {name}: give its values in the data", True
 
 
@@ -50,30 +79,56 @@ def bare_sum(diagnostic: Diagnostic) -> Hints:
 
 def end_in_parentheses(diagnostic: Diagnostic) -> Hints:
     """`to (if t < last then Shop[t + 1])`."""
-    if diagnostic.text == "model" and re.search(r"\b(?:from|to)\s*$", diagnostic.before) and diagnostic.at().startswith("("):
-        yield "an end of an arc is one node: index the arc by those keys alone that have it, such as {t in 1..last - 1}", True
+    if (
+        diagnostic.text == "model"
+        and re.search(r"\b(?:from|to)\s*$", diagnostic.before)
+        and diagnostic.at().startswith("(")
+    ):
+        yield (
+            "an end of an arc is one node: index the arc by those keys alone that have it, such as {t in 1..last - 1}",
+            True,
+        )
 
 
 def indexed_set(diagnostic: Diagnostic) -> Hints:
     words = statement_words(diagnostic)
-    if diagnostic.text == "model" and words[:1] == ["set"] and diagnostic.at().startswith("{") and len(list(diagnostic.statement_before())) == 2:
+    if (
+        diagnostic.text == "model"
+        and words[:1] == ["set"]
+        and diagnostic.at().startswith("{")
+        and len(list(diagnostic.statement_before())) == 2
+    ):
         yield f"a set has no index: declare one set of longer tuples, such as set {words[1]} dimen 3", True
 
 
 def no_net(diagnostic: Diagnostic) -> Hints:
     """A node's condition without net_in and net_out."""
     from .engine import condition_word
+
     words = statement_words(diagnostic)
-    if diagnostic.text != "model" or words[:1] != ["node"] or ":" not in words or {"net_in", "net_out"} & set(words) or list(condition_word(diagnostic)):
+    if (
+        diagnostic.text != "model"
+        or words[:1] != ["node"]
+        or ":" not in words
+        or {"net_in", "net_out"} & set(words)
+        or list(condition_word(diagnostic))
+    ):
         return
     depth = 0
     for here, word in enumerate(words):
         depth += (word in "{[(") - (word in "}])")
         if word == ":" and not depth:
-            rest = words[here + 1:]
+            rest = words[here + 1 :]
             known = kinds(diagnostic)
-            names = [part for part, after in zip(rest, [*rest[1:], ""]) if re.fullmatch(NAME, part) and part not in known and after not in ("[", "in")]
-            odd = next((part for part in names if "net" in part.lower() or "flow" in part.lower() or "bal" in part.lower()), None)
+            names = [
+                part
+                for part, after in zip(rest, [*rest[1:], ""])
+                if re.fullmatch(NAME, part) and part not in known and after not in ("[", "in")
+            ]
+            odd = next(
+                (part for part in names if "net" in part.lower() or "flow" in part.lower() or "bal" in part.lower()),
+                None,
+            )
             said = "a node's condition has net_in (what arrives minus what leaves) or net_out"
             yield (f"{odd}: is net_in or net_out meant?" if odd else said), True
             return
@@ -96,20 +151,37 @@ def colon_in_arc(diagnostic: Diagnostic) -> Hints:
     before = [token.text for token in diagnostic.statement_before()]
     if diagnostic.text == "model" and before[-2:-1] == ["obj"] and diagnostic.at().startswith(":"):
         yield "an obj phrase has no : after the objective", True
-    elif diagnostic.text == "model" and words[:1] == ["arc"] and diagnostic.at().startswith(":") and before.count("{") == before.count("}"):
-        yield "an arc has no : after its index; its phrases have commas between them: >= 0, <= room, from A[i], to B[j]", True
+    elif (
+        diagnostic.text == "model"
+        and words[:1] == ["arc"]
+        and diagnostic.at().startswith(":")
+        and before.count("{") == before.count("}")
+    ):
+        yield (
+            "an arc has no : after its index; its phrases have commas between them: >= 0, <= room, from A[i], to B[j]",
+            True,
+        )
 
 
 def slices(diagnostic: Diagnostic) -> Hints:
     """`[*,paint,*]` in data."""
     if diagnostic.text == "data" and diagnostic.at().startswith("["):
-        yield "data have no slices: write each row with all its keys, as in param demand := Bern paint 1 15  Bern paint 2 18;", True
+        yield (
+            "data have no slices: write each row with all its keys, as in param demand := Bern paint 1 15  Bern"
+            " paint 2 18;",
+            True,
+        )
 
 
 def many_keys(diagnostic: Diagnostic) -> Hints:
     """Braces with more than four members."""
     count = diagnostic.at().partition("}")[0].count(",") + 1
-    if diagnostic.text == "model" and diagnostic.at().startswith("{") and count > 4 and not {"(", ":"} & set(diagnostic.at().partition("}")[0]):
+    if (
+        diagnostic.text == "model"
+        and diagnostic.at().startswith("{")
+        and count > 4
+        and not {"(", ":"} & set(diagnostic.at().partition("}")[0])
+    ):
         yield "a key has at most four members: join two sets into one set of names, or use one model for each member", True
 
 
@@ -134,14 +206,27 @@ def redeclared(diagnostic: Diagnostic) -> Hints:
 
 def kinds_of_first(diagnostic: Diagnostic) -> tuple[str, int]:
     words = list(tokens(diagnostic.texts.get("model", "")))
-    return next(((word.text, word.row) for word, name in zip(words, words[1:]) if word.text in KINDS and name.text == diagnostic.detail), ("", 0))
+    return next(
+        (
+            (word.text, word.row)
+            for word, name in zip(words, words[1:])
+            if word.text in KINDS and name.text == diagnostic.detail
+        ),
+        ("", 0),
+    )
 
 
 def wrong_kind(diagnostic: Diagnostic) -> Hints:
     """A name that is declared as something else than is needed."""
     known = kinds(diagnostic)
     wanted = re.search(r"\b(from|to|obj)\s*$", diagnostic.before)
-    if diagnostic.text == "model" and diagnostic.detail not in known and wanted and wanted[1] == "obj" and not any(KINDS[word] == "an objective" for word, _ in known.values()):
+    if (
+        diagnostic.text == "model"
+        and diagnostic.detail not in known
+        and wanted
+        and wanted[1] == "obj"
+        and not any(KINDS[word] == "an objective" for word, _ in known.values())
+    ):
         yield f"declare the objective: minimize {diagnostic.detail};", True
     if diagnostic.text != "model" or diagnostic.detail not in known:
         return
@@ -152,9 +237,17 @@ def wrong_kind(diagnostic: Diagnostic) -> Hints:
         what = "an objective" if wanted[1] == "obj" else "a node"
         meant = difflib.get_close_matches(diagnostic.detail, names, 1, 0.6)
         others = f": {', '.join(names[:3])}" if names else ""
-        yield f"{diagnostic.detail} is {kind}, and {wanted[1]} takes {what}{f'; is {meant[0]} meant?' if meant else others}", True
+        yield (
+            f"{diagnostic.detail} is {kind}, and {wanted[1]} takes"
+            f" {what}{f'; is {meant[0]} meant?' if meant else others}",
+            True,
+        )
     elif known[diagnostic.detail][0] == "arc" and statement_words(diagnostic)[:1] == ["node"]:
-        yield f"{diagnostic.detail} is an arc: net_in already counts the arcs that arrive at the node and subtracts those that leave it", True
+        yield (
+            f"{diagnostic.detail} is an arc: net_in already counts the arcs that arrive at the node and subtracts"
+            " those that leave it",
+            True,
+        )
     elif known[diagnostic.detail][0] == "node" and not wanted:
         yield f"{diagnostic.detail} is a node, which has no value here", True
 
@@ -162,11 +255,18 @@ def wrong_kind(diagnostic: Diagnostic) -> Hints:
 def unknown_index(diagnostic: Diagnostic) -> Hints:
     """A short name that is no index of its declaration."""
     from .data import declared, indices, members_in_data
+
     words = list(diagnostic.statement())
     found = [name for name in dict.fromkeys(indices(words)) if name not in RESERVED]
     others = set(re.findall(NAME, diagnostic.texts.get("model", "")))
     is_near = [name for name in others if name != diagnostic.detail and name.lower() == diagnostic.detail.lower()]
-    if diagnostic.text == "model" and len(diagnostic.detail) <= 2 and found and diagnostic.detail not in declared(diagnostic) | set(found) | members_in_data(diagnostic) and not is_near:
+    if (
+        diagnostic.text == "model"
+        and len(diagnostic.detail) <= 2
+        and found
+        and diagnostic.detail not in declared(diagnostic) | set(found) | members_in_data(diagnostic)
+        and not is_near
+    ):
         if diagnostic.detail not in set(indices(list(tokens(diagnostic.texts.get("model", ""))))):
             yield f"{diagnostic.detail} is no index here; this declaration has {', '.join(found)}", True
 

@@ -1,4 +1,5 @@
-"""What the modules of hints share: a hint is a text with whether it is sure, and a table says which errors a function has hints for."""
+"""What the modules of hints share: a hint is a text with whether it is sure, and a table says which errors a function
+has hints for."""
 from __future__ import annotations
 
 from typing import Callable, Iterator, Tuple

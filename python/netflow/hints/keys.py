@@ -1,4 +1,5 @@
-"""Hints for keys outside their sets (E33, E50): which member is not in which set, exchanged subscripts, misspelt members."""
+"""Hints for keys outside their sets (E33, E50): which member is not in which set, exchanged subscripts, misspelt
+members."""
 from __future__ import annotations
 
 import difflib
@@ -15,7 +16,8 @@ from ..types import Member
 from .diagnostic import Diagnostic
 from .hint import Hints, HintTable
 
-# Where a part of a key begins and ends, the title of the set that it is of, and the members of the set if they are known.
+# Where a part of a key begins and ends, the title of the set that it is of, and the members of the set if they are
+# known.
 Slice = Tuple[int, int, str, Optional[Set[Members]]]
 
 MOST = 100_000
@@ -58,7 +60,7 @@ class Sets:
                 return f"{ends[0]}..{ends[1]}", {(number,) for number in range(ends[0], ends[1] + 1)}
         elif expr.op == "name" and expr.value in self.members:
             width, flat = self.shapes.sets.get(expr.value, 1), self.members[expr.value]
-            return expr.value, {tuple(flat[start:start + width]) for start in range(0, len(flat), width)}
+            return expr.value, {tuple(flat[start : start + width]) for start in range(0, len(flat), width)}
         elif expr.op == "name" and expr.value in self.decls:
             phrase = self.decls[expr.value].phrase(":=")
             title, found = self.of(phrase.exprs[0]) if phrase else ("", None)
@@ -73,7 +75,13 @@ class Sets:
         found = []
         for item in (braces.args[:-1] if braces.value else braces.args) if braces else []:
             is_indexed = item.op == "in"
-            width = len(item.args[0].args) if is_indexed and item.args[0].op == "tuple" else 1 if is_indexed else self.shapes.of_set(item)
+            width = (
+                len(item.args[0].args)
+                if is_indexed and item.args[0].op == "tuple"
+                else 1
+                if is_indexed
+                else self.shapes.of_set(item)
+            )
             found.append((width, *self.of(item.args[1] if is_indexed else item)))
         return found
 
@@ -94,7 +102,7 @@ class Key:
 
     def outside(self, key: list[Member]) -> list[Slice]:
         """Returns the slices that are known to be in no set."""
-        return [item for item in self.items if item[3] is not None and tuple(key[item[0]:item[1]]) not in item[3]]
+        return [item for item in self.items if item[3] is not None and tuple(key[item[0] : item[1]]) not in item[3]]
 
     def exchanged(self) -> list[Member]:
         """Returns the key with two parts exchanged that is in all sets; an empty list if there is none."""
@@ -114,8 +122,12 @@ def near(member: Member, others: Iterable[Member]) -> list[str]:
     texts = sorted({other for other in others if isinstance(other, str) and other != member})
     if not isinstance(member, str):
         return []
-    found = [text for text in texts if text.lower() == member.lower()] or difflib.get_close_matches(member, texts, 3, 0.7)
-    return found or [text for text in texts if len(text) == len(member) > 2 and sorted(text.lower()) == sorted(member.lower())]
+    found = [text for text in texts if text.lower() == member.lower()] or difflib.get_close_matches(
+        member, texts, 3, 0.7
+    )
+    return found or [
+        text for text in texts if len(text) == len(member) > 2 and sorted(text.lower()) == sorted(member.lower())
+    ]
 
 
 def outside_set(diagnostic: Diagnostic) -> Hints:
@@ -125,6 +137,7 @@ def outside_set(diagnostic: Diagnostic) -> Hints:
     except (Unreadable, Unparsed, ValueError):
         return
     from .values import missing_in_set
+
     other, wrong = key.exchanged(), key.outside(key.key)
     if list(missing_in_set(diagnostic)):
         return
@@ -134,7 +147,10 @@ def outside_set(diagnostic: Diagnostic) -> Hints:
         elif diagnostic.text == "data":
             yield "are the two members exchanged? In a table (tr) before the : turns rows and columns", True
         else:
-            yield f"are the subscripts exchanged? {key.name}[{','.join(map(shown, other))}] is in the sets of its braces", True
+            yield (
+                f"are the subscripts exchanged? {key.name}[{','.join(map(shown, other))}] is in the sets of its braces",
+                True,
+            )
         return
     for first, last, title, members in wrong:
         if last - first == 1 and members is not None:
@@ -149,7 +165,11 @@ def outside_one(diagnostic: Diagnostic, member: Member, title: str, texts: list[
     is_sure = diagnostic.number != "E50"
     if isinstance(member, str) and re.fullmatch(r"-?\d+", member) and (int(member),) in members:
         is_python = diagnostic.instance is not None and diagnostic.is_change() and not diagnostic.instance.origins
-        yield f"'{member}' is a text; the number is in {title}: {f'use int({member!r})' if is_python else f'write it without quotes, {member}'}", True
+        yield (
+            f"'{member}' is a text; the number is in {title}:"
+            f" {f'use int({member!r})' if is_python else f'write it without quotes, {member}'}",
+            True,
+        )
         return
     found = near(member, texts)
     words = [token.bare() for token in tokens(diagnostic.texts.get("data", ""))]
@@ -158,12 +178,20 @@ def outside_one(diagnostic: Diagnostic, member: Member, title: str, texts: list[
         found.sort(key=words.count)  # what nothing else names is probably misspelt itself
     if found and is_elsewhere and words.count(found[0]) == 1:
         row = next(token.row for token in tokens(diagnostic.texts["data"]) if token.bare() == found[0])
-        yield f"the set {title} has {found[0]} in {diagnostic.rows_text([row])}, which nothing else names: is {member} meant there?", is_sure
+        yield (
+            f"the set {title} has {found[0]} in {diagnostic.rows_text([row])}, which nothing else names: is"
+            f" {member} meant there?",
+            is_sure,
+        )
     elif found:
         yield f"{member}: is {found[0]} meant?", is_sure
         yield from heading_place(diagnostic, str(member))
     else:
-        kind = f", whose members are texts ({', '.join(texts[:3])}{', ..' if len(texts) > 3 else ''})" if texts and not isinstance(member, str) else ""
+        kind = (
+            f", whose members are texts ({', '.join(texts[:3])}{', ..' if len(texts) > 3 else ''})"
+            if texts and not isinstance(member, str)
+            else ""
+        )
         yield f"{shown(member)} is not in {title}{kind}", is_sure
         yield from heading_place(diagnostic, str(member))
 
@@ -177,7 +205,11 @@ def heading_place(diagnostic: Diagnostic, member: str) -> Hints:
 
 def unquoted_member(diagnostic: Diagnostic) -> Hints:
     """A name in the model that is not declared, and is a member in the data."""
-    if diagnostic.text == "model" and diagnostic.detail and [token.text for token in diagnostic.statement()][:1] != ["set"]:
+    if (
+        diagnostic.text == "model"
+        and diagnostic.detail
+        and [token.text for token in diagnostic.statement()][:1] != ["set"]
+    ):
         members = {token.bare() for row in set_rows(diagnostic) for token in row}
         if diagnostic.detail in members:
             yield f"{diagnostic.detail} is a member in the data: write it with quotes, '{diagnostic.detail}'", True
@@ -185,6 +217,7 @@ def unquoted_member(diagnostic: Diagnostic) -> Hints:
 
 def set_rows(diagnostic: Diagnostic) -> list[list[Token]]:
     from .data import listed
+
     return list(listed(diagnostic).values())
 
 

@@ -1,7 +1,7 @@
 """Further errors of a data text after its first one.
 
-The program reports the first error alone. A copy of the data in which the wrong cell is empty shows the next one, at its own position.
-This works for errors of names, keys, and kinds of values, which do not depend on other values.
+The program reports the first error alone. A copy of the data in which the wrong cell is empty shows the next one, at
+its own position. This works for errors of names, keys, and kinds of values, which do not depend on other values.
 """
 from __future__ import annotations
 
@@ -17,7 +17,8 @@ from ..reading.keys import reference
 from ..reading.model import Shapes, Unparsed, parse
 from .diagnostic import LINE, Diagnostic
 
-# The errors that are skipped, how many further ones are looked for, at most, and for how many seconds; how many of one name are reported.
+# The errors that are skipped, how many further ones are looked for, at most, and for how many seconds; how many of one
+# name are reported.
 SKIPPED = re.compile(r"E3[0136]")
 MOST, SECONDS, OF_ONE_NAME = 20, 5.0, 3
 # The longest data, in characters, of which copies are made.
@@ -25,11 +26,17 @@ LONGEST = 2_000_000
 
 
 def further_errors(first: Diagnostic, options: Sequence[str] = ()) -> list[Diagnostic]:
-    """Returns the diagnostics of the errors after the first one, apart from those with a hint that an error before them has; none if they
-    cannot be found."""
+    """Returns the diagnostics of the errors after the first one, apart from those with a hint that an error before them
+    has; none if they cannot be found."""
     instance = first.instance
     is_joined = instance is not None and (len(instance.data) > 1 or bool(instance.changes))
-    if first.text != "data" or not first.row or is_joined or not SKIPPED.match(first.number) or len(first.texts["data"]) > LONGEST:
+    if (
+        first.text != "data"
+        or not first.row
+        or is_joined
+        or not SKIPPED.match(first.number)
+        or len(first.texts["data"]) > LONGEST
+    ):
         return []
     model, data = (whole_copy(first.texts[kind], kind) for kind in ("model", "data"))
     try:
@@ -48,7 +55,12 @@ def further_errors(first: Diagnostic, options: Sequence[str] = ()) -> list[Diagn
             except ProgramError as problem:
                 line = problem.message.rstrip("\n")
             match = LINE.fullmatch(line)
-            if match is None or match[3] != "data" or not SKIPPED.match(match[1]) or (int(match[4] or 0), int(match[5] or 0)) in cells.seen:
+            if (
+                match is None
+                or match[3] != "data"
+                or not SKIPPED.match(match[1])
+                or (int(match[4] or 0), int(match[5] or 0)) in cells.seen
+            ):
                 break
             last = first.another(line)
             names.append(name_of(last))
@@ -65,12 +77,15 @@ def name_of(error: Diagnostic) -> str:
 
 
 class Places:
-    """The statements and cells of a data text by their places. `clear` empties the place of an error; the others do not move."""
+    """The statements and cells of a data text by their places. `clear` empties the place of an error; the others do not
+    move."""
 
     def __init__(self, model: str, data: str) -> None:
         decls = parse(model)
         shapes = Shapes(decls)
-        self.data = DataText(data, {decl.name: shapes.keys[decl.name] for decl in decls if decl.kind == "param"}, shapes.sets)
+        self.data = DataText(
+            data, {decl.name: shapes.keys[decl.name] for decl in decls if decl.kind == "param"}, shapes.sets
+        )
         self.letters: list[str] = list(data)
         self.seen: set[tuple[int, int]] = set()
         self.starts = [0]
@@ -84,7 +99,9 @@ class Places:
         """Empties the cell, the member or the statement that has the error; returns whether one was found."""
         self.seen.add((error.row, error.column))
         at = self.starts[error.row - 1] + len(error.before)
-        statement = next((statement for statement in self.data.statements if statement.start <= at < statement.end), None)
+        statement = next(
+            (statement for statement in self.data.statements if statement.start <= at < statement.end), None
+        )
         if statement is None:
             return False
         if error.number == "E30" or statement.kind == "set":
@@ -109,7 +126,7 @@ class Places:
     def put(self, start: int, end: int, text: str) -> None:
         """Writes a text in a place, and blanks in the rest of it; line ends stay."""
         for here in range(start, end):
-            self.letters[here] = "\n" if self.letters[here] == "\n" else text[here - start:here - start + 1] or " "
+            self.letters[here] = "\n" if self.letters[here] == "\n" else text[here - start : here - start + 1] or " "
 
 
 def is_of(error: Diagnostic, cell: Cell) -> bool:
@@ -127,5 +144,7 @@ def further_lines(first: Diagnostic, options: Sequence[str] = ()) -> list[str]:
     lines = []
     for error in found:
         hint = next(iter(error.hints()), "")
-        lines.append(f"{error.place()}: {error.number} {error.name} {error.detail}".rstrip() + (f": {hint}" if hint else ""))
+        lines.append(
+            f"{error.place()}: {error.number} {error.name} {error.detail}".rstrip() + (f": {hint}" if hint else "")
+        )
     return ["More errors in the data:", *lines] if found else []

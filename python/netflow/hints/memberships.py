@@ -1,4 +1,5 @@
-"""Whether a tuple is in a set expression of a model, by the text of the model and its data, and which part of the expression lacks it."""
+"""Whether a tuple is in a set expression of a model, by the text of the model and its data, and which part of the
+expression lacks it."""
 from __future__ import annotations
 
 import operator
@@ -13,8 +14,16 @@ from ..types import Key, Member
 # The members that indices stand for.
 Env = Dict[str, Member]
 
-COMPARED = {"=": operator.eq, "==": operator.eq, "<>": operator.ne, "!=": operator.ne, "<": operator.lt, "<=": operator.le, ">": operator.gt,
-            ">=": operator.ge}
+COMPARED = {
+    "=": operator.eq,
+    "==": operator.eq,
+    "<>": operator.ne,
+    "!=": operator.ne,
+    "<": operator.lt,
+    "<=": operator.le,
+    ">": operator.gt,
+    ">=": operator.ge,
+}
 COMPUTED: Dict[str, Callable[[int, int], int]] = {"+": operator.add, "-": operator.sub, "*": operator.mul}
 
 
@@ -23,7 +32,8 @@ class Unknown(Exception):
 
 
 class Memberships:
-    """The sets and parameters of a model with its data; raises Unparsed if a text cannot be parsed, and Unknown for a value that is not plain."""
+    """The sets and parameters of a model with its data; raises Unparsed if a text cannot be parsed, and Unknown for a
+    value that is not plain."""
 
     def __init__(self, model: str, data: str) -> None:
         self.model, self.shapes = model, Shapes(parse(model))
@@ -38,10 +48,10 @@ class Memberships:
 
     def tuples(self, name: str, members: list[Member]) -> list[Key]:
         width = self.shapes.sets.get(name, 1)
-        return [tuple(members[start:start + width]) for start in range(0, len(members), width)]
+        return [tuple(members[start : start + width]) for start in range(0, len(members), width)]
 
     def text(self, expr: Expr) -> str:
-        return " ".join(self.model[expr.start:expr.end].split())
+        return " ".join(self.model[expr.start : expr.end].split())
 
     def missing(self, expr: Expr, row: Key, env: Env) -> str:
         """Returns why a tuple is not in a set, such as `SHOPS has no Ens`; an empty text if it is in the set."""
@@ -54,7 +64,9 @@ class Memberships:
             return self.missing_index(expr, row, dict(env))
         source = self.source(expr.value) if expr.op == "name" and expr.value not in self.members else None
         if source is not None:
-            return self.missing(source, row, env) and f"{expr.value}, which is {self.text(source)}, has no {row_text(row)}"
+            return (
+                self.missing(source, row, env) and f"{expr.value}, which is {self.text(source)}, has no {row_text(row)}"
+            )
         return "" if self.contains(expr, row, env) else f"{self.text(expr)} has no {row_text(row)}"
 
     def source(self, name: str) -> Expr | None:
@@ -69,7 +81,7 @@ class Memberships:
             raise Unknown
         found, at = [], 0
         for width, item in items:
-            found.append((row[at:at + width], item))
+            found.append((row[at : at + width], item))
             at += width
         return found
 
@@ -79,11 +91,21 @@ class Memberships:
     def missing_index(self, expr: Expr, row: Key, env: Env) -> str:
         """The same for braces with indices, which are given the members of the tuple."""
         items = expr.args[:-1] if expr.value else expr.args
-        widths = [(len(item.args[0].args) if item.args[0].op == "tuple" else 1) if item.op == "in" else self.shapes.of_set(item) for item in items]
+        widths = [
+            (
+                (len(item.args[0].args) if item.args[0].op == "tuple" else 1)
+                if item.op == "in"
+                else self.shapes.of_set(item)
+            )
+            for item in items
+        ]
         for part, item in self.split(row, list(zip(widths, items))):
             if item.op == "in":
                 names = item.args[0].args if item.args[0].op == "tuple" else [item.args[0]]
-                if any(name.op != "name" or name.args or name.value in env or name.value in self.shapes.decls for name in names):
+                if any(
+                    name.op != "name" or name.args or name.value in env or name.value in self.shapes.decls
+                    for name in names
+                ):
                     raise Unknown
                 env.update(zip((name.value for name in names), part))
             said = self.missing(item.args[1] if item.op == "in" else item, part, env)
@@ -96,14 +118,22 @@ class Memberships:
             return row in self.members[expr.value]
         if expr.op in ("union", "inter", "diff", "symdiff"):
             first, second = (not self.missing(part, row, env) for part in expr.args)
-            return {"union": first or second, "inter": first and second, "diff": first and not second, "symdiff": first != second}[expr.op]
+            return {
+                "union": first or second,
+                "inter": first and second,
+                "diff": first and not second,
+                "symdiff": first != second,
+            }[expr.op]
         if expr.op == ".." and len(expr.args) == 2 and len(row) == 1:
             low, high = (self.value(part, env) for part in expr.args)
             if not isinstance(low, int) or not isinstance(high, int):
                 raise Unknown
             return isinstance(row[0], int) and low <= row[0] <= high
         if expr.op == "braces" and not expr.value:
-            return row in [tuple(self.value(part, env) for part in (member.args if member.op == "tuple" else [member])) for member in expr.args]
+            return row in [
+                tuple(self.value(part, env) for part in (member.args if member.op == "tuple" else [member]))
+                for member in expr.args
+            ]
         raise Unknown
 
     def holds(self, expr: Expr, env: Env) -> bool:
@@ -116,7 +146,7 @@ class Memberships:
         if expr.op == "in":
             left, right = expr.args
             row = tuple(self.value(part, env) for part in (left.args if left.op == "tuple" else [left]))
-            return (not self.missing(right, row, env)) != ("not" in self.model[left.end:right.start].split())
+            return (not self.missing(right, row, env)) != ("not" in self.model[left.end : right.start].split())
         if expr.op not in COMPARED:
             raise Unknown
         first, second = (self.value(part, env) for part in expr.args)
@@ -156,5 +186,7 @@ class Memberships:
 
 def row_text(row: Key) -> str:
     """Returns a tuple as data have it; a text has quotes only if it has the form of a number."""
-    parts = [shown(member) if isinstance(member, str) and re.fullmatch(r"-?\d+", member) else str(member) for member in row]
+    parts = [
+        shown(member) if isinstance(member, str) and re.fullmatch(r"-?\d+", member) else str(member) for member in row
+    ]
     return parts[0] if len(parts) == 1 else f"({','.join(parts)})"

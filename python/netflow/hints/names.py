@@ -1,4 +1,5 @@
-"""Hints for names: misspelt ones, by the kind that their place needs, and declarations and phrases with a name or a word at the wrong place."""
+"""Hints for names: misspelt ones, by the kind that their place needs, and declarations and phrases with a name or a
+word at the wrong place."""
 from __future__ import annotations
 
 import difflib
@@ -23,31 +24,55 @@ def wanted_kinds(diagnostic: Diagnostic) -> tuple[str, ...]:
 
 
 def nearest(name: str, others: list[str]) -> list[str]:
-    return [other for other in others if other.lower() == name.lower()] or difflib.get_close_matches(name, others, 1, 0.7)
+    return [other for other in others if other.lower() == name.lower()] or difflib.get_close_matches(
+        name, others, 1, 0.7
+    )
 
 
 def respelled(diagnostic: Diagnostic) -> Hints:
     """Names near one that is not known; indices of other declarations are not known here."""
     name = diagnostic.detail.partition("[")[0]
-    if diagnostic.number == "E12" and (declared_below(diagnostic, name) or name in members_in_data(diagnostic)) or name in REPLACEMENTS:
+    if (
+        diagnostic.number == "E12"
+        and (declared_below(diagnostic, name) or name in members_in_data(diagnostic))
+        or name in REPLACEMENTS
+    ):
         return
     known = list(dict.fromkeys(diagnostic.words("model")))
-    gone = set(indices(list(tokens(diagnostic.texts.get("model", "")))))  - set(indices(diagnostic.statement())) - declared(diagnostic) if diagnostic.number == "E12" else set()
+    gone = (
+        set(indices(list(tokens(diagnostic.texts.get("model", "")))))
+        - set(indices(diagnostic.statement()))
+        - declared(diagnostic)
+        if diagnostic.number == "E12"
+        else set()
+    )
     same = [other for other in known if other in gone and other.lower() == name.lower()]
     fitting = [other for kind in wanted_kinds(diagnostic) for other in known if other in declared_as(diagnostic, kind)]
     others = [other for other in known if other != name and other not in DECLARING | gone and other[:1].isalnum()]
-    found = nearest(name, fitting) or (fitting if re.search(r"\bobj\s+$", diagnostic.before) and len(fitting) == 1 else nearest(name, others))
+    found = nearest(name, fitting) or (
+        fitting if re.search(r"\bobj\s+$", diagnostic.before) and len(fitting) == 1 else nearest(name, others)
+    )
     if found:
         yield f"{name}: is {found[0]} meant?", True
     elif same and not list(equals_in_braces(diagnostic)):
-        yield f"{same[0]} is an index of another declaration and ends with it: index this one too, as in {{{same[0]} in ..}}", True
+        yield (
+            f"{same[0]} is an index of another declaration and ends with it: index this one too, as in"
+            f" {{{same[0]} in ..}}",
+            True,
+        )
 
 
 def equals_in_braces(diagnostic: Diagnostic) -> Hints:
     """`{s = SHOPS}`."""
     found = re.match(rf"({NAME})\s*=\s*({NAME})", diagnostic.at())
     words = [token.text for token in diagnostic.statement_before()]
-    if diagnostic.text == "model" and found and words[-1:] in (["{"], [","]) and words.count("{") > words.count("}") and found[2] in declared_as(diagnostic, "set"):
+    if (
+        diagnostic.text == "model"
+        and found
+        and words[-1:] in (["{"], [","])
+        and words.count("{") > words.count("}")
+        and found[2] in declared_as(diagnostic, "set")
+    ):
         yield f"an index is named with its set by in: {found[1]} in {found[2]}", True
 
 
@@ -72,21 +97,35 @@ def odd_name(diagnostic: Diagnostic) -> Hints:
 def two_names(diagnostic: Diagnostic) -> Hints:
     """`param van, truck;`"""
     words = [token.text for token in diagnostic.statement_before()]
-    if diagnostic.text == "model" and words[2:] == [","] and words[0] in ("set", "param", "node", "arc") and re.match(NAME, diagnostic.at()):
+    if (
+        diagnostic.text == "model"
+        and words[2:] == [","]
+        and words[0] in ("set", "param", "node", "arc")
+        and re.match(NAME, diagnostic.at())
+    ):
         yield f"each declaration has one name: {words[0]} {words[1]}; {words[0]} {diagnostic.word()};", True
 
 
 def no_obj(diagnostic: Diagnostic) -> Hints:
     """`to Shop[s], Total cost[b,s]`: the word obj is missing."""
     words = [token.text for token in diagnostic.statement_before()]
-    if diagnostic.text == "model" and words[:1] == ["arc"] and words[-1:] == [","] and diagnostic.word() in declared_as(diagnostic, "minimize") | declared_as(diagnostic, "maximize"):
+    if (
+        diagnostic.text == "model"
+        and words[:1] == ["arc"]
+        and words[-1:] == [","]
+        and diagnostic.word() in declared_as(diagnostic, "minimize") | declared_as(diagnostic, "maximize")
+    ):
         phrase = re.match(r"(?:\[[^\]]*\]|[^,;])*", diagnostic.at())
         yield f"is obj missing before {diagnostic.word()}? obj {phrase[0].strip() if phrase else diagnostic.word()}", True
 
 
 def no_to(diagnostic: Diagnostic) -> Hints:
     """`from Bakery[b] Shop[s]`, and `between A and B`."""
-    if diagnostic.text == "model" and diagnostic.number == "E15" and diagnostic.word() in declared_as(diagnostic, "node"):
+    if (
+        diagnostic.text == "model"
+        and diagnostic.number == "E15"
+        and diagnostic.word() in declared_as(diagnostic, "node")
+    ):
         yield f"is , to missing before {diagnostic.word()}?", True
     found = re.match(r"(?:between|connects)\s+([^,;]*?)\s+(?:and|to)\s+([^,;]*)", diagnostic.at())
     if diagnostic.text == "model" and diagnostic.number != "E15" and found:
@@ -96,7 +135,12 @@ def no_to(diagnostic: Diagnostic) -> Hints:
 def early_end(diagnostic: Diagnostic) -> Hints:
     """A `;` before the last phrase of an arc."""
     above = [token for token in diagnostic.tokens_before()]
-    if diagnostic.text == "model" and not diagnostic.statement_before() and above and re.match(r"(?:from|to|obj)\b|[<>]=", diagnostic.at()):
+    if (
+        diagnostic.text == "model"
+        and not diagnostic.statement_before()
+        and above
+        and re.match(r"(?:from|to|obj)\b|[<>]=", diagnostic.at())
+    ):
         yield f"is the ; at the end of {diagnostic.line_text(above[-1].row)} one too many, or meant as a comma?", True
 
 

@@ -1,4 +1,5 @@
-"""Hints for numbers in data as spreadsheets and people write them: error values, quotes, and marks between groups of digits."""
+"""Hints for numbers in data as spreadsheets and people write them: error values, quotes, and marks between groups of
+digits."""
 from __future__ import annotations
 
 import re
@@ -52,7 +53,7 @@ def grouped_in_list(diagnostic: Diagnostic) -> Hints:
         size = Shapes(parse(model), model).keys[head[1]] + 1
     except (Unparsed, ValueError, KeyError):
         return
-    body = "\n".join(lines[words[0].row - 1:words[-1].row])
+    body = "\n".join(lines[words[0].row - 1 : words[-1].row])
     body = re.sub(r"#[^\n]*", "", body.partition(head[1])[2].partition(":=")[2].partition(";")[0])
     for pattern in (COMMA, BLANK):
         found = re.search(pattern, body)
@@ -65,7 +66,7 @@ def grouped_in_list(diagnostic: Diagnostic) -> Hints:
 def has_values(body: str, size: int) -> bool:
     """Whether a list has whole rows with a number as the last cell of each."""
     cells = body.replace(",", " ").split()
-    return len(cells) % size == 0 and all(re.match(r"[+-]?[.\d]", cell) for cell in cells[size - 1::size])
+    return len(cells) % size == 0 and all(re.match(r"[+-]?[.\d]", cell) for cell in cells[size - 1 :: size])
 
 
 def many_points(diagnostic: Diagnostic) -> Hints:

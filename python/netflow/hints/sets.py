@@ -1,4 +1,5 @@
-"""Hints for sets in data texts: members outside a `within` restriction, and AMPL's slices and tables of sets, which netflow does not have."""
+"""Hints for sets in data texts: members outside a `within` restriction, and AMPL's slices and tables of sets, which
+netflow does not have."""
 from __future__ import annotations
 
 import re
@@ -26,8 +27,8 @@ def set_words(diagnostic: Diagnostic, name: str) -> list[Token]:
     words, found = list(tokens(diagnostic.texts.get("data", ""))), []
     for here in range(len(words) - 2):
         if [words[here].text, words[here + 1].bare(), words[here + 2].text] == ["set", name, ":="]:
-            rest = words[here + 3:]
-            found = rest[:next((at for at, token in enumerate(rest) if token.text == ";"), len(rest))]
+            rest = words[here + 3 :]
+            found = rest[: next((at for at, token in enumerate(rest) if token.text == ";"), len(rest))]
     return [token for token in found if token.text not in ("(", ")", ",")]
 
 
@@ -35,7 +36,7 @@ def listed_rows(diagnostic: Diagnostic, world: Memberships, name: str) -> list[t
     """Returns the tuples of a set in the data, each with its line."""
     words, text = set_words(diagnostic, name), diagnostic.texts.get("data", "")
     width = world.shapes.sets.get(name, 1)
-    found = [(tuple(map(member, words[here:here + width])), words[here].row) for here in range(0, len(words), width)]
+    found = [(tuple(map(member, words[here : here + width])), words[here].row) for here in range(0, len(words), width)]
     params = {decl: size for decl, size in world.shapes.keys.items() if world.shapes.decls[decl].kind == "param"}
     for statement in DataText(text, params, world.shapes.sets, True).statements:
         row, last = 1, 0
@@ -55,7 +56,9 @@ def outside(diagnostic: Diagnostic) -> Hints:
         limits = [phrase.exprs[0] for phrase in decl.phrases if phrase.word == "within"]
         wrong = []
         for row, line in listed_rows(diagnostic, world, diagnostic.detail):
-            missing = [(limit, said) for limit, said in ((limit, world.missing(limit, row, {})) for limit in limits) if said]
+            missing = [
+                (limit, said) for limit, said in ((limit, world.missing(limit, row, {})) for limit in limits) if said
+            ]
             wrong += [(row, line, *missing[0])] if missing else []
     except (Unparsed, Unknown, ValueError, IndexError, TypeError):
         return
@@ -67,15 +70,16 @@ def outside(diagnostic: Diagnostic) -> Hints:
 
 
 def slice_pairs(words: list[Token]) -> list[str]:
-    """Returns the tuples that slices such as `(Linz,*) Wien Enns` mean, as texts; an empty list if the words have another form."""
+    """Returns the tuples that slices such as `(Linz,*) Wien Enns` mean, as texts; an empty list if the words have
+    another form."""
     parts, found, head, at = [token.text for token in words if token.text != ","], [], [], 0
     while at < len(parts):
         if parts[at] == "(" and ")" in parts[at:]:
             end = parts.index(")", at)
-            head, at = parts[at + 1:end], end + 1
+            head, at = parts[at + 1 : end], end + 1
             found += [] if "*" in head else [head]
             continue
-        row = parts[at:at + head.count("*")]
+        row = parts[at : at + head.count("*")]
         if not row or len(row) < head.count("*") or {"(", ")", "*"} & set(row):
             return []
         at += len(row)
@@ -93,17 +97,21 @@ def set_slices(diagnostic: Diagnostic) -> Hints:
     found = re.search(r"\([^()]*$", diagnostic.before)
     template = f"{found[0] if found else '('}{diagnostic.at().partition(')')[0]})"
     pairs = slice_pairs([token for token in words[3:] if token.text != ";"])
-    yield f"{template} is a slice of AMPL, which netflow does not have: write whole tuples{statement_text(head[1], pairs)}", True
+    yield (
+        f"{template} is a slice of AMPL, which netflow does not have: write whole"
+        f" tuples{statement_text(head[1], pairs)}",
+        True,
+    )
 
 
 def table_pairs(words: list[Token]) -> list[str]:
     """Returns the pairs that a table with + and - marks, as texts; an empty list if the words have another form."""
     is_turned = [token.text for token in words[:3]] == ["(", "tr", ")"]
-    texts = [token.text for token in words[3 * is_turned:]]
+    texts = [token.text for token in words[3 * is_turned :]]
     if texts[:1] != [":"] or ":=" not in texts:
         return []
-    columns, cells = texts[1:texts.index(":=")], texts[texts.index(":=") + 1:]
-    rows = [cells[here:here + len(columns) + 1] for here in range(0, len(cells), len(columns) + 1)]
+    columns, cells = texts[1 : texts.index(":=")], texts[texts.index(":=") + 1 :]
+    rows = [cells[here : here + len(columns) + 1] for here in range(0, len(cells), len(columns) + 1)]
     if any(len(row) <= len(columns) or not set(row[1:]) <= {"+", "-"} for row in rows):
         return []
     pairs = [(row[0], column) for row in rows for column, mark in zip(columns, row[1:]) if mark == "+"]
@@ -114,9 +122,19 @@ def set_table(diagnostic: Diagnostic) -> Hints:
     """`set LINKS: Wien Enns := Linz + - Graz - +;`"""
     words = diagnostic.statement()
     head, marks = [token.text for token in words[:3]], {token.text for token in words}
-    if diagnostic.text == "data" and head[:1] == ["set"] and head[2:] in ([":"], ["("]) and {":=", ":"} <= marks and marks & {"+", "-"}:
+    if (
+        diagnostic.text == "data"
+        and head[:1] == ["set"]
+        and head[2:] in ([":"], ["("])
+        and {":=", ":"} <= marks
+        and marks & {"+", "-"}
+    ):
         pairs = table_pairs([token for token in words[2:] if token.text != ";"])
-        yield f"a set table with + and - is part of AMPL alone: list the pairs that have a +{statement_text(head[1], pairs)}", True
+        yield (
+            "a set table with + and - is part of AMPL alone: list the pairs that have a"
+            f" +{statement_text(head[1], pairs)}",
+            True,
+        )
 
 
 def statement_text(name: str, pairs: list[str]) -> str:

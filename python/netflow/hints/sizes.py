@@ -8,7 +8,11 @@ from .diagnostic import Diagnostic
 from .hint import Hints, HintTable
 from .keys import Sets
 
-MOST = {"E40": "tuples, and 1,000,000 are the most", "E59": "nodes, and 10,000 are the most", "E60": "arcs, and 100,000 are the most"}
+MOST = {
+    "E40": "tuples, and 1,000,000 are the most",
+    "E59": "nodes, and 10,000 are the most",
+    "E60": "arcs, and 100,000 are the most",
+}
 
 
 def size(sets: Sets, expr: Expr) -> int:
@@ -28,9 +32,10 @@ def size(sets: Sets, expr: Expr) -> int:
 
 
 def at_place(sets: Sets, diagnostic: Diagnostic) -> tuple[Decl | None, Expr | None]:
-    """Returns the declaration with the error and its braces or cross product at the place; (None, None) if there are none."""
+    """Returns the declaration with the error and its braces or cross product at the place; (None, None) if there are
+    none."""
     model = diagnostic.texts["model"]
-    place = sum(len(line) + 1 for line in model.split("\n")[:diagnostic.row - 1]) + len(diagnostic.before)
+    place = sum(len(line) + 1 for line in model.split("\n")[: diagnostic.row - 1]) + len(diagnostic.before)
     for decl in sets.decls.values():
         if decl.start <= place <= decl.end:
             whole = [decl.braces, *(expr for phrase in decl.phrases for expr in phrase.exprs)]
@@ -45,7 +50,9 @@ def too_many(diagnostic: Diagnostic) -> Hints:
     """How many keys the braces at the place, or those of the declaration, have, if their sets are plain."""
     try:
         sets = Sets(diagnostic)
-        decl, found = at_place(sets, diagnostic) if diagnostic.text == "model" else (sets.decls.get(diagnostic.detail), None)
+        decl, found = (
+            at_place(sets, diagnostic) if diagnostic.text == "model" else (sets.decls.get(diagnostic.detail), None)
+        )
     except (Unparsed, ValueError, IndexError):
         return
     if decl is None or found is None:
@@ -56,9 +63,17 @@ def too_many(diagnostic: Diagnostic) -> Hints:
         return
     condition = found.args[-1] if found.op == "braces" and found.value else None
     total = f"{' x '.join(f'{count:,}' for count in sizes)} = {math.prod(sizes):,}"
-    said = MOST[diagnostic.number].replace(",", " before the condition is evaluated,", 1) if condition is not None else MOST[diagnostic.number]
+    said = (
+        MOST[diagnostic.number].replace(",", " before the condition is evaluated,", 1)
+        if condition is not None
+        else MOST[diagnostic.number]
+    )
     smaller = fewer(sets, diagnostic.texts["model"], items, condition)
-    yield f"{decl.name or decl.kind} has {total} {said}: {f'write {smaller}' if smaller else 'index it by a set of the tuples that exist'}", True
+    yield (
+        f"{decl.name or decl.kind} has {total} {said}:"
+        f" {f'write {smaller}' if smaller else 'index it by a set of the tuples that exist'}",
+        True,
+    )
 
 
 def fewer(sets: Sets, model: str, items: list[Expr], condition: Expr | None) -> str:
@@ -68,13 +83,21 @@ def fewer(sets: Sets, model: str, items: list[Expr], condition: Expr | None) -> 
         terms = [inner for part in terms for inner in (part.args if part.op in ("and", "group") else [part])]
     named = [part.args[0].value if part.op == "in" and part.args[0].op == "name" else "" for part in items]
     for term in terms:
-        names = [part.value if part.op == "name" and not part.args else "" for part in term.args] if term.op in ("=", "==") else []
+        names = (
+            [part.value if part.op == "name" and not part.args else "" for part in term.args]
+            if term.op in ("=", "==")
+            else []
+        )
         if len(names) == 2 and all(name and name in named for name in names) and names[0] != names[1]:
             first, second = sorted(map(named.index, names))
-            texts = [" ".join(model[part.start:part.end].split()) for part in items]
-            texts[first] += "" if is_within(sets, items[first].args[1], items[second].args[1]) else f" inter {texts[second].partition(' in ')[2]}"
+            texts = [" ".join(model[part.start : part.end].split()) for part in items]
+            texts[first] += (
+                ""
+                if is_within(sets, items[first].args[1], items[second].args[1])
+                else f" inter {texts[second].partition(' in ')[2]}"
+            )
             texts[second] = f"{named[second]} in {{{named[first]}}}"
-            rest = " and ".join(" ".join(model[part.start:part.end].split()) for part in terms if part is not term)
+            rest = " and ".join(" ".join(model[part.start : part.end].split()) for part in terms if part is not term)
             return f"{{{', '.join(texts)}{f': {rest}' if rest else ''}}}"
     return ""
 

@@ -11,7 +11,9 @@ from .hint import Hints, HintTable
 NAME = r"[A-Za-z_]\w*"
 OPERAND = r"[\w.]+(?:\[[^\]]*\])?"
 BOUND = re.compile(rf"(?P<low>{OPERAND})\s*<=\s*(?:{NAME}(?:\[[^\]]*\])?\s*<=\s*)?(?P<high>{OPERAND})\s*(?=[,;]|$)")
-RANGE = re.compile(r"(?P<low>[^:;]*?)\s*(?P<one><=|>=|=)\s*(?P<net>net_in|net_out)\s*(?P<two><=|>=|=)\s*(?P<high>[^;]*)")
+RANGE = re.compile(
+    r"(?P<low>[^:;]*?)\s*(?P<one><=|>=|=)\s*(?P<net>net_in|net_out)\s*(?P<two><=|>=|=)\s*(?P<high>[^;]*)"
+)
 
 
 def declared(diagnostic: Diagnostic, *kinds: str) -> set[str]:
@@ -31,7 +33,7 @@ def chained(diagnostic: Diagnostic) -> Hints:
     if not found or not after or not (is_inside or words[:1] == ["check"]):
         return
     left, first, middle, second, right = *found.groups(), *after.groups()
-    last_item = "".join(words[len(words) - words[::-1].index("{"):]) if is_inside else ":"
+    last_item = "".join(words[len(words) - words[::-1].index("{") :]) if is_inside else ":"
     if is_inside and ":" not in last_item and re.fullmatch(NAME, middle) and (first, second) == ("<=", "<="):
         yield f"an index is named with its set: {middle} in {left}..{right}", True
     else:
@@ -42,7 +44,10 @@ def reversed_sign(diagnostic: Diagnostic) -> Hints:
     """`=<` and `=>`."""
     place = len(diagnostic.before)
     for wrong, right in (("=<", "<="), ("=>", ">="), ("=!", "!=")):
-        if diagnostic.text == "model" and wrong in (diagnostic.shown[place:place + 2], diagnostic.shown[max(place - 1, 0):place + 1]):
+        if diagnostic.text == "model" and wrong in (
+            diagnostic.shown[place : place + 2],
+            diagnostic.shown[max(place - 1, 0) : place + 1],
+        ):
             yield f"{wrong}: is {right} meant?", True
 
 
@@ -50,7 +55,12 @@ def round_subscripts(diagnostic: Diagnostic) -> Hints:
     """`needed{p,t}` and `needed(p,t)`."""
     name = re.search(rf"({NAME})\s*$", diagnostic.before)
     mark = diagnostic.at()[:1]
-    if diagnostic.text != "model" or not name or mark not in ("{", "(") or name[1] not in declared(diagnostic, "param", "node", "arc", "set"):
+    if (
+        diagnostic.text != "model"
+        or not name
+        or mark not in ("{", "(")
+        or name[1] not in declared(diagnostic, "param", "node", "arc", "set")
+    ):
         return
     inside = re.match(r"[{(]([^{}()]*)[})]", diagnostic.at())
     yield f"subscripts are in square brackets: {name[1]}[{inside[1].strip() if inside else '..'}]", True
@@ -58,14 +68,23 @@ def round_subscripts(diagnostic: Diagnostic) -> Hints:
 
 def missing_comma(diagnostic: Diagnostic) -> Hints:
     """Two subscripts without a comma."""
-    if diagnostic.text == "model" and re.search(r"\[[^\]{};]*\w\s+$", diagnostic.before) and re.match(r"[\w']", diagnostic.at()):
+    if (
+        diagnostic.text == "model"
+        and re.search(r"\[[^\]{};]*\w\s+$", diagnostic.before)
+        and re.match(r"[\w']", diagnostic.at())
+    ):
         yield f"is a , missing before {diagnostic.word()}?", True
 
 
 def bounds_in_one(diagnostic: Diagnostic) -> Hints:
     """`0 <= yard[p]` or `0 <= Lease <= 5` for the bounds of an arc."""
     words = [token.text for token in diagnostic.statement_before()]
-    if diagnostic.text != "model" or words[:1] != ["arc"] or words.count("{") > words.count("}") or not re.search(r"(?:[},]|\w)\s*$", diagnostic.before):
+    if (
+        diagnostic.text != "model"
+        or words[:1] != ["arc"]
+        or words.count("{") > words.count("}")
+        or not re.search(r"(?:[},]|\w)\s*$", diagnostic.before)
+    ):
         return
     found = BOUND.match(diagnostic.at())
     if found:
@@ -77,10 +96,13 @@ def mixed_range(diagnostic: Diagnostic) -> Hints:
     statement = diagnostic.statement()
     if diagnostic.text != "model" or not statement or statement[0].text != "node":
         return
-    line = diagnostic.shown[diagnostic.shown.rfind(":", 0, len(diagnostic.before)) + 1:]
+    line = diagnostic.shown[diagnostic.shown.rfind(":", 0, len(diagnostic.before)) + 1 :]
     found = RANGE.search(line)
     if found and found["low"].strip() and found["one"] != found["two"]:
-        yield f"both signs of a range are the same: {found['low'].strip()} <= {found['net']} <= {found['high'].strip()}", True
+        yield (
+            f"both signs of a range are the same: {found['low'].strip()} <= {found['net']} <= {found['high'].strip()}",
+            True,
+        )
 
 
 def comma_for_colon(diagnostic: Diagnostic) -> Hints:
@@ -88,7 +110,7 @@ def comma_for_colon(diagnostic: Diagnostic) -> Hints:
     if diagnostic.text != "model" or not diagnostic.at().startswith("{"):
         return
     depth, inside = 0, []
-    for word in [token.text for token in diagnostic.statement()[len(diagnostic.statement_before()):]]:
+    for word in [token.text for token in diagnostic.statement()[len(diagnostic.statement_before()) :]]:
         depth += (word in CLOSING) - (word in CLOSING.values())
         if depth == 0:
             break
@@ -118,7 +140,11 @@ def no_objective(diagnostic: Diagnostic) -> Hints:
 
 
 def check_without_colon(diagnostic: Diagnostic) -> Hints:
-    if diagnostic.text == "model" and [token.text for token in diagnostic.statement_before()] == ["check"] and not diagnostic.at().startswith((":", "{")):
+    if (
+        diagnostic.text == "model"
+        and [token.text for token in diagnostic.statement_before()] == ["check"]
+        and not diagnostic.at().startswith((":", "{"))
+    ):
         yield "is a : missing after check?", True
 
 

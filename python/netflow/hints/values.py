@@ -1,4 +1,5 @@
-"""Hints for values in data texts: units, repeated and restricted values, missing marks, misspelt words of statements."""
+"""Hints for values in data texts: units, repeated and restricted values, missing marks, misspelt words of statements.
+"""
 from __future__ import annotations
 
 import difflib
@@ -24,7 +25,7 @@ def character(diagnostic: Diagnostic) -> Hints:
     """Typographic quotes and dashes, units, and marks that begin comments elsewhere."""
     mark = diagnostic.at()[:1]
     name = unicodedata.name(mark, "a character without a name") if mark else ""
-    if mark in ("%", "!", "\\", "\"") and not diagnostic.before.strip():
+    if mark in ("%", "!", "\\", '"') and not diagnostic.before.strip():
         yield "comments begin with #", True
     elif mark == "%" and re.search(r"\d\s*$", diagnostic.before):
         yield "write the number without %", True
@@ -46,17 +47,31 @@ def unit(diagnostic: Diagnostic) -> Hints:
         return
     if diagnostic.number == "E36" and found and not word.translate(str.maketrans("OoIl", "0011")).isdigit():
         yield f"{word}: write the number without its unit, {found[1]}", True
-    elif diagnostic.number == "E31" and "[" not in diagnostic.detail and re.search(r":=\s*\d{1,3}(?:\s\d{3})*\s$", diagnostic.before) and re.match(r"\d{3}\b", diagnostic.at()):
+    elif (
+        diagnostic.number == "E31"
+        and "[" not in diagnostic.detail
+        and re.search(r":=\s*\d{1,3}(?:\s\d{3})*\s$", diagnostic.before)
+        and re.match(r"\d{3}\b", diagnostic.at())
+    ):
         digits = re.search(r":=\s*([\d\s]+)$", diagnostic.before)
         yield f"{diagnostic.detail} has one value: is {''.join(digits[1].split())}{diagnostic.at()[:3]} meant? Digits are not grouped", True  # type: ignore[index]
-    elif diagnostic.number == "E31" and "[" not in diagnostic.detail and re.search(r"\d\s*$", diagnostic.before) and re.match(r"[^\W\d]", word):
+    elif (
+        diagnostic.number == "E31"
+        and "[" not in diagnostic.detail
+        and re.search(r"\d\s*$", diagnostic.before)
+        and re.match(r"[^\W\d]", word)
+    ):
         yield f"{diagnostic.detail} has one value: is {word} a unit? Leave it out", True
 
 
 def one_number(diagnostic: Diagnostic) -> Hints:
     """`30-45` for a value."""
     if diagnostic.text == "data" and re.fullmatch(r"\d+-\d+", diagnostic.word()):
-        yield f"{diagnostic.word()} is no number, and a value is one number; a range needs two parameters, a least and a most", True
+        yield (
+            f"{diagnostic.word()} is no number, and a value is one number; a range needs two parameters, a least"
+            " and a most",
+            True,
+        )
 
 
 def keys_as_tuples(diagnostic: Diagnostic) -> Hints:
@@ -64,20 +79,29 @@ def keys_as_tuples(diagnostic: Diagnostic) -> Hints:
     words = [token.text for token in diagnostic.statement_before()]
     found = re.match(r"\(([^()]*)\)\s*(\S+)", diagnostic.at())
     if diagnostic.text == "data" and words[:1] == ["param"] and words[-1:] == [":="] and found:
-        yield f"the keys of a value have no parentheses: {' '.join(part.strip() for part in found[1].split(','))} {found[2].rstrip(';')}", True
+        yield (
+            "the keys of a value have no parentheses:"
+            f" {' '.join(part.strip() for part in found[1].split(','))} {found[2].rstrip(';')}",
+            True,
+        )
 
 
 def short_item(diagnostic: Diagnostic) -> Hints:
     """`hill 30, lake, mill 25`: an item between commas without its value."""
-    text = "\n".join(diagnostic.texts.get("data", "").split("\n")[:diagnostic.row])
+    text = "\n".join(diagnostic.texts.get("data", "").split("\n")[: diagnostic.row])
     start = text.rfind(":=", 0, len(text) - len(diagnostic.at()))
     if diagnostic.text != "data" or diagnostic.is_change() or start < 0:
         return
-    rest = diagnostic.texts["data"][start + 2:].partition(";")[0]
+    rest = diagnostic.texts["data"][start + 2 :].partition(";")[0]
     sizes = [len(part.split()) for part in rest.split(",")]
     usual = max(sizes, key=sizes.count)
     short = [part.split() for part in rest.split(",") if 0 < len(part.split()) == usual - 1]
-    if usual > 1 and len(short) == 1 and sizes.count(usual) == len(sizes) - 1 > 1 and not re.match(r"[-+.\d]", short[0][-1]):
+    if (
+        usual > 1
+        and len(short) == 1
+        and sizes.count(usual) == len(sizes) - 1 > 1
+        and not re.match(r"[-+.\d]", short[0][-1])
+    ):
         yield f"is the value of {' '.join(short[0])} missing?", True
 
 
@@ -96,13 +120,20 @@ def misspelt_statement(diagnostic: Diagnostic) -> Hints:
 def missing_mark(diagnostic: Diagnostic) -> Hints:
     """`param van 40;`"""
     before = [token.text for token in diagnostic.statement_before()]
-    if diagnostic.text == "data" and before[:1] in (["set"], ["param"]) and len(before) == 2 and re.match(r"[\w'\"(.+-]", diagnostic.at()) \
-            and not list(misspelt_statement(diagnostic)) and diagnostic.word() != "default":
+    if (
+        diagnostic.text == "data"
+        and before[:1] in (["set"], ["param"])
+        and len(before) == 2
+        and re.match(r"[\w'\"(.+-]", diagnostic.at())
+        and not list(misspelt_statement(diagnostic))
+        and diagnostic.word() != "default"
+    ):
         yield f"is := missing before {diagnostic.word().rstrip(';')}?", True
 
 
 def cells_of(diagnostic: Diagnostic) -> list[tuple[Cell, int]]:
-    """Returns the data's cells, also those with a missing-value dot, each with its row; none if the texts cannot be parsed."""
+    """Returns the data's cells, also those with a missing-value dot, each with its row; none if the texts cannot be
+    parsed."""
     try:
         shapes = Shapes(parse(diagnostic.texts.get("model", "")))
         params = {decl.name: shapes.keys[decl.name] for decl in shapes.decls.values() if decl.kind == "param"}
@@ -111,7 +142,9 @@ def cells_of(diagnostic: Diagnostic) -> list[tuple[Cell, int]]:
     except (Unparsed, ValueError, IndexError):
         return []
     rows, row, last = [], 1, 0
-    for cell in sorted((cell for statement in found.statements for cell in statement.cells), key=lambda cell: cell.token.start):
+    for cell in sorted(
+        (cell for statement in found.statements for cell in statement.cells), key=lambda cell: cell.token.start
+    ):
         row, last = row + text.count("\n", last, cell.token.start), cell.token.start
         rows.append((cell, row))
     return rows
@@ -125,13 +158,17 @@ def named_cells(diagnostic: Diagnostic, dots: bool = False) -> list[tuple[Cell, 
     """Returns the cells that the error's detail names: those with a value, or those with a missing-value dot."""
     name, bracket, rest = diagnostic.detail.partition("[")
     key = members(rest[:-1]) if bracket else []
-    return [(cell, row) for cell, row in cells_of(diagnostic) if key is not None and cell.name == name and list(cell.key) == list(key) and is_dot(cell) == dots]
+    return [
+        (cell, row)
+        for cell, row in cells_of(diagnostic)
+        if key is not None and cell.name == name and list(cell.key) == list(key) and is_dot(cell) == dots
+    ]
 
 
 def cell_place(diagnostic: Diagnostic, cell: Cell, row: int) -> str:
     """Returns the line and the column of a cell in words."""
     text = diagnostic.texts["data"]
-    before = text[text.rfind("\n", 0, cell.token.start) + 1:cell.token.start]
+    before = text[text.rfind("\n", 0, cell.token.start) + 1 : cell.token.start]
     return f"{diagnostic.rows_text([row])}, column {len(before.encode('utf-8', 'surrogateescape')) + 1}"
 
 
@@ -160,15 +197,27 @@ def missing_value(diagnostic: Diagnostic) -> Hints:
     if dots:
         yield f"{diagnostic.detail} is a missing-value dot in {cell_place(diagnostic, *dots[-1])}", True
         return
-    near = [(nearness(cell.key, key), cell, row) for cell, row in cells_of(diagnostic) if cell.name == name and len(cell.key) == len(key) and not is_dot(cell)]
+    near = [
+        (nearness(cell.key, key), cell, row)
+        for cell, row in cells_of(diagnostic)
+        if cell.name == name and len(cell.key) == len(key) and not is_dot(cell)
+    ]
     best = max((found for found, _, _ in near), default=(0, 0))
     if near and diagnostic.instance is not None and diagnostic.instance.is_from_python():
         keys = [repr(cell.key[0] if len(cell.key) == 1 else cell.key) for found, cell, _ in near if found == best]
         yield f"{name} has no value at {key[0] if len(key) == 1 else tuple(key)!r}; it has values at {few(keys, 3)}", True
         return
-    listed = [f"{name}[{','.join(map(shown, cell.key))}] in {diagnostic.rows_text([row])}" for found, cell, row in near if found == best][:3]
+    listed = [
+        f"{name}[{','.join(map(shown, cell.key))}] in {diagnostic.rows_text([row])}"
+        for found, cell, row in near
+        if found == best
+    ][:3]
     if near:
-        yield f"the data have no row of {diagnostic.detail}; {'the nearest: ' + ', '.join(listed) if best[0] else f'{name} is in {diagnostic.rows_text([near[0][2]])}'}", True
+        yield (
+            f"the data have no row of {diagnostic.detail};"
+            f" {'the nearest: ' + ', '.join(listed) if best[0] else f'{name} is in {diagnostic.rows_text([near[0][2]])}'}",
+            True,
+        )
 
 
 def nearness(key: Sequence[Member], wanted: Sequence[Member]) -> tuple[int, int]:
@@ -182,7 +231,11 @@ def given_twice(diagnostic: Diagnostic) -> Hints:
     found = named_cells(diagnostic)
     if diagnostic.text == "data" and len(found) > 1 and "[" in diagnostic.detail:
         (first, row), (second, other) = found[:2]
-        yield f"{diagnostic.detail} is {first.token.text} in {diagnostic.rows_text([row])} and {second.token.text} in {diagnostic.rows_text([other])}: remove one of the two", True
+        yield (
+            f"{diagnostic.detail} is {first.token.text} in {diagnostic.rows_text([row])} and {second.token.text} in"
+            f" {diagnostic.rows_text([other])}: remove one of the two",
+            True,
+        )
     elif diagnostic.text == "data" and not found and diagnostic.detail and "[" not in diagnostic.detail:
         yield from listed_twice(diagnostic)
 
@@ -190,9 +243,21 @@ def given_twice(diagnostic: Diagnostic) -> Hints:
 def crossed(diagnostic: Diagnostic) -> Hints:
     """Both bounds of an arc whose lower one is above its upper one, with their lines."""
     try:
-        world, (name, key) = Memberships(diagnostic.texts.get("model", ""), diagnostic.texts.get("data", "")), reference(diagnostic.detail)
+        world, (name, key) = Memberships(
+            diagnostic.texts.get("model", ""), diagnostic.texts.get("data", "")
+        ), reference(diagnostic.detail)
         decl = world.shapes.decls[name]
-        indices = [part.value for item in decl.braces.args if item.op == "in" for part in item.args[0].walk() if part.op == "name"] if decl.braces else []
+        indices = (
+            [
+                part.value
+                for item in decl.braces.args
+                if item.op == "in"
+                for part in item.args[0].walk()
+                if part.op == "name"
+            ]
+            if decl.braces
+            else []
+        )
         sides = [bound_text(diagnostic, world, decl.phrase(sign), dict(zip(indices, key))) for sign in (">=", "<=")]
     except (Unparsed, Unknown, Unreadable, ValueError, KeyError, IndexError, TypeError):
         return
@@ -216,13 +281,25 @@ def bound_text(diagnostic: Diagnostic, world: Memberships, phrase: Phrase | None
 def second_statement(diagnostic: Diagnostic) -> Hints:
     """A set or parameter with two statements, as in two data files that were joined."""
     name, words = diagnostic.detail.partition("[")[0], list(tokens(diagnostic.texts.get("data", "")))
-    rows = [word.row for word, following in zip(words, words[1:]) if word.text in ("set", "param") and following.bare() == name]
+    rows = [
+        word.row
+        for word, following in zip(words, words[1:])
+        if word.text in ("set", "param") and following.bare() == name
+    ]
     if diagnostic.text != "data" or diagnostic.is_change():
         return
     if "[" not in diagnostic.detail and re.match(rf"{re.escape(name)}\s+default\b", diagnostic.at()):
-        yield f"{name} has a default in an earlier statement: its statements are in {diagnostic.rows_text(rows)}; keep one default", True
+        yield (
+            f"{name} has a default in an earlier statement: its statements are in {diagnostic.rows_text(rows)};"
+            " keep one default",
+            True,
+        )
     elif len(rows) > 1 and rows[0] < diagnostic.row:
-        yield f"its first statement is in {diagnostic.rows_text(rows[:1])}; are two data files joined? Give both to the tools", True
+        yield (
+            f"its first statement is in {diagnostic.rows_text(rows[:1])}; are two data files joined? Give both to"
+            " the tools",
+            True,
+        )
 
 
 def listed_twice(diagnostic: Diagnostic) -> Hints:
@@ -230,8 +307,8 @@ def listed_twice(diagnostic: Diagnostic) -> Hints:
     words = list(tokens(diagnostic.texts.get("data", "")))
     for here in range(len(words) - 2):
         if words[here].text == "set" and words[here + 1].text == diagnostic.detail:
-            rest = words[here + 3:]
-            rest = rest[:next((at for at, token in enumerate(rest) if token.text == ";"), len(rest))]
+            rest = words[here + 3 :]
+            rest = rest[: next((at for at, token in enumerate(rest) if token.text == ";"), len(rest))]
             text = " ".join(token.text for token in rest)
             seen: dict[str, int] = {}
             for part in re.findall(r"\([^)]*\)", text) or text.split():
@@ -248,7 +325,11 @@ def no_value(diagnostic: Diagnostic) -> Hints:
     words = [token.text for token in tokens(diagnostic.texts.get("data", ""))]
     if diagnostic.text != "model" or not name or not words:
         return
-    changed = diagnostic.instance.changed if diagnostic.instance is not None and diagnostic.instance.is_from_python() else None
+    changed = (
+        diagnostic.instance.changed
+        if diagnostic.instance is not None and diagnostic.instance.is_from_python()
+        else None
+    )
     if changed is not None and (name not in words or "[" not in diagnostic.detail and name in changed.params):
         given = "is given without a value, as None or NaN" if name in words else "has no value"
         yield f"{name} {given}: give it to solve as {name}=.., or in a data file", True
@@ -276,12 +357,16 @@ def missing_in_set(diagnostic: Diagnostic) -> Hints:
             is_misspelt = any(sum(token.bare() == other for token in words) == 1 for other in others)
             if len(statements) > 1 and not is_misspelt and not key.exchanged():
                 rows = list(dict.fromkeys(token.row for token in used))
-                yield f"{key.key[first]} is not in {title}, and the data name it in {diagnostic.rows_text(rows[:3])}: is it missing in the set {title}?", True
+                yield (
+                    f"{key.key[first]} is not in {title}, and the data name it in {diagnostic.rows_text(rows[:3])}:"
+                    f" is it missing in the set {title}?",
+                    True,
+                )
 
 
 def statement_of(diagnostic: Diagnostic, row: int) -> int:
     """Returns how many statements end before a row."""
-    return sum(token.text == ";" for token in tokens("\n".join(diagnostic.texts["data"].split("\n")[:row - 1])))
+    return sum(token.text == ";" for token in tokens("\n".join(diagnostic.texts["data"].split("\n")[: row - 1])))
 
 
 HINTS: HintTable = (

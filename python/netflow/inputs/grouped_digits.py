@@ -23,9 +23,13 @@ def meant(text: str) -> str:
 
 
 def grouped_lines(model: str, data: Iterable[tuple[str | None, str]], changes: Iterable[str] = ()) -> list[str]:
-    """Returns a line for each parameter with such values, with the place of the first one. `data` are pairs of a name and a text, and
-    `changes` what the user wrote for a change, such as `--set van=1.200`."""
-    lines = [f"{said}: {meant(said.rpartition('=')[2])}" for said in dict.fromkeys(changes) if GROUPED.fullmatch(said.rpartition("=")[2])]
+    """Returns a line for each parameter with such values, with the place of the first one. `data` are pairs of a name
+    and a text, and `changes` what the user wrote for a change, such as `--set van=1.200`."""
+    lines = [
+        f"{said}: {meant(said.rpartition('=')[2])}"
+        for said in dict.fromkeys(changes)
+        if GROUPED.fullmatch(said.rpartition("=")[2])
+    ]
     try:
         pieces = [(name, text) for name, text in data if MAYBE.search(text)]
         lines += [line for name, text in pieces for line in lines_of_data(model, name, text)]

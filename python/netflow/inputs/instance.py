@@ -1,4 +1,5 @@
-"""A model with its data and options, as the program is asked: it scales decimals, joins data files and changes values if needed."""
+"""A model with its data and options, as the program is asked: it scales decimals, joins data files and changes values
+if needed."""
 from __future__ import annotations
 
 import os
@@ -11,39 +12,43 @@ from ..errors import DataError, ProgramError, ScaleError
 from ..exact import common_factor, parse_numeral
 from ..program import UNREADABLE_FILE, Answer, Session, call
 from ..reading.conditions import mark_open_sides
-from ..reading.data import DataText, Token
+from ..reading.data import DataText
 from ..reading.edits import EditedText
-from ..reading.model import Decl, Shapes, Unparsed, parse, tokens_of
+from ..reading.model import Decl, Shapes, Unparsed, parse
 from ..reading.network import Network
 from ..reading.output import read_compiled, read_cut, read_plan, read_prices
-from ..reading.text import read
-from ..types import Edit, Key, Member, Value
+from ..types import Edit, Key, Value
 from .decimals import CERTAIN, GRAMMAR, is_decimal, next_error
+from .overrides import Overrides, tokens_with_numbers
 from .python_data import PythonData, declared_text
 from .scaling import BOUND, Factors, Scaler, scaled_value
+from .source import Input, texts_of, unreadable
 
 # The beginning of the data of a model with data in one file.
-SECTION = re.compile(r"#[^\n]*|/\*.*?\*/|'(?:[^'\n]|'')*'|\"(?:[^\"\n]|\"\")*\"|;(?:\s|#[^\n]*\n|/\*.*?\*/)*(?P<data>data\s*;)", re.S)
+SECTION = re.compile(
+    r"#[^\n]*|/\*.*?\*/|'(?:[^'\n]|'')*'|\"(?:[^\"\n]|\"\")*\"|;(?:\s|#[^\n]*\n|/\*.*?\*/)*(?P<data>data\s*;)", re.S
+)
 MAYBE_DECIMAL = re.compile(r"[.eEdD]")
 PLACE = re.compile(r"(E\d\d \w+ (model|data)) (\d+):(\d+)(.*)", re.S)
 
 
-class Input:
-    """A model or data text: a file, or a text in memory. `name` is what the user calls it; `path` can be a copy of a pipe."""
-
-    def __init__(self, path: str | None = None, text: str | None = None, name: str | None = None) -> None:
-        self.path, self.name, self.given = path, path if name is None else name, text
-
-    def text(self) -> str:
-        return self.given if self.given is not None else read(self.path)
-
-
 class Instance:
-    """`changes` are sets and parameters by name that replace those of the data; `scale` has factors by parameter; with `add_bounds` an
-    arc without a bound gets one that no plan reaches. `origins` says for a name with a key what the user wrote for the change."""
+    """`changes` are sets and parameters by name that replace those of the data; `scale` has factors by parameter; with
+    `add_bounds` an arc without a bound gets one that no plan reaches. `origins` says for a name with a key what the
+    user wrote for the change.
+    """
 
-    def __init__(self, model: Input, data: Sequence[Input] = (), *, objective: str | None = None, changes: Mapping[str, Any] | None = None,
-                 scale: Mapping[str, int] | None = None, add_bounds: bool = False, origins: Mapping[tuple[str, Key], str] | None = None) -> None:
+    def __init__(
+        self,
+        model: Input,
+        data: Sequence[Input] = (),
+        *,
+        objective: str | None = None,
+        changes: Mapping[str, Any] | None = None,
+        scale: Mapping[str, int] | None = None,
+        add_bounds: bool = False,
+        origins: Mapping[tuple[str, Key], str] | None = None,
+    ) -> None:
         self.model, self.data, self.changes = model, list(data), dict(changes or {})
         self.scale, self.add_bounds, self.objective = dict(scale or {}), add_bounds, objective
         self.options = [] if objective is None else ["--objective", objective]
@@ -83,8 +88,11 @@ class Instance:
             is_parsed = isinstance(failed, ScaleError)
             for self.parsed in range(len(self.data)) if is_parsed else [self.parsed]:
                 self.report_text(GRAMMAR if is_parsed else CERTAIN)
-            raise failed if not isinstance(failed, Unparsed) else \
-                DataError(f"the model or its data have a form that options cannot change (offset {failed.offset})")
+            raise (
+                failed
+                if not isinstance(failed, Unparsed)
+                else DataError(f"the model or its data have a form that options cannot change (offset {failed.offset})")
+            )
         self.use_files()
 
     def split_model(self) -> None:
@@ -98,7 +106,7 @@ class Instance:
 
     def report_text(self, kinds: re.Pattern[str]) -> None:
         """Raises the program's error for the model, or for the data text `parsed`, besides its decimals."""
-        above = sum(source.text().count("\n") + 1 for source in self.data[:self.parsed])
+        above = sum(source.text().count("\n") + 1 for source in self.data[: self.parsed])
         source = self.data[self.parsed] if self.parsed < len(self.data) else None
         self.use_files(source)
         problem = next_error(self.session, kinds)
@@ -108,7 +116,11 @@ class Instance:
         if not above or source is None or found is None or found[2] == "model":
             raise problem
         row, rest = int(found[3]), f"{found[4]}{found[5].rstrip()}"
-        raise ProgramError(problem.status, f"{found[1]} {row}:{rest}\nin {source.name or 'the text'}:{row}:{found[4]}\n", f"{found[1]} {row + above}:{rest}\n")
+        raise ProgramError(
+            problem.status,
+            f"{found[1]} {row}:{rest}\nin {source.name or 'the text'}:{row}:{found[4]}\n",
+            f"{found[1]} {row + above}:{rest}\n",
+        )
 
     def require_files(self) -> None:
         """Raises the error of the program for the first file that cannot be read."""
@@ -120,10 +132,14 @@ class Instance:
     def use_files(self, data: Input | None = None) -> None:
         """Gives the program the model and one data text, the first if none is given, as they are."""
         data = data or (self.data[0] if self.data else Input(os.devnull))
-        self.session.files = [source.path if source.path is not None else self.session.write(source.text()) for source in (self.model, data)]
+        self.session.files = [
+            source.path if source.path is not None else self.session.write(source.text())
+            for source in (self.model, data)
+        ]
 
     def ask(self, command: str) -> Answer:
-        """Calls `solve` or `compile`. When the program meets a decimal, the texts are scaled, or have another error, which is reported."""
+        """Calls `solve` or `compile`. When the program meets a decimal, the texts are scaled, or have another error,
+        which is reported."""
         self.prepare()
         try:
             return self.session.ask(command)
@@ -151,8 +167,16 @@ class Instance:
     def placed(self, problem: ProgramError) -> ProgramError:
         """Returns the error with its place in the text that the user gave."""
         if problem.message.startswith("E90 "):
-            path = self.model.path if " model" in problem.message else next((source.path for source in self.data if source.path), None)
-            return ProgramError(problem.status, f"{problem.message.rstrip()}: {path}: {unreadable(path)}\n") if path else problem
+            path = (
+                self.model.path
+                if " model" in problem.message
+                else next((source.path for source in self.data if source.path), None)
+            )
+            return (
+                ProgramError(problem.status, f"{problem.message.rstrip()}: {path}: {unreadable(path)}\n")
+                if path
+                else problem
+            )
         found = PLACE.fullmatch(problem.message)
         edited = self.edited.get(found[2]) if found else None
         if not edited or found is None:
@@ -171,10 +195,15 @@ class Instance:
         if len(edited) < 2:
             return ProgramError(problem.status, line)
         path, place = self.source_of(row)
-        return ProgramError(problem.status, f"{found[1]} {place}:{column}{found[5].rstrip()}\nin {path or 'the text'}:{place}:{column}\n", line)
+        return ProgramError(
+            problem.status,
+            f"{found[1]} {place}:{column}{found[5].rstrip()}\nin {path or 'the text'}:{place}:{column}\n",
+            line,
+        )
 
     def source_of(self, row: int) -> tuple[str | None, int]:
-        """Returns the name of the file of a line of the joined data with the line in that file; (None, 0) for a change."""
+        """Returns the name of the file of a line of the joined data with the line in that file; (None, 0) for a
+        change."""
         if self.change_at(row):
             return None, 0
         for part in self.data[:-1]:
@@ -193,8 +222,11 @@ class Instance:
         if self.changed is None or row <= 0 or not self.changed.origins:
             return ""
         name, key, _ = self.changed.place(row)
-        return (key is not None and self.origins.get((name, key))) or next((said for (other, _), said in self.origins.items() if other == name and not key), "") \
+        return (
+            (key is not None and self.origins.get((name, key)))
+            or next((said for (other, _), said in self.origins.items() if other == name and not key), "")
             or self.changed.described(row)
+        )
 
     def is_from_python(self) -> bool:
         """Whether values are given by Python, not by options of a command."""
@@ -243,6 +275,7 @@ class Instance:
         """Raises Unbounded if an added bound is what limits the objective."""
         if self.add_bounds:
             from ..graphs.problem import require_bounded
+
             require_bounded(net)
 
     # Rewriting
@@ -259,13 +292,17 @@ class Instance:
             pieces.append(DataText(source.text(), params, shapes.sets))
             self.parsed += 1
         # On the command line quotes say what is a text.
-        changes = PythonData(self.changes, shapes.sets, params, None if self.origins else texts_of(model, pieces), shapes)
+        changes = PythonData(
+            self.changes, shapes.sets, params, None if self.origins else texts_of(model, pieces), shapes
+        )
         edits = [Overrides(pieces, changes).edits(piece) for piece in pieces]
         needed = self.needed(pieces, changes, edits)
         unknown = {name: factor for name, factor in needed.items() if name not in params}
         for name, factor in self.scale.items():
             if name not in params:
-                raise DataError(f"scale of {name}: the model declares no such parameter{declared_text(shapes, name, 'param')}")
+                raise DataError(
+                    f"scale of {name}: the model declares no such parameter{declared_text(shapes, name, 'param')}"
+                )
             needed[name] = factor
         factors, model_edits = Scaler(decls, needed, self.objective, self.add_bounds).scale()
         self.factors = factors
@@ -283,9 +320,13 @@ class Instance:
     def dropped(model: str, decl: Decl) -> Edit:
         """The edit that takes a `:=` out of the model, since a change gives the value."""
         phrase = next(phrase for phrase in decl.phrases if phrase.word == ":=")
-        before = model[:phrase.start].rstrip()
+        before = model[: phrase.start].rstrip()
         start = len(before) - 1 if before.endswith(",") else phrase.start
-        return start, phrase.end, re.sub(r"[^\n]", " ", model[start:phrase.end]) if "\n" in model[start:phrase.end] else ""
+        return (
+            start,
+            phrase.end,
+            re.sub(r"[^\n]", " ", model[start : phrase.end]) if "\n" in model[start : phrase.end] else "",
+        )
 
     def needed(self, pieces: list[DataText], changes: PythonData, edits: list[list[Edit]]) -> dict[str, int]:
         """The factor that makes the values of each parameter whole."""
@@ -293,7 +334,9 @@ class Instance:
         for piece, made in zip(pieces, edits):
             gone = {start for start, _, _ in made}
             for name, token in tokens_with_numbers(piece):
-                number = parse_numeral(token.text) if token.start not in gone and MAYBE_DECIMAL.search(token.text) else None
+                number = (
+                    parse_numeral(token.text) if token.start not in gone and MAYBE_DECIMAL.search(token.text) else None
+                )
                 if number is not None:
                     values.setdefault(name, []).append(number)
         return {name: common_factor(numbers) for name, numbers in values.items()}
@@ -312,75 +355,3 @@ class Instance:
                 if number is not None:
                     found.append((token.start, token.end, str(scaled_value(name, number, factor))))
         return found
-
-
-def unreadable(path: str) -> str:
-    """Returns why a file cannot be read; an empty text if it can be."""
-    try:
-        with open(path, "rb") as file:
-            file.read(1)
-    except OSError as problem:
-        return problem.strerror or str(problem)
-    return ""
-
-
-def tokens_with_numbers(piece: DataText) -> list[tuple[str, Token]]:
-    found = []
-    for statement in piece.statements:
-        found += [(cell.name, cell.token) for cell in statement.cells if cell.token.kind == "word"]
-        if statement.default is not None:
-            found.append((statement.name, statement.default))
-    return found
-
-
-def texts_of(model: str, pieces: list[DataText]) -> set[Member]:
-    """Returns the texts that a model and its data have as members."""
-    texts: set[Member] = {
-        token.text[1:-1].replace(token.text[0] * 2, token.text[0]) for token in tokens_of(model) if token.text[0] in "'\""
-    }
-    return texts | {part for piece in pieces for statement in piece.statements for part in statement.members}
-
-
-class Overrides:
-    """What later data replace: cells by name and key, sets and defaults by name."""
-
-    def __init__(self, pieces: list[DataText], changes: PythonData) -> None:
-        self.pieces, self.changes = pieces, changes
-
-    def edits(self, piece: DataText) -> list[Edit]:
-        """Returns the edits that take out of a data text what later ones say, and its frame, `data;` and `end;`."""
-        cells, sets, defaults = set(), set(self.changes.sets), set()
-        cells |= {(name, key) for name, rows in self.changes.params.items() for key in rows}
-        for later in self.pieces[self.pieces.index(piece) + 1:]:
-            cells |= {(cell.name, cell.key) for cell in later.cells()}
-            sets |= {st.name if st.kind == "set" else st.set_name for st in later.statements}
-            defaults |= {st.name for st in later.statements if st.default is not None}
-        found = [blank(piece.text, token.start, token.end) for token in piece.frame]
-        for statement in piece.statements:
-            if statement.kind == "set" and statement.name in sets:
-                found += blanks(piece.text, statement.start, statement.end)
-                continue
-            if statement.set_name and statement.set_name in sets:
-                found += [blank(piece.text, token.start, token.end) for token in statement.set_tokens]
-            if statement.default is not None and statement.name in defaults:
-                found += [
-                    blank(piece.text, token.start, token.end)
-                    for token in (statement.default_word, statement.default)
-                    if token is not None
-                ]
-            found += [(cell.token.start, cell.token.end, ".") for cell in statement.cells if (cell.name, cell.key) in cells]
-        return found
-
-
-def blank(text: str, start: int, end: int) -> Edit:
-    return start, end, " " * (end - start)
-
-
-def blanks(text: str, start: int, end: int) -> list[Edit]:
-    """Blanks in place of a part of a text, line by line."""
-    found, at = [], start
-    for line in text[start:end].split("\n"):
-        if line:
-            found.append(blank(text, at, at + len(line)))
-        at += len(line) + 1
-    return found

@@ -30,28 +30,46 @@ def override(values: dict[str, Any], others: Mapping[str, Any]) -> None:
     """Adds sets and parameters to those of a dict, which they override."""
     for name, value in others.items():
         before = values.get(name)
-        values[name] = Layers([*(before if isinstance(before, Layers) else [before]), value]) if name in values else value
+        values[name] = (
+            Layers([*(before if isinstance(before, Layers) else [before]), value]) if name in values else value
+        )
 
 
 class PythonData:
-    """Sets and parameters by name; `sets` are lists of tuples, `params` dicts from keys to a Fraction or a text. `origins` has for each
-    line of the text what it says: a name, with the key of its value or the member, or None if the line is a statement's first or last.
+    """Sets and parameters by name; `sets` are lists of tuples, `params` dicts from keys to a Fraction or a text.
+    `origins` has for each line of the text what it says: a name, with the key of its value or the member, or None if
+    the line is a statement's first or last.
 
-    A part of a key that is a text in the form of a number becomes that number, unless a set has the text as a member: `texts` are those
-    of the model and of data texts. With None every text stays one."""
+    A part of a key that is a text in the form of a number becomes that number, unless a set has the text as a member:
+    `texts` are those of the model and of data texts. With None every text stays one."""
 
-    def __init__(self, values: dict[str, Any], sets: dict[str, int], keys: dict[str, int], texts: set[Member] | None = None, shapes: Shapes | None = None) -> None:
+    def __init__(
+        self,
+        values: dict[str, Any],
+        sets: dict[str, int],
+        keys: dict[str, int],
+        texts: set[Member] | None = None,
+        shapes: Shapes | None = None,
+    ) -> None:
         shapes = shapes or Shapes([])
         layers = {name: value if isinstance(value, Layers) else Layers([value]) for name, value in values.items()}
-        self.sets: dict[str, list[Key]] = {name: members_of(name, value[-1], sets[name]) for name, value in layers.items() if name in sets}
+        self.sets: dict[str, list[Key]] = {
+            name: members_of(name, value[-1], sets[name]) for name, value in layers.items() if name in sets
+        }
         self.params: dict[str, dict[Key, Value]] = {}
         self.origins: list[tuple[str, Key | None]] = []
         kept = None if texts is None else texts | {part for rows in self.sets.values() for row in rows for part in row}
         for name, given in layers.items():
             if name in keys:
-                self.params[name] = {key: leaf for value in given for key, leaf in rows_of(name, value, keys[name], kept, shapes.head(name)).items()}
+                self.params[name] = {
+                    key: leaf
+                    for value in given
+                    for key, leaf in rows_of(name, value, keys[name], kept, shapes.head(name)).items()
+                }
             elif name not in sets:
-                raise DataError(f"{name}: the model declares no such set or parameter{declared_text(shapes, name, 'set', 'param')}")
+                raise DataError(
+                    f"{name}: the model declares no such set or parameter{declared_text(shapes, name, 'set', 'param')}"
+                )
 
     def numbers(self, name: str) -> list[Fraction]:
         return [number for number in self.params[name].values() if isinstance(number, Fraction)]
@@ -59,10 +77,15 @@ class PythonData:
     def text(self, factors: dict[str, int], add_bounds: bool) -> str:
         """Returns the statements, the numbers times the factors of their parameters."""
         parts = [set_statement(name, members) for name, members in self.sets.items()]
-        self.origins = [(name, key) for name, rows in (*self.sets.items(), *self.params.items()) for key in (None, *rows, None)]
+        self.origins = [
+            (name, key) for name, rows in (*self.sets.items(), *self.params.items()) for key in (None, *rows, None)
+        ]
         for name, rows in self.params.items():
             factor = factors.get(name, 1)
-            lines = [" ".join([*map(member_text, key), self.value_text(name, value, factor, add_bounds)]) for key, value in rows.items()]
+            lines = [
+                " ".join([*map(member_text, key), self.value_text(name, value, factor, add_bounds)])
+                for key, value in rows.items()
+            ]
             parts.append("\n".join([f"param {name} :=", *lines, ";"]) + "\n")
         return "".join(parts)
 
@@ -72,7 +95,8 @@ class PythonData:
         return name, key, None if key is None else self.params.get(name, {}).get(key)
 
     def described(self, row: int) -> str:
-        """Returns what a line of the text says: `the value of van`, `key ('north', 'hill') of cost`, `member 'hill' of SHOPS`."""
+        """Returns what a line of the text says: `the value of van`, `key ('north', 'hill') of cost`, `member 'hill' of
+        SHOPS`."""
         name, key, _ = self.place(row)
         if not key:
             return f"{'the members' if name in self.sets else 'the value' if key == () else 'the values'} of {name}"
@@ -83,7 +107,9 @@ class PythonData:
             return str(scaled_value(name, value, factor))
         if isinstance(value, float):
             if not add_bounds:
-                raise DataError(f"{name}: {value} is no number of a model; bounds=True adds a bound that no plan reaches")
+                raise DataError(
+                    f"{name}: {value} is no number of a model; bounds=True adds a bound that no plan reaches"
+                )
             return str(BOUND if value > 0 else -BOUND)
         return member_text(value)
 
@@ -92,10 +118,16 @@ def members_of(name: str, value: Any, size: int) -> list[Key]:
     """Returns the members of a set as tuples."""
     if isinstance(value, str) or not hasattr(value, "__iter__"):
         members = value.replace(",", " ").split() if isinstance(value, str) else [value]
-        raise DataError(f"set {name}: {value!r} is {'a text' if isinstance(value, str) else 'no list'}; expected a list of members, such as {members!r}")
+        raise DataError(
+            f"set {name}: {value!r} is {'a text' if isinstance(value, str) else 'no list'}; expected a list of members,"
+            f" such as {members!r}"
+        )
     if is_frame(value):
         if len(value.columns) != size:
-            raise DataError(f"set {name}: the table has {parts(value.columns, 'column')}; expected {size}, one for each part of a member")
+            raise DataError(
+                f"set {name}: the table has {parts(value.columns, 'column')}; expected {size}, one for each part of a"
+                " member"
+            )
         value = value.itertuples(index=False, name=None)
     found = [tuple(plain(part, f"set {name}") for part in (row if is_row(row) else (row,))) for row in value]
     seen = set()
@@ -129,13 +161,17 @@ def parts(row: Sized, what: str = "part") -> str:
 
 
 def declared_text(shapes: Shapes, name: str, *kinds: str) -> str:
-    """Returns which name of the model is probably meant by an unknown one, or what the model declares by these words."""
+    """Returns which name of the model is probably meant by an unknown one, or what the model declares by these
+    words."""
     known = [name for kind in kinds for name in shapes.names(kind)]
     meant = difflib.get_close_matches(name, known, 1, 0.6)
     if meant:
         return f"; is {meant[0]} meant?"
     if name in shapes.decls:
-        return f": {name} is {'an' if shapes.decls[name].kind == 'arc' else 'a'} {shapes.decls[name].kind}, and only sets and parameters have data"
+        return (
+            f": {name} is {'an' if shapes.decls[name].kind == 'arc' else 'a'} {shapes.decls[name].kind}, and only sets"
+            " and parameters have data"
+        )
     option = difflib.get_close_matches(name, OPTIONS, 1, 0.7)
     if option:
         return f"; is the option {option[0]} meant?"
@@ -143,15 +179,22 @@ def declared_text(shapes: Shapes, name: str, *kinds: str) -> str:
 
 
 def rows_of(name: str, value: Any, size: int, texts: set[Member] | None, head: str) -> dict[Key, Value]:
-    """Returns the values of a parameter by key; a missing value (None, NaN) has no entry. `texts` are members that stay texts; `head` is
-    the name with the braces of its declaration."""
+    """Returns the values of a parameter by key; a missing value (None, NaN) has no entry. `texts` are members that stay
+    texts; `head` is the name with the braces of its declaration."""
     found: dict[Key, Value] = {}
     seen = set()
     for key, item in pairs_of(name, value, size):
         key = tuple(key_part(plain(part, f"param {name}"), texts) for part in key)
         if len(key) != size:
-            raise DataError(f"param {name}: the key {key_text(key)} has {parts(key)}; expected {size}, one member for each index of {head}" if size else
-                            f"param {name}: {name} has one value and no keys; expected a number or a text, not the key {key_text(key)}")
+            raise DataError(
+                f"param {name}: the key {key_text(key)} has {parts(key)}; expected {size}, one member for each index of"
+                f" {head}"
+                if size
+                else (
+                    f"param {name}: {name} has one value and no keys; expected a number or a text, not the key"
+                    f" {key_text(key)}"
+                )
+            )
         if key in seen:
             raise DataError(f"param {name}: the key {key_text(key)} is given twice")
         seen.add(key)
@@ -162,7 +205,8 @@ def rows_of(name: str, value: Any, size: int, texts: set[Member] | None, head: s
 
 
 def key_part(part: Member, texts: set[Member] | None) -> Member:
-    """Returns a part of a key as a member: a text as its number, as a sheet has it, unless it is in `texts`, or these are None."""
+    """Returns a part of a key as a member: a text as its number, as a sheet has it, unless it is in `texts`, or these
+    are None."""
     is_number = texts is not None and isinstance(part, str) and part not in texts and KEY_NUMBER.fullmatch(part)
     return int(part) if is_number else part
 
@@ -179,7 +223,9 @@ def value_of(name: str, value: Any) -> Value | None:
         return number
     if isinstance(value, float) or hasattr(value, "__float__"):
         return float(value)
-    raise DataError(f"param {name}: {value!r} is no value; expected a number (int, float, Fraction or Decimal) or a text")
+    raise DataError(
+        f"param {name}: {value!r} is no value; expected a number (int, float, Fraction or Decimal) or a text"
+    )
 
 
 def is_missing(value: Any) -> bool:
@@ -213,7 +259,9 @@ def pairs_of(name: str, value: Any, size: int) -> Iterable[Pair]:
     if size == 0:
         return [((), value)]
     if isinstance(value, str) or not hasattr(value, "__iter__"):
-        raise DataError(f"param {name}: {value!r} has no keys; expected a key of {parts(range(size))} for each value: {FORMS}")
+        raise DataError(
+            f"param {name}: {value!r} has no keys; expected a key of {parts(range(size))} for each value: {FORMS}"
+        )
     return row_pairs(name, value, size)
 
 
@@ -253,13 +301,20 @@ def row_pairs(name: str, rows: Iterable[Any], size: int) -> Iterable[Pair]:
         if hasattr(row, "items"):
             keys = [value for title, value in row.items() if title != name]
             if name not in row:
-                raise DataError(f"param {name}: the row {row!r} has no column {name!r}; expected the value in a column of this name")
+                raise DataError(
+                    f"param {name}: the row {row!r} has no column {name!r}; expected the value in a column of this name"
+                )
             if len(keys) < size:
-                raise DataError(f"param {name}: the row {row!r} has {parts(keys, 'column')} for the key; expected {size}")
+                raise DataError(
+                    f"param {name}: the row {row!r} has {parts(keys, 'column')} for the key; expected {size}"
+                )
             yield tuple(keys[:size]), row[name]
         else:
             if isinstance(row, str) or not hasattr(row, "__iter__"):
-                raise DataError(f"param {name}: {row!r} in the list has no key; expected a key of {parts(range(size))} and a value: {FORMS}")
+                raise DataError(
+                    f"param {name}: {row!r} in the list has no key; expected a key of {parts(range(size))} and a value:"
+                    f" {FORMS}"
+                )
             row = tuple(row)
             if len(row) != size + 1:
                 raise DataError(f"param {name}: {row!r} has {parts(row)}; expected {size + 1}, the key and the value")

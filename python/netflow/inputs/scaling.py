@@ -1,8 +1,9 @@
 """Scales models and data with decimals to whole numbers, exactly, and says by which factors.
 
-Each parameter has a factor: the least power of ten that makes its values whole, or a given one. Each expression then has a factor
-too: that of a product is the product, and the terms of a sum are brought to a common one by whole numbers that are written into
-the model. All bounds and conditions share one factor (of flows), all prices of an objective another one (of costs).
+Each parameter has a factor: the least power of ten that makes its values whole, or a given one. Each expression then
+has a factor too: that of a product is the product, and the terms of a sum are brought to a common one by whole numbers
+that are written into the model. All bounds and conditions share one factor (of flows), all prices of an objective
+another one (of costs).
 """
 from __future__ import annotations
 
@@ -20,8 +21,8 @@ BOUND = 10**11
 
 @dataclasses.dataclass
 class Factors:
-    """By what the numbers of the scaled model are larger: flows, prices of an arc, and the objective's value. `in_flows` are the
-    parameters with decimals in bounds and conditions, because of which flows are."""
+    """By what the numbers of the scaled model are larger: flows, prices of an arc, and the objective's value.
+    `in_flows` are the parameters with decimals in bounds and conditions, because of which flows are."""
 
     flow: int = 1
     cost: int = 1
@@ -37,9 +38,12 @@ class Factors:
 
 
 class Scaler:
-    """Computes the factors of a model and the edits that scale it. `needed` has the factor that the data of a parameter need."""
+    """Computes the factors of a model and the edits that scale it. `needed` has the factor that the data of a parameter
+    need."""
 
-    def __init__(self, decls: list[Decl], needed: dict[str, int], objective: str | None, add_bounds: bool = False) -> None:
+    def __init__(
+        self, decls: list[Decl], needed: dict[str, int], objective: str | None, add_bounds: bool = False
+    ) -> None:
         self.decls, self.needed, self.add_bounds = decls, needed, add_bounds
         self.arcs = {decl.name for decl in decls if decl.kind == "arc"}
         self.params: dict[str, int] = {}
@@ -66,8 +70,13 @@ class Scaler:
 
     def in_flows(self) -> list[str]:
         """Returns the parameters with decimals in bounds and conditions."""
-        exprs = [expr for decl in self.decls for phrase in decl.phrases for expr in phrase.exprs
-                 if decl.kind == "node" or decl.kind == "arc" and phrase.word in (">=", "<=")]
+        exprs = [
+            expr
+            for decl in self.decls
+            for phrase in decl.phrases
+            for expr in phrase.exprs
+            if decl.kind == "node" or decl.kind == "arc" and phrase.word in (">=", "<=")
+        ]
         names = []
         for expr in exprs:
             exprs += expr.args
@@ -78,15 +87,23 @@ class Scaler:
         factor = self.needed.get(decl.name, 1)
         for phrase in decl.phrases:
             if phrase.word in ("symbolic", "integer", "in") and factor > 1:
-                raise ScaleError(f"param {decl.name} has decimals, but the model declares it as {phrase.word}", decl.name, factor)
+                raise ScaleError(
+                    f"param {decl.name} has decimals, but the model declares it as {phrase.word}", decl.name, factor
+                )
             if phrase.exprs and phrase.word != "in":
                 factor = math.lcm(factor, self.factor(phrase.exprs[0]))
         return factor
 
     def bound_factors(self, decl: Decl) -> list[int]:
         if decl.kind == "node":
-            return [self.factor(term) for side in decl.phrases[0].exprs[0].args for term in terms(side) if not is_net(term)]
-        return [self.factor(phrase.exprs[0]) for phrase in decl.phrases if phrase.word in (">=", "<=") and not is_infinite(phrase.exprs[0])]
+            return [
+                self.factor(term) for side in decl.phrases[0].exprs[0].args for term in terms(side) if not is_net(term)
+            ]
+        return [
+            self.factor(phrase.exprs[0])
+            for phrase in decl.phrases
+            if phrase.word in (">=", "<=") and not is_infinite(phrase.exprs[0])
+        ]
 
     def cost_factor(self) -> int:
         """The factor of prices of the chosen objective."""
@@ -228,9 +245,15 @@ class Scaler:
     def emit_index(self, expr: Expr) -> None:
         """Members, sets and indexing: what has decimals cannot be used there."""
         if expr.op == "name" and self.params.get(expr.value, 1) != 1:
-            raise ScaleError(f"param {expr.value} has decimals and is used as a member or in a set", expr.value, self.params[expr.value])
+            raise ScaleError(
+                f"param {expr.value} has decimals and is used as a member or in a set",
+                expr.value,
+                self.params[expr.value],
+            )
         if expr.op == "num" and self.factor(expr) != 1:
-            raise ScaleError(f"the number {expr.value} has decimals and is used as a member or in a set", is_numeral=True)
+            raise ScaleError(
+                f"the number {expr.value} has decimals and is used as a member or in a set", is_numeral=True
+            )
         if expr.op in ("+", "-", "*", "sign", "reduce", "div", "mod"):
             if self.factor(expr) != 1:
                 raise ScaleError("an expression with decimals is used as a member or in a set")
@@ -241,7 +264,11 @@ class Scaler:
             self.emit_truth(expr.args[-1])
             parts = expr.args[:-1]
         for part in parts:
-            (self.emit_truth if part.op in ("and", "or", "not", "=", "==", "<>", "!=", "<", "<=", ">", ">=") else self.emit_index)(part)
+            (
+                self.emit_truth
+                if part.op in ("and", "or", "not", "=", "==", "<>", "!=", "<", "<=", ">", ">=")
+                else self.emit_index
+            )(part)
 
 
 def terms(expr: Expr) -> list[Expr]:

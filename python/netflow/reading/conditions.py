@@ -8,7 +8,11 @@ from .network import Network
 def mark_open_sides(net: Network, model: str) -> None:
     """Marks the open sides of the nodes; leaves a network as it is if the model cannot be parsed."""
     try:
-        sides = {decl.name: open_sides(decl.phrases[0].exprs[0]) for decl in parse(model) if decl.kind == "node" and decl.phrases}
+        sides = {
+            decl.name: open_sides(decl.phrases[0].exprs[0])
+            for decl in parse(model)
+            if decl.kind == "node" and decl.phrases
+        }
     except Unparsed:
         return
     for node in net.nodes:

@@ -15,10 +15,13 @@ from .model import Unparsed
 # A bare word may have letters of any script; `.` continues a word, so a number with a point is one word.
 TOKEN = re.compile(
     r"(?P<skip>[ \t\r\n]+|#[^\n]*|/\*.*?\*/)|(?P<text>'(?:[^'\n]|'')*'|\"(?:[^\"\n]|\"\")*\")"
-    r"|(?P<mark>:=|[;:,()\[\]*])|(?P<word>[\w.+\-\u00b7]+)", re.S)
+    r"|(?P<mark>:=|[;:,()\[\]*])|(?P<word>[\w.+\-\u00b7]+)",
+    re.S,
+)
 # A name that needs no quotes in a data text: no number, and none of the words that begin or end statements.
 PLAIN_NAME = re.compile(r"(?!(?:set|param|data|end|default)\Z)[A-Za-z_]\w*", re.A)
-# A text that is a number as a member: one that is written back as it is, so that `01067` and `+5` stay texts; not past 10^12.
+# A text that is a number as a member: one that is written back as it is, so that `01067` and `+5` stay texts; not past
+# 10^12.
 KEY_NUMBER = re.compile(r"-?[1-9][0-9]{0,11}|0")
 
 
@@ -54,8 +57,8 @@ class Cell:
 
 @dataclasses.dataclass
 class Statement:
-    """A statement: `kind` is set or param; `cells` its values, `defaults` the token of `default`, if any; `set_name` the set that the
-    rows of a `param` statement fill too, with the tokens of its name and colon in `set_tokens`."""
+    """A statement: `kind` is set or param; `cells` its values, `defaults` the token of `default`, if any; `set_name`
+    the set that the rows of a `param` statement fill too, with the tokens of its name and colon in `set_tokens`."""
 
     kind: str
     name: str
@@ -85,8 +88,8 @@ def tokens_of(text: str) -> list[Token]:
 
 
 class DataText:
-    """The statements of a data text. `keys` and `sets` give the number of key parts of parameters and of set members; in joined texts
-    `data;` and `end;` can be anywhere."""
+    """The statements of a data text. `keys` and `sets` give the number of key parts of parameters and of set members;
+    in joined texts `data;` and `end;` can be anywhere."""
 
     def __init__(self, text: str, keys: dict[str, int], sets: dict[str, int], is_joined: bool = False) -> None:
         self.text, self.keys, self.sets, self.is_joined = text, keys, sets, is_joined
@@ -119,17 +122,17 @@ class DataText:
             raise Unparsed(last.start)
         if made.kind == "set":
             made.name = str(words[1].member())
-            made.members = [word.member() for word in words[cut + 1:] if word.kind != "mark"]
+            made.members = [word.member() for word in words[cut + 1 :] if word.kind != "mark"]
             return made
-        head, body = words[1:cut], words[cut + 1:]
+        head, body = words[1:cut], words[cut + 1 :]
         at = 0
         if head and head[0].kind == "word":
             made.name, at = head[0].text, 1
         if at + 1 < len(head) and head[at].text == "default":
             made.default_word, made.default = head[at], head[at + 1]
             at += 2
-        is_turned = [token.text for token in head[at:at + 3]] == ["(", "tr", ")"]
-        self.rows(made, head[at + 3 * is_turned:], body, is_turned)
+        is_turned = [token.text for token in head[at : at + 3]] == ["(", "tr", ")"]
+        self.rows(made, head[at + 3 * is_turned :], body, is_turned)
         return made
 
     def rows(self, made: Statement, heading: list[Token], body: list[Token], is_turned: bool) -> None:
@@ -140,7 +143,7 @@ class DataText:
                 made.cells.append(Cell(made.name, tuple(token.member() for token in row[:-1]), row[-1]))
             return
         marks = [here for here, token in enumerate(heading) if is_mark(token, ":")]
-        columns = heading[marks[-1] + 1:] if marks else []
+        columns = heading[marks[-1] + 1 :] if marks else []
         if not columns:
             raise Unparsed(heading[0].start)
         if made.name:
@@ -173,10 +176,11 @@ def groups(tokens: list[Token], size: int) -> Iterator[list[Token]]:
     plain = [token for token in tokens if token.kind != "mark"]
     if len(plain) % size:
         raise Unparsed(plain[-1].start if plain else 0)
-    return (plain[start:start + size] for start in range(0, len(plain), size))
+    return (plain[start : start + size] for start in range(0, len(plain), size))
 
 
 # Writing
+
 
 def member_text(member: Any) -> str:
     """Returns a member as a data text has it: a number bare, a text with quotes if it needs them."""
@@ -196,7 +200,9 @@ def member_text(member: Any) -> str:
 
 def set_statement(name: str, members: Sequence[Key]) -> str:
     """Returns the statement of a set, its members as tuples."""
-    rows = [member_text(member[0]) if len(member) == 1 else f"({','.join(map(member_text, member))})" for member in members]
+    rows = [
+        member_text(member[0]) if len(member) == 1 else f"({','.join(map(member_text, member))})" for member in members
+    ]
     return "\n".join([f"set {name} :=", *rows, ";"]) + "\n"
 
 

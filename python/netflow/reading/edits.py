@@ -27,10 +27,10 @@ class EditedText:
         lines = self.text.split("\n")
         if not (1 <= row <= len(lines)) or not column:
             return row, column
-        before = lines[row - 1].encode("utf-8", "surrogateescape")[:column - 1].decode("utf-8", "surrogateescape")
+        before = lines[row - 1].encode("utf-8", "surrogateescape")[: column - 1].decode("utf-8", "surrogateescape")
         wanted, start = len(before), self.starts[row - 1] if row <= len(self.starts) else len(self.original)
         shift = 0
-        for first, last, new in self.edits[bisect.bisect_left(self.edits, (start,)):]:
+        for first, last, new in self.edits[bisect.bisect_left(self.edits, (start,)) :]:
             if first - start + shift >= wanted and first != last:
                 break
             if first - start + shift > wanted:

@@ -1,4 +1,5 @@
-"""What the texts of a model say to a reader: what the parts of keys are called, the first comment, texts that look like numbers.
+"""What the texts of a model say to a reader: what the parts of keys are called, the first comment, texts that look like
+numbers.
 
 These are readings without the grammar: they can be wrong, and only texts for people depend on them.
 """
@@ -17,7 +18,7 @@ def braces_of(text: str, name: str) -> list[str]:
     words = [token.text for token in tokens(text)]
     for here in range(len(words) - 3):
         if words[here] == "arc" and words[here + 1] == name and words[here + 2] == "{":
-            return list(before_condition(words[here + 3:]))
+            return list(before_condition(words[here + 3 :]))
     return []
 
 
@@ -48,13 +49,13 @@ NAME = re.compile(r"[A-Za-z_]\w*")
 
 
 def headings(text: str, name: str, count: int) -> list[str]:
-    """Returns what the parts of a key are called: the sets that the braces name, or the dummies if a set is used twice, is written out,
-    or another part has a dummy's name; `key 1` and so on if the text does not say so many."""
+    """Returns what the parts of a key are called: the sets that the braces name, or the dummies if a set is used twice,
+    is written out, or another part has a dummy's name; `key 1` and so on if the text does not say so many."""
     found: list[tuple[str, str]] = []
     lone: list[str] = []
     for item in items(braces_of(text, name)):
         cut = item.index("in") if "in" in item else 0
-        dummies, a_set = [word for word in item[:cut] if NAME.fullmatch(word)], " ".join(item[cut and cut + 1:])
+        dummies, a_set = [word for word in item[:cut] if NAME.fullmatch(word)], " ".join(item[cut and cut + 1 :])
         lone += [a_set] if not dummies and NAME.fullmatch(a_set) else []
         is_named = len(dummies) <= 1 and NAME.fullmatch(a_set)
         found += [(a_set if is_named else dummy, dummy) for dummy in dummies or [a_set]]
@@ -62,17 +63,21 @@ def headings(text: str, name: str, count: int) -> list[str]:
     if more > 0 and len(lone) == 1:
         # A set of tuples without dummies has as many parts as are left.
         place = found.index((lone[0], lone[0]))
-        found[place:place + 1] = [(f"{lone[0]} {index + 1}",) * 2 for index in range(more + 1)]
+        found[place : place + 1] = [(f"{lone[0]} {index + 1}",) * 2 for index in range(more + 1)]
     sets = [name for name, _ in found]
     # Either all titles are sets, or all are dummies: a mixture of `GRADES` and `t` reads badly.
     are_sets = len(set(sets)) == len(sets) and all(NAME.fullmatch(name) for name, _ in found)
     titles = sets if are_sets else [dummy for _, dummy in found]
-    return titles if len(titles) == count and all(titles) and len(set(titles)) == count else [f"key {index + 1}" for index in range(count)]
+    return (
+        titles
+        if len(titles) == count and all(titles) and len(set(titles)) == count
+        else [f"key {index + 1}" for index in range(count)]
+    )
 
 
 def compared_texts(model: str, data: Iterable[str]) -> list[str]:
-    """Returns what a reader may miss: a numeral in quotes that the model compares with something, and that no data text has in quotes.
-    It equals no number, and netflow takes it as it is."""
+    """Returns what a reader may miss: a numeral in quotes that the model compares with something, and that no data text
+    has in quotes. It equals no number, and netflow takes it as it is."""
     compared, before = [], ""
     for token in tokens(model):
         if before in ("=", ">") and re.fullmatch(r"(['\"])-?\d+\1", token.text):
@@ -80,8 +85,11 @@ def compared_texts(model: str, data: Iterable[str]) -> list[str]:
         before = token.text
     # Data can be long, and few models compare such texts.
     known = {token.text for text in data for token in tokens(text)} if compared else ()
-    return [f"{token.text} in line {token.row} of the model is a text, which equals no number: is {token.bare()} meant?"
-            for token in compared if token.text not in known]
+    return [
+        f"{token.text} in line {token.row} of the model is a text, which equals no number: is {token.bare()} meant?"
+        for token in compared
+        if token.text not in known
+    ]
 
 
 COMMENT = re.compile(r"(?P<gap>\s*)(?:#+[ \t]*(?P<line>[^\n]*)|/\*+\s*(?P<block>.*?)\s*\**\*/)", re.S)
@@ -92,8 +100,8 @@ TITLE, WRAPPED = 100, 50
 
 
 def first_comment(text: str) -> str:
-    """Returns the first sentence of the comment that the model begins with; an empty text if it begins with none. A sentence that is
-    too long for a title is cut after a word."""
+    """Returns the first sentence of the comment that the model begins with; an empty text if it begins with none. A
+    sentence that is too long for a title is cut after a word."""
     sentence = SENTENCE.split(paragraph(comment_lines(text)))[0].rstrip(".:")
     cut = sentence[:TITLE]
     return sentence if cut == sentence else (cut.rpartition(" ")[0] or cut).rstrip(",;:-(") + "\u2026"

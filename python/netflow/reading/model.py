@@ -11,9 +11,17 @@ from typing import Callable, Iterator
 TOKEN = re.compile(
     r"(?P<skip>[ \t\r\n]+|#[^\n]*|/\*.*?\*/)|(?P<num>(?:[0-9]+(?:\.[0-9]+)?|\.[0-9]+)(?:[eEdD][+-]?[0-9]+)?)"
     r"|(?P<text>'(?:[^'\n]|'')*'|\"(?:[^\"\n]|\"\")*\")|(?P<name>[A-Za-z_][A-Za-z0-9_]*)"
-    r"|(?P<mark>:=|\.\.|\*\*|&&|\|\||<>|<=|>=|==|!=|[-;:,(){}\[\]+*/^&!<>=.])", re.S)
-RESERVED = frozenset("""and arc by check cross default diff dimen div else exists forall from if in Infinity integer inter less max maximize
-min minimize mod node not obj or param prod set setof sum symbolic symdiff then to union within""".split()) - {"Infinity"}
+    r"|(?P<mark>:=|\.\.|\*\*|&&|\|\||<>|<=|>=|==|!=|[-;:,(){}\[\]+*/^&!<>=.])",
+    re.S,
+)
+RESERVED = (
+    frozenset(
+        """and arc by check cross default diff dimen div else exists forall from if in Infinity integer inter
+        less max maximize min minimize mod node not obj or param prod set setof sum symbolic symdiff then to
+        union within""".split()
+    )
+    - {"Infinity"}
+)
 RELATIONS = ("=", "==", "<>", "!=", "<", "<=", ">", ">=", "in", "within")
 LEVELS = (("cross",), ("inter",), ("union", "diff", "symdiff"))
 
@@ -39,7 +47,8 @@ class Token:
 
 @dataclasses.dataclass
 class Expr:
-    """An expression: `op` is an operator, or `num`, `text`, `name`, `tuple`, `group`, `braces`, `call`; `args` are its parts."""
+    """An expression: `op` is an operator, or `num`, `text`, `name`, `tuple`, `group`, `braces`, `call`; `args` are its
+    parts."""
 
     op: str
     args: list[Expr]
@@ -166,7 +175,9 @@ class _Parser:
         elif kind == "param" and word in ("symbolic", "integer"):
             pass
         elif kind == "param" and word in ("<", "<=", ">", ">=", "<>", "!=", "in", "default", ":="):
-            exprs = [self.sum() if word not in ("in", "default", ":=") else self.level(0) if word == "in" else self.value()]
+            exprs = [
+                self.sum() if word not in ("in", "default", ":=") else self.level(0) if word == "in" else self.value()
+            ]
         elif kind == "arc" and word in (">=", "<=", "integer", "from", "to", "obj"):
             if word == "obj":
                 name = self.name()

@@ -15,12 +15,24 @@ OUTSIDE = "the outside"
 
 
 class Arc:
-    """An arc of the model. `src` and `dst` are node indices from 0, None for the outside. `worth` is the reduced cost: by how much
-    one more unit on the arc makes the value worse, at the current node prices. `is_open` if the model gives it no upper bound."""
+    """An arc of the model. `src` and `dst` are node indices from 0, None for the outside. `worth` is the reduced cost:
+    by how much one more unit on the arc makes the value worse, at the current node prices. `is_open` if the model gives
+    it no upper bound.
+    """
 
     __slots__ = ("text", "name", "key", "src", "dst", "lower", "upper", "price", "flow", "worth", "is_open")
 
-    def __init__(self, text: str, name: str, key: list[Member], src: int | None, dst: int | None, lower: Number, upper: Number, price: Number) -> None:
+    def __init__(
+        self,
+        text: str,
+        name: str,
+        key: list[Member],
+        src: int | None,
+        dst: int | None,
+        lower: Number,
+        upper: Number,
+        price: Number,
+    ) -> None:
         self.text, self.name, self.key, self.src, self.dst = text, name, key, src, dst
         self.lower, self.upper, self.price = lower, upper, price
         self.flow: Number = 0
@@ -44,9 +56,11 @@ class Arc:
 
 @dataclasses.dataclass
 class Node:
-    """A node of the model: its net inflow is from `low` to `high`, and its arcs allow it from `fewest` to `greatest`. If the model
-    leaves a side open, the compiled model has what the arcs allow in its place; `is_low_open` and `is_high_open` say so if the text of
-    the model is known. `worth` is the node's price: by how much one more required unit makes the value worse, at least."""
+    """A node of the model: its net inflow is from `low` to `high`, and its arcs allow it from `fewest` to `greatest`.
+    If the model leaves a side open, the compiled model has what the arcs allow in its place; `is_low_open` and
+    `is_high_open` say so if the text of the model is known. `worth` is the node's price: by how much one more required
+    unit makes the value worse, at least.
+    """
 
     text: str
     low: Number = 0
@@ -66,7 +80,8 @@ class Node:
         return self.high < self.greatest
 
     def wish(self) -> str:
-        """Returns what the node needs or gives, in a few words; an empty text for a node that passes on what it gets."""
+        """Returns what the node needs or gives, in a few words; an empty text for a node that passes on what it
+        gets."""
         low, high = self.low, self.high
         if low == high:
             return f"needs {low}" if low > 0 else f"gives {-low}" if low < 0 else ""
@@ -89,8 +104,9 @@ def between(low: Number, high: Number) -> str:
 
 
 class Network:
-    """Nodes and arcs with the model's own bounds and prices. `problem` is the problem's text without comments; `declarations` are the
-    names of a plan's declarations of arcs, each with whether it is a table; `factors` are those of a scaled model."""
+    """Nodes and arcs with the model's own bounds and prices. `problem` is the problem's text without comments;
+    `declarations` are the names of a plan's declarations of arcs, each with whether it is a table; `factors` are those
+    of a scaled model."""
 
     def __init__(self) -> None:
         self.nodes: list[Node] = []
@@ -115,10 +131,14 @@ class Network:
             return
         self.value = divided(self.value, factors.value)
         for arc in self.arcs:
-            arc.lower, arc.upper, arc.flow = (divided(amount, factors.flow) for amount in (arc.lower, arc.upper, arc.flow))
+            arc.lower, arc.upper, arc.flow = (
+                divided(amount, factors.flow) for amount in (arc.lower, arc.upper, arc.flow)
+            )
             arc.price = divided(arc.price, factors.cost)
         for node in self.nodes:
-            node.low, node.high, node.inflow = (divided(amount, factors.flow) for amount in (node.low, node.high, node.inflow))
+            node.low, node.high, node.inflow = (
+                divided(amount, factors.flow) for amount in (node.low, node.high, node.inflow)
+            )
             node.fewest, node.greatest = divided(node.fewest, factors.flow), divided(node.greatest, factors.flow)
 
     def end(self, number: int | None) -> str:

@@ -26,13 +26,14 @@ def columns(text: str, mark: str, width: int) -> list[list[int]]:
     """Returns the numbers of lines of one kind, which begin with its mark, column by column."""
     count = text.count("\n") + (text[-1:] not in ("", "\n"))
     words = text.rstrip("\n").replace("\n", " ").split(" ") if text else []
-    if words[::width + 1] != [mark] * count or len(words) != count * (width + 1):
+    if words[:: width + 1] != [mark] * count or len(words) != count * (width + 1):
         raise Unreadable(f"a line that begins with {mark!r} and has {width} numbers was expected")
-    return [numbers(words[place::width + 1]) for place in range(1, width + 1)]
+    return [numbers(words[place :: width + 1]) for place in range(1, width + 1)]
 
 
 def beginning(text: str, mark: str, start: int = 0) -> int:
-    """Returns the place of the first line, from a line's start on, that begins with the mark; the text's end if there is none."""
+    """Returns the place of the first line, from a line's start on, that begins with the mark; the text's end if there
+    is none."""
     if text.startswith(mark, start):
         return start
     place = text.find(f"\n{mark}", start)
@@ -54,8 +55,8 @@ def read_compiled(text: str) -> Network:
     arcs = beginning(text, "a ", start)
     drawn = columns(text[arcs:], "a", 5)
     place_arcs(net, [link[4] for link in links], numbers([link[3] for link in links]), drawn)
-    nodes, amounts = columns(text[text.find("\n", start) + 1:arcs], "n", 2)
-    place_nodes(net, dict(zip(nodes, amounts)), zip(drawn[0][len(links):], drawn[3][len(links):]))
+    nodes, amounts = columns(text[text.find("\n", start) + 1 : arcs], "n", 2)
+    place_nodes(net, dict(zip(nodes, amounts)), zip(drawn[0][len(links) :], drawn[3][len(links) :]))
     return net
 
 
@@ -73,15 +74,19 @@ def read_link(line: str, net: Network) -> None:
 
 
 def place_arcs(net: Network, texts: list[str], offsets: list[int], drawn: list[list[int]]) -> None:
-    """Makes the arcs from their names and offsets: ends, bounds without the offsets, prices, and what they allow at each node."""
+    """Makes the arcs from their names and offsets: ends, bounds without the offsets, prices, and what they allow at
+    each node."""
     outside, sign = len(net.nodes), net.sign
-    srcs, dsts, leasts, mosts, costs = (column[:len(texts)] for column in drawn)
+    srcs, dsts, leasts, mosts, costs = (column[: len(texts)] for column in drawn)
     if len(costs) < len(texts):
         raise Unreadable("the problem has fewer arcs than the model")
     if any(offsets):
         leasts, mosts = (list(map(operator.add, bounds, offsets)) for bounds in (leasts, mosts))
     prices = costs if sign > 0 else [sign * cost for cost in costs]
-    place = [*range(-1, outside), *[None] * (max(srcs + dsts, default=0) - outside)]  # of the ends, which are counted from 1
+    place = [
+        *range(-1, outside),
+        *[None] * (max(srcs + dsts, default=0) - outside),
+    ]  # of the ends, which are counted from 1
     ends = ([place[end] for end in side] for side in (srcs, dsts))
     net.arcs = list(map(Arc, texts, *references(texts), *ends, leasts, mosts, prices))
     low, fewest, greatest = ([0] * len(place) for _ in range(3))
@@ -116,17 +121,21 @@ def read_plan(text: str, net: Network) -> None:
         name, is_table = lines[line][:-3], lines[line].endswith(" :=")
         if is_table:
             count = next((here for here in range(at, len(arcs)) if arcs[here].name != name), len(arcs)) - at
-            found = [row.rpartition(" ") for row in lines[line + 1:line + 1 + count]]
+            found = [row.rpartition(" ") for row in lines[line + 1 : line + 1 + count]]
             keys, flows = [row[0] for row in found], [row[2] for row in found]
-            if lines[line + 1 + count:line + 2 + count] != [";"]:
+            if lines[line + 1 + count : line + 2 + count] != [";"]:
                 raise Unreadable(f"the table of {name} does not end after {count} arcs")
         else:
             name, flow = valued(lines[line])
             count, keys, flows = 1, [""], [str(flow)]
-        if "\n".join(keys) != plan_keys(arcs[at:at + count]) or not is_table and [arc.name for arc in arcs[at:at + 1]] != [name]:
+        if (
+            "\n".join(keys) != plan_keys(arcs[at : at + count])
+            or not is_table
+            and [arc.name for arc in arcs[at : at + 1]] != [name]
+        ):
             raise Unreadable(f"the plan has other arcs of {name} than the model")
         net.declarations.append((name, is_table))
-        take_flows(net, arcs[at:at + count], numbers(flows))
+        take_flows(net, arcs[at : at + count], numbers(flows))
         at, line = at + count, line + (count + 2 if is_table else 1)
     if at != len(arcs):
         raise Unreadable("the plan ends before its last arc")
@@ -165,12 +174,14 @@ def divided_cut(text: str, net: Network) -> str:
     """Returns a cut in netflow's form, its two numbers divided by the factor of flows."""
     first, second, *nodes = text.split("\n")
     side, *numbers = second.split(" ")
-    return "\n".join([first, " ".join([side, *(str(divided(int(number), net.factors.flow)) for number in numbers)]), *nodes])
+    return "\n".join(
+        [first, " ".join([side, *(str(divided(int(number), net.factors.flow)) for number in numbers)]), *nodes]
+    )
 
 
 def read_cut(text: str, net: Network) -> tuple[str, set[int]]:
-    """Returns the side and the node indices of a cut. A set that contains the outside is replaced by its complement, which shows the
-    same from the other side."""
+    """Returns the side and the node indices of a cut. A set that contains the outside is replaced by its complement,
+    which shows the same from the other side."""
     lines = lines_of(text)
     if lines[:1] != ["infeasible"] or not re.fullmatch(rf"(?:over|under) {NUMBER} {NUMBER}", lines[1]):
         raise Unreadable("a cut was expected")
@@ -182,14 +193,19 @@ def read_cut(text: str, net: Network) -> tuple[str, set[int]]:
 
 
 def read_prices(certificate: str, net: Network) -> None:
-    """Sets the worth of nodes and arcs from the potentials of a certificate; that of the outside is 0. The network is divided."""
-    found = columns(certificate[beginning(certificate, "v "):], "v", 2)[1]
+    """Sets the worth of nodes and arcs from the potentials of a certificate; that of the outside is 0. The network is
+    divided."""
+    found = columns(certificate[beginning(certificate, "v ") :], "v", 2)[1]
     if len(found) != len(net.nodes) + 1:
         raise Unreadable("the certificate has another number of potentials than there are nodes")
     worths = [divided(potential - found[-1], net.factors.cost) for potential in found]
     for number, (node, worth) in enumerate(zip(net.nodes, worths)):
-        # A side that is open limits nothing: all arcs of the node are at a bound there, so that a price of 0 proves the plan as well.
-        is_at_most, is_at_least = node.is_high_open and node.inflow == node.high, node.is_low_open and node.inflow == node.low
+        # A side that is open limits nothing: all arcs of the node are at a bound there, so that a price of 0 proves the
+        # plan as well.
+        is_at_most, is_at_least = (
+            node.is_high_open and node.inflow == node.high,
+            node.is_low_open and node.inflow == node.low,
+        )
         worths[number] = node.worth = 0 if worth < 0 and is_at_most or worth > 0 and is_at_least else worth
     sign = net.sign
     for arc in net.arcs:
@@ -203,7 +219,11 @@ def written(net: Network) -> str:
     for name, is_table in net.declarations:
         arcs = declared.get(name, [])
         if is_table:
-            lines += [f"{name} :=", *("".join(f"{shown(member)} " for member in arc.key) + str(arc.flow) for arc in arcs), ";"]
+            lines += [
+                f"{name} :=",
+                *("".join(f"{shown(member)} " for member in arc.key) + str(arc.flow) for arc in arcs),
+                ";",
+            ]
         else:
             lines.append(f"{name} = {arcs[0].flow}")
     return "".join(f"{line}\n" for line in lines)

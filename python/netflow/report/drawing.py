@@ -1,6 +1,8 @@
-"""Draws a network as SVG: nodes in layers, arcs as curves, the flow of an arc next to its arrow head. It needs no other program.
+"""Draws a network as SVG: nodes in layers, arcs as curves, the flow of an arc next to its arrow head. It needs no other
+program.
 
-The layers run from left to right, or from top to bottom if that keeps a long network, such as one over many periods, readable.
+The layers run from left to right, or from top to bottom if that keeps a long network, such as one over many periods,
+readable.
 """
 from __future__ import annotations
 
@@ -21,13 +23,20 @@ Box = Tuple[float, float, float, float]
 
 # From this width on a drawing is tried from top to bottom.
 WIDE = 1400
-# From this height on the components of a drawing with so few layers become pictures of their own, which a page sets in rows.
+# From this height on the components of a drawing with so few layers become pictures of their own, which a page sets in
+# rows.
 HIGH, FLAT = 700, 4
 # The room around a drawing.
 MARGIN = 12
 
 
-def draw(net: Network, arcs: list[Arc], marked: AbstractSet[int] = frozenset(), across: AbstractSet[int] = frozenset(), alone: bool = False) -> Picture:
+def draw(
+    net: Network,
+    arcs: list[Arc],
+    marked: AbstractSet[int] = frozenset(),
+    across: AbstractSet[int] = frozenset(),
+    alone: bool = False,
+) -> Picture:
     """Returns the picture that fits a page best."""
     found = Picture(net, arcs, marked, across, alone)
     if found.sheet[0] > WIDE:
@@ -54,7 +63,10 @@ def split(whole: Picture) -> list[Picture]:
             if group >= 0:
                 parts[group].append(arc)
     is_small = max(map(len, shown)) <= LABELLED
-    return [Picture(whole.net, shown[index], whole.marked, whole.across, nodes=nodes, known=known[index], is_small=is_small) for index, nodes in enumerate(groups)]
+    return [
+        Picture(whole.net, shown[index], whole.marked, whole.across, nodes=nodes, known=known[index], is_small=is_small)
+        for index, nodes in enumerate(groups)
+    ]
 
 
 class Picture(Placement):
@@ -92,7 +104,8 @@ class Picture(Placement):
         ]
 
     def arch(self, src: int, dst: int) -> list[Curve]:
-        """Returns an arc within a layer, which bows out to the side; arcs one way bow after the layer, those back before it."""
+        """Returns an arc within a layer, which bows out to the side; arcs one way bow after the layer, those back
+        before it."""
         side = 1 if self.v[src] < self.v[dst] else -1
         high = max(self.half(src), self.half(dst)) + 16 + abs(self.v[src] - self.v[dst]) * 0.22
         bow = self.u[src] + side * high
@@ -122,7 +135,11 @@ class Picture(Placement):
         wide = self.text_width(text) + 6
         (x, y), (u, w) = curves[0][0], curves[-1][3]
         if arc.src is None or arc.dst is None:
-            return ((x + u) / 2 + 4 + wide / 2, (y + w) / 2) if not self.is_down else ((min(x, u) - wide / 2 - 2 if arc.src is None else max(x, u) + wide / 2 + 2), y)
+            return (
+                ((x + u) / 2 + 4 + wide / 2, (y + w) / 2)
+                if not self.is_down
+                else ((min(x, u) - wide / 2 - 2 if arc.src is None else max(x, u) + wide / 2 + 2), y)
+            )
         src, dst = ends_of(arc)
         if self.is_level(arc):
             return self.free_place(wide, curves)
@@ -148,7 +165,15 @@ class Picture(Placement):
     # SVG
 
     def kind(self, arc: Arc) -> str:
-        return "across" if id(arc) in self.across else "full" if arc.flow and arc.is_tight() else "used" if arc.flow else "idle"
+        return (
+            "across"
+            if id(arc) in self.across
+            else "full"
+            if arc.flow and arc.is_tight()
+            else "used"
+            if arc.flow
+            else "idle"
+        )
 
     def arc_svg(self, arc: Arc, most: Number) -> tuple[str, str]:
         """Returns the arc, and its number, which is drawn after all arcs."""
@@ -160,8 +185,14 @@ class Picture(Placement):
         thick = 4.8 if most > 1 else 0.8
         width = 1.2 + thick * math.sqrt(float(flow / most)) if flow else 2.5 if kind == "across" else 1.2
         ends = " ".join(f"n{number}" for number in sorted({end for end in (arc.src, arc.dst) if end is not None}))
-        said = f"{arc.text}: {self.net.end(arc.src)} to {self.net.end(arc.dst)}, {arc.flow} of {arc.lower} to {arc.most()}, price {arc.price}"
-        made = f'<g class="arc {kind} {ends}"><title>{escape(said)}</title><path d="{path}" stroke-width="{width:.1f}" marker-end="url(#{kind})"/></g>'
+        said = (
+            f"{arc.text}: {self.net.end(arc.src)} to {self.net.end(arc.dst)}, {arc.flow} of {arc.lower} to"
+            f" {arc.most()}, price {arc.price}"
+        )
+        made = (
+            f'<g class="arc {kind} {ends}"><title>{escape(said)}</title><path d="{path}" stroke-width="{width:.1f}"'
+            f' marker-end="url(#{kind})"/></g>'
+        )
         text = self.number(arc)
         if not text:
             return made, ""
@@ -172,12 +203,20 @@ class Picture(Placement):
         return made, f'<g class="arc number {ends}"><text x="{x:.0f}" y="{y + 4:.0f}">{text}</text></g>'
 
     def node_svg(self, number: int) -> str:
-        (x, y), wide, high, lines = self.xy(self.u[number], self.v[number]), self.wide[number], self.tall[number], self.label(number)
+        (x, y), wide, high, lines = (
+            self.xy(self.u[number], self.v[number]),
+            self.wide[number],
+            self.tall[number],
+            self.label(number),
+        )
         node = self.net.nodes[number]
         wish = node.wish().partition(" ")[0]
         kind = "marked" if number in self.marked else wish if wish in ("gives", "needs") else "plain"
         first = y + 4 - 7.5 * (len(lines) - 1)
-        texts = "".join(f'<text class="line{here}" x="{x:.0f}" y="{first + 15 * here:.0f}">{escape(line)}</text>' for here, line in enumerate(lines))
+        texts = "".join(
+            f'<text class="line{here}" x="{x:.0f}" y="{first + 15 * here:.0f}">{escape(line)}</text>'
+            for here, line in enumerate(lines)
+        )
         said = f"{node.text}: {node.wish() or 'passes on what it gets'}"
         rect = f'<rect x="{x - wide / 2:.0f}" y="{y - high / 2:.0f}" width="{wide:.0f}" height="{high:.0f}" rx="5"/>'
         return f'<g class="node {kind}" id="n{number}" tabindex="0"><title>{escape(said)}</title>{rect}{texts}</g>'
@@ -188,10 +227,14 @@ class Picture(Placement):
         return x - wide, y - high, x + wide, y + high
 
     def svg(self, is_alone: bool = False) -> str:
-        """Returns the text of the picture, or of its parts; one that is a file of its own has its style in it, and is whole."""
+        """Returns the text of the picture, or of its parts; one that is a file of its own has its style in it, and is
+        whole."""
         most = max([magnitude(arc.flow) for arc in self.arcs] + [1])
-        heads = "".join(f'<marker id="{kind}" class="head {kind}" viewBox="0 0 8 8" refX="6" refY="4" markerUnits="userSpaceOnUse" markerWidth="9" '
-                        'markerHeight="9" orient="auto"><path d="M0,0L8,4L0,8z"/></marker>' for kind in ("idle", "used", "full", "across"))
+        heads = "".join(
+            f'<marker id="{kind}" class="head {kind}" viewBox="0 0 8 8" refX="6" refY="4" markerUnits="userSpaceOnUse"'
+            ' markerWidth="9" markerHeight="9" orient="auto"><path d="M0,0L8,4L0,8z"/></marker>'
+            for kind in ("idle", "used", "full", "across")
+        )
         defs = f"{f'<style>{DRAWING_STYLE}</style>' * is_alone}<defs>{heads}</defs>"
         if is_alone or not self.parts:
             return self.sheet_svg(most, defs)
@@ -207,9 +250,21 @@ class Picture(Placement):
         left, top, right, low = (math.floor(pick(sides)) for pick, sides in zip((min, min, max, max), zip(*self.reach)))
         wide, high = right - left + 2 * MARGIN, low - top + 2 * MARGIN
         large = "" if self.is_small else 'class="large" '
-        sheet = f'{large}width="{wide}" height="{high}" viewBox="{left - MARGIN} {top - MARGIN} {wide} {high}" style="--wide:{wide}px"'
-        return (f'<svg xmlns="http://www.w3.org/2000/svg" role="img" aria-label="the network" {sheet}>{defs}'
-                + "\n".join([*(arcs[id(arc)][0] for arc in drawn), *(arcs[id(arc)][1] for arc in drawn), *map(self.node_svg, self.nodes)]) + "</svg>")
+        sheet = (
+            f'{large}width="{wide}" height="{high}" viewBox="{left - MARGIN} {top - MARGIN} {wide} {high}"'
+            f' style="--wide:{wide}px"'
+        )
+        return (
+            f'<svg xmlns="http://www.w3.org/2000/svg" role="img" aria-label="the network" {sheet}>{defs}'
+            + "\n".join(
+                [
+                    *(arcs[id(arc)][0] for arc in drawn),
+                    *(arcs[id(arc)][1] for arc in drawn),
+                    *map(self.node_svg, self.nodes),
+                ]
+            )
+            + "</svg>"
+        )
 
 
 def along(curve: Curve, part: float) -> Point:

@@ -16,8 +16,8 @@ NOTE = '<p class="print-note">The grid is on the page for the screen: it is too 
 
 
 def grid_html(arcs: list[Arc], titles: list[str], is_open: bool = True) -> str:
-    """Returns the grid of the flows; empty if the arcs have fewer than two keys or fill too little of it. Columns are the last key, or
-    the one before it if that gives fewer."""
+    """Returns the grid of the flows; empty if the arcs have fewer than two keys or fill too little of it. Columns are
+    the last key, or the one before it if that gives fewer."""
     if not arcs or len(arcs[0].key) < 2 or len(arcs) > ROWS * COLUMNS:
         return ""
     across = list(dict.fromkeys(arc.key[-1] for arc in arcs))
@@ -36,15 +36,25 @@ def grid_html(arcs: list[Arc], titles: list[str], is_open: bool = True) -> str:
     foot = f'<tfoot><tr class="sum"><td class="key" colspan="{len(titles) - 1}">total</td>{last}</tr></tfoot>'
     letters = sum(len(str(member)) + 2 for member in across)
     kind = "grid long wordy" if letters > LONG else "grid wordy" if letters > WORDY else "grid"
-    table = f'<table class="{kind}"><thead><tr>{head}</tr></thead><tbody>\n{chr(10).join(lines)}\n</tbody>{foot}</table>'
-    digits = sum(max([len(str(cells[member].flow)) for cells in rows.values() if member in cells] + [len(grouped(sums[at]))]) for at, member in enumerate(across))
+    table = (
+        f'<table class="{kind}"><thead><tr>{head}</tr></thead><tbody>\n{chr(10).join(lines)}\n</tbody>{foot}</table>'
+    )
+    digits = sum(
+        max([len(str(cells[member].flow)) for cells in rows.values() if member in cells] + [len(grouped(sums[at]))])
+        for at, member in enumerate(across)
+    )
     kind, note = ("as-grid screen", NOTE) if digits * 5 + len(across) * 4 > PRINTED else ("as-grid", "")
-    return f'<details class="{kind}"{" open" if is_open else ""}><summary>{title}</summary><div class="scroll">{table}</div></details>{note}'
+    return (
+        f'<details class="{kind}"{" open" if is_open else ""}><summary>{title}</summary><div'
+        f' class="scroll">{table}</div></details>{note}'
+    )
 
 
 def grid_head(titles: list[str], across: list[Member], kind: str) -> str:
     heads = [*(("", title) for title in titles), *((kind, member) for member in across)]
-    return "".join(f'<th class="{kind}" scope="col"><button type="button">{text(title)}</button></th>' for kind, title in heads)
+    return "".join(
+        f'<th class="{kind}" scope="col"><button type="button">{text(title)}</button></th>' for kind, title in heads
+    )
 
 
 def grid_row(key: Key, cells: dict[Member, Arc], across: list[Member]) -> str:
@@ -61,7 +71,8 @@ def grid_row(key: Key, cells: dict[Member, Arc], across: list[Member]) -> str:
 
 
 def roster_html(arcs: list[Arc], titles: list[str]) -> str:
-    """Returns a grid of choices with three keys, as a roster: rows by columns, and in each cell what was chosen; else an empty text."""
+    """Returns a grid of choices with three keys, as a roster: rows by columns, and in each cell what was chosen; else
+    an empty text."""
     if not arcs or len(arcs[0].key) != 3 or any(arc.lower < 0 or arc.upper > 1 for arc in arcs):
         return ""
     counts = [len({arc.key[place] for arc in arcs}) for place in range(3)]
@@ -76,7 +87,10 @@ def roster_html(arcs: list[Arc], titles: list[str]) -> str:
     head = grid_head(titles[:1], across, "chosen")
     lines = []
     for row, cells in rows.items():
-        made = "".join(f'<td class="{"none" if member not in cells else "chosen"}">{text(", ".join(cells.get(member, [])))}</td>' for member in across)
+        made = "".join(
+            f'<td class="{"none" if member not in cells else "chosen"}">{text(", ".join(cells.get(member, [])))}</td>'
+            for member in across
+        )
         lines.append(f'<tr><td class="key">{text(row)}</td>{made}</tr>')
     table = f'<table class="grid"><thead><tr>{head}</tr></thead><tbody>\n{chr(10).join(lines)}\n</tbody></table>'
     title = f"{text(titles[0])} by {text(titles[column])}: {text(titles[chosen])}"

@@ -1,4 +1,5 @@
-"""The machine-readable outputs: JSON objects with one schema, and rows of arcs. docs has the schema; `SCHEMA` is its version."""
+"""The machine-readable outputs: JSON objects with one schema, and rows of arcs. docs has the schema; `SCHEMA` is its
+version."""
 from __future__ import annotations
 
 import json
@@ -60,7 +61,8 @@ class JsonTexts(Dict[Any, str]):
 
 
 def dump_lines(value: Mapping[str, object]) -> str:
-    """Returns the JSON text of an object with a line for each field and for each item of its lists: readable, and fast for many arcs."""
+    """Returns the JSON text of an object with a line for each field and for each item of its lists: readable, and fast
+    for many arcs."""
     fields, texts = [], JsonTexts()
     for name, field in value.items():
         lines = []
@@ -82,15 +84,30 @@ def column_lines(columns: Columns, texts: JsonTexts) -> list[str]:
 def arc_columns(net: Network) -> Columns:
     arcs = net.arcs
     ends: dict[int | None, str | None] = {None: None, **{number: node.text for number, node in enumerate(net.nodes)}}
-    return Columns({"name": [arc.name for arc in arcs], "key": [arc.key for arc in arcs], "from": [ends[arc.src] for arc in arcs],
-                    "to": [ends[arc.dst] for arc in arcs], "flow": [arc.flow for arc in arcs], "lower": [arc.lower for arc in arcs],
-                    "upper": [None if arc.is_open else arc.upper for arc in arcs], "price": [arc.price for arc in arcs]})
+    return Columns(
+        {
+            "name": [arc.name for arc in arcs],
+            "key": [arc.key for arc in arcs],
+            "from": [ends[arc.src] for arc in arcs],
+            "to": [ends[arc.dst] for arc in arcs],
+            "flow": [arc.flow for arc in arcs],
+            "lower": [arc.lower for arc in arcs],
+            "upper": [None if arc.is_open else arc.upper for arc in arcs],
+            "price": [arc.price for arc in arcs],
+        }
+    )
 
 
 def node_columns(net: Network) -> Columns:
     nodes = net.nodes
-    return Columns({"name": [node.text for node in nodes], "lower": [node.low for node in nodes], "upper": [node.high for node in nodes],
-                    "net_in": [node.inflow for node in nodes]})
+    return Columns(
+        {
+            "name": [node.text for node in nodes],
+            "lower": [node.low for node in nodes],
+            "upper": [node.high for node in nodes],
+            "net_in": [node.inflow for node in nodes],
+        }
+    )
 
 
 def plan_columns(net: Network) -> dict[str, object]:
@@ -107,27 +124,46 @@ def plan_json_head(net: Network) -> dict[str, object]:
 
 def plan_json(net: Network) -> dict[str, object]:
     """Returns the object of a plan."""
-    return {name: field.items_of() if isinstance(field, Columns) else field for name, field in plan_columns(net).items()}
+    return {
+        name: field.items_of() if isinstance(field, Columns) else field for name, field in plan_columns(net).items()
+    }
 
 
 def reason_json(net: Network, reason: Reason) -> dict[str, object]:
-    return {"side": reason.side, "nodes": [net.nodes[number].text for number in reason.nodes], "required": reason.needed(),
-            "possible": reason.given(), "short": reason.short(), "sentence": reason.headline(net),
-            "asks": [{"amount": part.amount, "what": part.text} for part in reason.asks],
-            "helps": [{"amount": part.amount, "what": part.text} for part in reason.helps]}
+    return {
+        "side": reason.side,
+        "nodes": [net.nodes[number].text for number in reason.nodes],
+        "required": reason.needed(),
+        "possible": reason.given(),
+        "short": reason.short(),
+        "sentence": reason.headline(net),
+        "asks": [{"amount": part.amount, "what": part.text} for part in reason.asks],
+        "helps": [{"amount": part.amount, "what": part.text} for part in reason.helps],
+    }
 
 
 def change_json(change: Change) -> dict[str, object]:
-    return {"amount": change.amount, "what": change.text, "bound": change.what, "was": change.was, "becomes": change.becomes}
+    return {
+        "amount": change.amount,
+        "what": change.text,
+        "bound": change.what,
+        "was": change.was,
+        "becomes": change.becomes,
+    }
 
 
-def cut_json(side: str, cut: Sequence[str], reasons: Sequence[Reason], net: Network | None, changes: LeastChanges | None = None) -> dict[str, object]:
+def cut_json(
+    side: str, cut: Sequence[str], reasons: Sequence[Reason], net: Network | None, changes: LeastChanges | None = None
+) -> dict[str, object]:
     """Returns the object of a model without a plan, with its least changes if they are given and were computed."""
     found: dict[str, object] = {"schema": SCHEMA, "status": "infeasible", "cut": {"side": side, "nodes": list(cut)}}
     found["reasons"] = [reason_json(net, reason) for reason in reasons] if net is not None else []
     if changes is not None and not changes.is_large:
         found["single_changes"] = list(map(change_json, changes.single))
-        found["least_changes"] = {kind: None if changes_of_kind is None else list(map(change_json, changes_of_kind)) for kind, changes_of_kind in changes.kinds.items()}
+        found["least_changes"] = {
+            kind: None if changes_of_kind is None else list(map(change_json, changes_of_kind))
+            for kind, changes_of_kind in changes.kinds.items()
+        }
     return found
 
 
@@ -142,12 +178,24 @@ def error_json(error: ModelError) -> dict[str, object]:
     return {"schema": SCHEMA, **error.to_dict()}
 
 
-def arc_rows(net: Network, headings: Mapping[str, Sequence[str]], name: str | None = None, used_only: bool = False) -> list[dict[str, object]]:
+def arc_rows(
+    net: Network, headings: Mapping[str, Sequence[str]], name: str | None = None, used_only: bool = False
+) -> list[dict[str, object]]:
     """Returns a dict for each arc, with its key's parts by their headings."""
     found: list[dict[str, object]] = []
     for arc in net.arcs:
         if (name is None or arc.name == name) and (arc.flow or not used_only):
             keys = dict(zip(headings.get(arc.name, ()), arc.key))
-            found.append({"arc": arc.name, **keys, "from": net.end(arc.src), "to": net.end(arc.dst), "flow": arc.flow,
-                          "lower": arc.lower, "upper": None if arc.is_open else arc.upper, "price": arc.price})
+            found.append(
+                {
+                    "arc": arc.name,
+                    **keys,
+                    "from": net.end(arc.src),
+                    "to": net.end(arc.dst),
+                    "flow": arc.flow,
+                    "lower": arc.lower,
+                    "upper": None if arc.is_open else arc.upper,
+                    "price": arc.price,
+                }
+            )
     return found

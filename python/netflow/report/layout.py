@@ -12,8 +12,8 @@ class Bend:
 
 
 def layers(nodes: list[int], arcs: Iterable[Arc]) -> dict[int, int]:
-    """Returns the layer of each node, from 0: by the longest path that leads to it, or by the shortest if the longest would stretch
-    the picture."""
+    """Returns the layer of each node, from 0: by the longest path that leads to it, or by the shortest if the longest
+    would stretch the picture."""
     into, out = neighbours(nodes, arcs)
     order, back = walked(nodes, into, out)
     longest: dict[int, int] = {}
@@ -24,7 +24,9 @@ def layers(nodes: list[int], arcs: Iterable[Arc]) -> dict[int, int]:
     return pulled(longest, out, back)
 
 
-def walked(nodes: list[int], into: dict[int, list[int]], out: dict[int, list[int]]) -> tuple[list[int], set[tuple[int, int]]]:
+def walked(
+    nodes: list[int], into: dict[int, list[int]], out: dict[int, list[int]]
+) -> tuple[list[int], set[tuple[int, int]]]:
     """Returns the nodes in topological order, and the steps that close cycles and are left out of it."""
     order: list[int] = []
     back: set[tuple[int, int]] = set()
@@ -75,7 +77,8 @@ def pulled(found: dict[int, int], out: dict[int, list[int]], back: set[tuple[int
 
 
 def apart(wanted: list[float], sizes: list[float]) -> list[float]:
-    """Returns positions as near to the wanted ones as possible, in this order, with the distances that the sizes require."""
+    """Returns positions as near to the wanted ones as possible, in this order, with the distances that the sizes
+    require."""
     shifts: list[float] = []
     total = 0.0
     for here, size in enumerate(sizes):
@@ -99,6 +102,7 @@ def components(nodes: list[int], arcs: Iterable[Arc]) -> list[list[int]]:
         while head[node] != node:
             head[node] = node = head[head[node]]
         return node
+
     for arc in arcs:
         if arc.src in head and arc.dst in head:
             one, two = sorted((top(arc.src), top(arc.dst)))

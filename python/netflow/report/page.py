@@ -50,11 +50,16 @@ class Cells(Dict[object, str]):
 
 def table(head: Sequence[tuple[str, str]], rows: Sequence[tuple[str, Sequence[object]]], classes: str = "") -> str:
     """Returns a table whose columns a click sorts; a column is (title, class), a row its own class and its cells."""
-    titles = "".join(f'<th class="{kind}" scope="col"><button type="button">{text(title)}</button></th>' for title, kind in head)
+    titles = "".join(
+        f'<th class="{kind}" scope="col"><button type="button">{text(title)}</button></th>' for title, kind in head
+    )
     columns = [Cells(kind) for _, kind in head]
     lines = ["".join([column[cell] for cell, column in zip(cells, columns)]) for _, cells in rows]
     body = "\n".join(f'<tr class="{kind}">{line}</tr>' for (kind, _), line in zip(rows, lines))
-    return f'<div class="scroll"><table class="{classes}"><thead><tr>{titles}</tr></thead><tbody>\n{body}\n</tbody></table></div>'
+    return (
+        '<div class="scroll"><table'
+        f' class="{classes}"><thead><tr>{titles}</tr></thead><tbody>\n{body}\n</tbody></table></div>'
+    )
 
 
 def section(title: str, inner: str, name: str = "") -> str:
@@ -66,10 +71,12 @@ def bullets(lines: Sequence[str]) -> str:
 
 
 class Arcs:
-    """The table of one declaration's arcs; `keys` are the titles of the parts of its keys. `lead` are the ids of the arcs that are shown
-    first; a button shows the others."""
+    """The table of one declaration's arcs; `keys` are the titles of the parts of its keys. `lead` are the ids of the
+    arcs that are shown first; a button shows the others."""
 
-    def __init__(self, net: Network, name: str, keys: list[str], arcs: list[Arc], lead: set[int], has_plan: bool) -> None:
+    def __init__(
+        self, net: Network, name: str, keys: list[str], arcs: list[Arc], lead: set[int], has_plan: bool
+    ) -> None:
         self.net, self.name, self.keys, self.arcs, self.lead, self.has_plan = net, name, keys, arcs, lead, has_plan
         self.has_least = any(arc.lower for arc in arcs)
         self.has_worth = has_plan and any(arc.worth and self.gain(arc) for arc in arcs)
@@ -81,14 +88,24 @@ class Arcs:
     def head(self) -> list[tuple[str, str]]:
         titles = [(key, "") for key in self.keys]
         titles += [("from", "end"), ("to", "end")] + ([("flow", "number flow")] if self.has_plan else [])
-        titles += ([("least", "number")] if self.has_least else []) + [("most", "number")] + ([("price", "number")] if self.has_price else [])
+        titles += (
+            ([("least", "number")] if self.has_least else [])
+            + [("most", "number")]
+            + ([("price", "number")] if self.has_price else [])
+        )
         titles += [("flow × price", "number")] if self.has_plan and self.has_price else []
         better = "saves" if self.net.sign > 0 else "brings"
         return titles + ([(f"one unit past the bound {better} at most", "number wrap")] if self.has_worth else [])
 
     def row(self, arc: Arc) -> tuple[str, list[object]]:
-        cells: list[object] = [*arc.key, self.net.end(arc.src), self.net.end(arc.dst)] + ([arc.flow] if self.has_plan else [])
-        cells += ([arc.lower] if self.has_least else []) + ["no limit" if arc.is_open else arc.upper] + ([arc.price] if self.has_price else [])
+        cells: list[object] = [*arc.key, self.net.end(arc.src), self.net.end(arc.dst)] + (
+            [arc.flow] if self.has_plan else []
+        )
+        cells += (
+            ([arc.lower] if self.has_least else [])
+            + ["no limit" if arc.is_open else arc.upper]
+            + ([arc.price] if self.has_price else [])
+        )
         cells += [arc.flow * arc.price] if self.has_plan and self.has_price else []
         cells += [self.gain(arc) or ""] if self.has_worth else []
         bound = "full" if self.has_plan and arc.is_tight() else "lowest" if self.has_plan and arc.is_lowest() else ""
@@ -98,8 +115,11 @@ class Arcs:
         used, count = sum(arc.flow != 0 for arc in self.arcs), len(self.arcs)
         if not self.has_plan:
             across = sum(id(arc) in self.lead for arc in self.arcs)
-            return f"{count} {arcs_word(count)}, {across or 'none'} of them to or from the places in red." if self.lead else \
-                f"{count} {arcs_word(count)}, all of them between these places."
+            return (
+                f"{count} {arcs_word(count)}, {across or 'none'} of them to or from the places in red."
+                if self.lead
+                else f"{count} {arcs_word(count)}, all of them between these places."
+            )
         full, lowest = sum(arc.is_tight() for arc in self.arcs), sum(arc.is_lowest() for arc in self.arcs)
         spent = f" Flow × price: {grouped(sum(arc.flow * arc.price for arc in self.arcs))}." if self.has_price else ""
         bounds = (full, "full", "full, and more would help"), (lowest, "lowest", "at the least")
@@ -110,7 +130,11 @@ class Arcs:
         """Returns a line to find rows by their texts, and the full ones alone."""
         if count < FOUND_FROM:
             return ""
-        full = '<label><input type="checkbox"> full only</label>' if self.has_plan and any(arc.is_tight() for arc in self.arcs) else ""
+        full = (
+            '<label><input type="checkbox"> full only</label>'
+            if self.has_plan and any(arc.is_tight() for arc in self.arcs)
+            else ""
+        )
         return f'<p class="find"><label>find <input type="search"></label>{full}<span class="dim"></span></p>'
 
     def totals(self) -> str:
@@ -136,18 +160,28 @@ class Arcs:
     def html(self, grid: str = "") -> str:
         shown = sorted(self.arcs, key=lambda arc: id(arc) not in self.lead)
         hidden = sum(id(arc) not in self.lead for arc in self.arcs)
-        what = f"the {hidden} that {'carries' if hidden == 1 else 'carry'} nothing" if self.has_plan else f"the {hidden} other{'s' * (hidden > 1)}"
+        what = (
+            f"the {hidden} that {'carries' if hidden == 1 else 'carry'} nothing"
+            if self.has_plan
+            else f"the {hidden} other{'s' * (hidden > 1)}"
+        )
         note = f'<button type="button" class="toggle" aria-expanded="false">show {what}</button>' if hidden else ""
         if hidden and len(self.net.arcs) > HIDDEN_FROM:
-            shown, note = shown[:len(shown) - hidden], f"{capital(what)} are left out of this page; netflow-sheet writes them all."
+            shown, note = (
+                shown[: len(shown) - hidden],
+                f"{capital(what)} are left out of this page; netflow-sheet writes them all.",
+            )
         made = table(self.head(), [self.row(arc) for arc in shown], "numbers") if shown else ""
         # If every row is hidden, the heading is too.
         made = made if hidden < len(self.arcs) else f'<div class="later">{made}</div>'
-        return section(self.name, f"<p>{self.summary()} {note}</p>{self.finding(len(shown))}{made}{grid}{self.totals()}")
+        return section(
+            self.name, f"<p>{self.summary()} {note}</p>{self.finding(len(shown))}{made}{grid}{self.totals()}"
+        )
 
 
 def places_html(net: Network, marginal: Marginal | None = None) -> str:
-    """Returns the table of the places: inflow, outflow, and what one more unit that they need or give costs, as netflow-why says."""
+    """Returns the table of the places: inflow, outflow, and what one more unit that they need or give costs, as
+    netflow-why says."""
     came: list[Number] = [0] * len(net.nodes)
     went: list[Number] = [0] * len(net.nodes)
     for arc in (arc for arc in net.arcs if arc.flow):
@@ -159,12 +193,22 @@ def places_html(net: Network, marginal: Marginal | None = None) -> str:
     has_worth = any(worths)
     head = [("place", ""), ("needs or gives", ""), ("inflow", "number flow"), ("outflow", "number flow")]
     head += [(f"one more, needed or given, {'costs' if net.sign > 0 else 'takes away'}", "number wrap")] * has_worth
-    rows = [("", [node.text, node.wish(), came[number], went[number], *worths[number:number + has_worth]])
-            for number, node in enumerate(net.nodes)]
+    rows = [
+        ("", [node.text, node.wish(), came[number], went[number], *worths[number : number + has_worth]])
+        for number, node in enumerate(net.nodes)
+    ]
     rows, count = rows[:HIDDEN_FROM], len(rows)
     note = f" The first {HIDDEN_FROM} are shown." if count > HIDDEN_FROM else ""
-    note += f" One more unit that a place needs, or can give, changes the value; below 0 it {better(net)}." if has_worth else ""
-    return section("Places", f"<p>{count} {'place' if count == 1 else 'places'}.{note}</p>{table(head, rows, 'numbers')}") if rows else ""
+    note += (
+        f" One more unit that a place needs, or can give, changes the value; below 0 it {better(net)}."
+        if has_worth
+        else ""
+    )
+    return (
+        section("Places", f"<p>{count} {'place' if count == 1 else 'places'}.{note}</p>{table(head, rows, 'numbers')}")
+        if rows
+        else ""
+    )
 
 
 def arcs_word(count: int) -> str:
@@ -192,7 +236,9 @@ def reason_html(net: Network, reason: Reason, most: int) -> str:
     lines.append("</div></div>")
     quiet = reason.quiet(net)
     if quiet:
-        lines.append(f"<p>Pass on what they get: {text(', '.join(quiet[:most]))}{' ..' if len(quiet) > most else ''}.</p>")
+        lines.append(
+            f"<p>Pass on what they get: {text(', '.join(quiet[:most]))}{' ..' if len(quiet) > most else ''}.</p>"
+        )
     return "".join(lines)
 
 
@@ -200,24 +246,41 @@ def changes_html(net: Network, found: LeastChanges, most: int) -> str:
     """The least changes: those at one place, then those of the other kinds of bounds."""
     if found.is_large:
         return "<p>It is not computed: the model is too large.</p>"
-    lines = [f"<h3>{text(single_title(found.single))}</h3>" + bullets([change.sentence() for change in found.single])] if found.single else []
+    lines = (
+        [f"<h3>{text(single_title(found.single))}</h3>" + bullets([change.sentence() for change in found.single])]
+        if found.single
+        else []
+    )
     for what, changes in found.others().items():
         if changes is None:
             lines.append(f"<p>{text(capital(what))}: none is enough.</p>")
             continue
         if is_left_out(changes):
-            lines.append(f"<p>{text(capital(what))}: {total(changes)} in all. {text(left_out_text(net, changes, most))}.</p>")
+            lines.append(
+                f"<p>{text(capital(what))}: {total(changes)} in all. {text(left_out_text(net, changes, most))}.</p>"
+            )
             continue
-        rows = [("", [change.amount, change.sentence()]) for change in sorted(changes, key=lambda change: -change.amount)[:most]]
+        rows = [
+            ("", [change.amount, change.sentence()])
+            for change in sorted(changes, key=lambda change: -change.amount)[:most]
+        ]
         more = f"<p>and {len(changes) - most} more</p>" if len(changes) > most else ""
-        lines.append(f"<h3>{text(capital(what))}: {total(changes)} in all</h3>" + table([("by", "number"), ("change", "")], rows) + more)
+        lines.append(
+            f"<h3>{text(capital(what))}: {total(changes)} in all</h3>"
+            + table([("by", "number"), ("change", "")], rows)
+            + more
+        )
     return "".join(lines) + "<p>Each unit counts the same, and other changes may be as small.</p>"
 
 
 def date() -> str:
     """Returns the date of today, or of SOURCE_DATE_EPOCH."""
     epoch = os.environ.get("SOURCE_DATE_EPOCH")
-    day = datetime.datetime.fromtimestamp(int(epoch), datetime.timezone.utc) if epoch and epoch.isdigit() else datetime.datetime.now()
+    day = (
+        datetime.datetime.fromtimestamp(int(epoch), datetime.timezone.utc)
+        if epoch and epoch.isdigit()
+        else datetime.datetime.now()
+    )
     return day.strftime("%Y-%m-%d")
 
 

@@ -21,14 +21,27 @@ MOST_ROOM = 170
 
 
 class Placement:
-    """The places of some arcs of a network in a drawing. `marked` are node indices, `across` the ids of arcs across that set; `alone` draws all nodes.
-    Positions are `u` along the layers and `v` across them. `nodes`, `known` and `is_small` are for a part of a picture: its nodes, the
-    arcs between them, and whether arcs have numbers."""
+    """The places of some arcs of a network in a drawing. `marked` are node indices, `across` the ids of arcs across
+    that set; `alone` draws all nodes. Positions are `u` along the layers and `v` across them. `nodes`, `known` and
+    `is_small` are for a part of a picture: its nodes, the arcs between them, and whether arcs have numbers."""
 
-    def __init__(self, net: Network, arcs: list[Arc], marked: AbstractSet[int] = frozenset(), across: AbstractSet[int] = frozenset(), alone: bool = False, is_down: bool = False, nodes: list[int] | None = None, known: list[Arc] | None = None, is_small: bool | None = None) -> None:
+    def __init__(
+        self,
+        net: Network,
+        arcs: list[Arc],
+        marked: AbstractSet[int] = frozenset(),
+        across: AbstractSet[int] = frozenset(),
+        alone: bool = False,
+        is_down: bool = False,
+        nodes: list[int] | None = None,
+        known: list[Arc] | None = None,
+        is_small: bool | None = None,
+    ) -> None:
         self.net, self.arcs, self.marked, self.across, self.is_down = net, arcs, marked, across, is_down
         ends = {end for arc in arcs for end in (arc.src, arc.dst) if end is not None}
-        self.nodes = nodes or (list(range(len(net.nodes))) if alone else sorted(ends | set(marked if len(marked) <= 80 else ())))
+        self.nodes = nodes or (
+            list(range(len(net.nodes))) if alone else sorted(ends | set(marked if len(marked) <= 80 else ()))
+        )
         self.is_small = len(arcs) <= LABELLED if is_small is None else is_small
         self.links = [arc for arc in arcs if None not in (arc.src, arc.dst) and arc.src != arc.dst]
         self.stubs: dict[tuple[int | None, int | None], list[Arc]] = {}
@@ -63,8 +76,13 @@ class Placement:
 
     def measure(self) -> None:
         """Sets the width and height of each node: room for its name, and for the ends of its arcs on each side."""
-        self.wide: dict[int, float] = {number: 22 + self.text_width(max(self.label(number), key=columns)) for number in self.nodes}
-        self.tall: dict[int, float] = {number: 40 if self.is_small and len(self.label(number)) > 1 else 24 if self.is_small else 19 for number in self.nodes}
+        self.wide: dict[int, float] = {
+            number: 22 + self.text_width(max(self.label(number), key=columns)) for number in self.nodes
+        }
+        self.tall: dict[int, float] = {
+            number: 40 if self.is_small and len(self.label(number)) > 1 else 24 if self.is_small else 19
+            for number in self.nodes
+        }
         self.sides: dict[tuple[int, bool], list[tuple[Arc, bool]]] = {}
         for arc in self.links:
             src, dst = ends_of(arc)
@@ -125,7 +143,7 @@ class Placement:
             along = max(self.along(vertex) for vertex in row)
             u.update({vertex: left + along / 2 for vertex in row})
             left += along + self.gap(here, rows)
-        half = {vertex: (self.extent(vertex) / 2) for vertex in v}
+        half = {vertex: self.extent(vertex) / 2 for vertex in v}
         first = min((v[vertex] - half[vertex] for vertex in v), default=0) - 14
         self.u, self.v = u, {vertex: place - first for vertex, place in v.items()}
         last = max((u[vertex] + self.along(vertex) / 2 for vertex in u), default=0) + 62
@@ -149,7 +167,8 @@ class Placement:
         return min(96 + text + 9 * crossing, 420)
 
     def paths(self) -> tuple[dict[Vertex, list[Vertex]], list[list[Vertex]]]:
-        """Returns the neighbours of each node and bend, and the layers; a long arc has a bend in each layer between its ends."""
+        """Returns the neighbours of each node and bend, and the layers; a long arc has a bend in each layer between its
+        ends."""
         self.bends: dict[int, list[Bend]] = {}
         near: dict[Vertex, list[Vertex]] = {}
         rows: dict[int, list[Vertex]] = {}
@@ -179,14 +198,17 @@ class Placement:
                 at.update({vertex: (here + 0.5) / len(row) for here, vertex in enumerate(row)})
 
     def spread_ports(self) -> dict[tuple[int, bool], float]:
-        """Returns for each end of an arc its distance from the middle of its node's side, in the order of the other ends."""
+        """Returns for each end of an arc its distance from the middle of its node's side, in the order of the other
+        ends."""
         found: dict[tuple[int, bool], float] = {}
         for (number, _), ends in self.sides.items():
+
             def other(end: tuple[Arc, bool]) -> float:
                 arc, is_tail = end
                 bends = self.bends[id(arc)]
                 src, dst = ends_of(arc)
                 return self.v[(bends[0] if is_tail else bends[-1]) if bends else dst if is_tail else src]
+
             ends.sort(key=other)
             room = (self.wide if self.is_down else self.tall)[number] - 10
             pitches = [self.pitch(*end) for end in ends]

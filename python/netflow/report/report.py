@@ -21,11 +21,17 @@ from .page import Arcs, bullets, changes_html, page, places_html, reason_html, s
 from .placement import grouped
 
 DRAWN, ALL_DRAWN, SHOWN, SETS = 400, 60, 20, 5
-# Pixels: the printed page, the least scale at which names can be read, and the height from which a drawing needs a page of its own.
+# Pixels: the printed page, the least scale at which names can be read, and the height from which a drawing needs a page
+# of its own.
 PRINTED, READABLE, TALL = (688, 907), 0.36, 1890
 # How many arcs are listed at which more capacity may help.
 MOST_GAINS = 8
-KINDS = (("used", "carries something"), ("full", "full, and more would help"), ("across", "to or from the places in red"), ("idle", "carries nothing"))
+KINDS = (
+    ("used", "carries something"),
+    ("full", "full, and more would help"),
+    ("across", "to or from the places in red"),
+    ("idle", "carries nothing"),
+)
 
 
 class Report:
@@ -35,7 +41,11 @@ class Report:
         self.answer, self.net = instance.network(with_prices=True)
         model = instance.model.text()
         self.files, self.model, self.reasons = files, model, []
-        self.odd = [*compared_texts(model, [source.text() for source in instance.data]), *grouped_lines_of(instance), *remark_lines(instance, self.net)]
+        self.odd = [
+            *compared_texts(model, [source.text() for source in instance.data]),
+            *grouped_lines_of(instance),
+            *remark_lines(instance, self.net),
+        ]
         self.title, self.unit = first_comment(model) or files, unit or objective_unit(model, self.net.objective)
         self.has_plan = self.net.cut is None
         self.marginal = Marginal(self.net) if self.has_plan else None
@@ -47,7 +57,9 @@ class Report:
         # If every place is in the set, a mark would say nothing.
         self.marked = set() if len(self.marked) == len(self.net.nodes) else self.marked
         self.cut = bottleneck(self.net, self.gains) if self.gains is not None else []
-        self.across = {id(arc) for arc in self.net.arcs if self.sets and self.is_across(arc)} | {id(arc) for arc in self.cut}
+        self.across = {id(arc) for arc in self.net.arcs if self.sets and self.is_across(arc)} | {
+            id(arc) for arc in self.cut
+        }
 
     def is_across(self, arc: Arc) -> bool:
         """Whether the arc leads into one of the sets that are short, or out of it."""
@@ -62,15 +74,21 @@ class Report:
         best = "No plan costs less" if net.sign > 0 else "No plan is worth more"
         used = sum(arc.flow != 0 for arc in net.arcs)
         unit = f' <span class="unit">{text(self.unit)}</span>' if self.unit else ""
-        return f'<p class="value">{text(net.objective)} = {grouped(net.value)}{unit}</p><p>{best}. {counts}, {grouped(used)} in use.</p>'
+        return (
+            f'<p class="value">{text(net.objective)} = {grouped(net.value)}{unit}</p><p>{best}. {counts},'
+            f" {grouped(used)} in use.</p>"
+        )
 
     def drawn(self) -> list[Arc]:
-        """Returns the arcs to draw: all of a small network; else those in use, or across the sets in red, the largest first."""
+        """Returns the arcs to draw: all of a small network; else those in use, or across the sets in red, the largest
+        first."""
         arcs = self.net.arcs
         if len(arcs) <= ALL_DRAWN:
             return arcs
         if self.has_plan:
-            return sorted((arc for arc in arcs if arc.flow), key=lambda arc: (id(arc) not in self.across, -magnitude(arc.flow)))[:DRAWN]
+            return sorted(
+                (arc for arc in arcs if arc.flow), key=lambda arc: (id(arc) not in self.across, -magnitude(arc.flow))
+            )[:DRAWN]
         across = [arc for arc in arcs if id(arc) in self.across]
         inside = [arc for arc in arcs if arc.src in self.marked and arc.dst in self.marked]
         return (across + inside)[:DRAWN]
@@ -89,19 +107,33 @@ class Report:
         named = dict(KINDS)
         named.update({} if self.has_plan else {"idle": "another arc"})
         named.update({"across": "the bottleneck"} if self.cut else {})
-        keys = "".join(f'<span><i class="{kind}"></i>{means}</span>' for kind, means in named.items() if f'class="arc {kind} ' in picture)
+        keys = "".join(
+            f'<span><i class="{kind}"></i>{means}</span>'
+            for kind, means in named.items()
+            if f'class="arc {kind} ' in picture
+        )
         marked = "<span>The places that are short are red.</span>" if self.marked else ""
         left = len(self.net.arcs) - count
         note = f"<span>{count} of {len(self.net.arcs)} arcs are drawn: {self.choice(count)}.</span>" if left else ""
-        tools = '<span class="tools"><button type="button" data-scale="1.25">larger</button> <button type="button" data-scale="0.8">smaller</button> ' \
-                '<button type="button" data-scale="fit">fit</button></span>'
-        point = '<span class="dim point">Point at a place to see only its arcs.</span><span class="more-right">The drawing goes on to the right.</span>' \
-                '<span class="more-down">The drawing goes on below.</span>'
+        tools = (
+            '<span class="tools"><button type="button" data-scale="1.25">larger</button> <button type="button"'
+            ' data-scale="0.8">smaller</button> <button type="button" data-scale="fit">fit</button></span>'
+        )
+        point = (
+            '<span class="dim point">Point at a place to see only its arcs.</span><span class="more-right">The drawing'
+            ' goes on to the right.</span><span class="more-down">The drawing goes on below.</span>'
+        )
         return f'<p class="key">{keys}{marked}{note}{point}{tools}</p>{framed(picture)}'
 
     def choice(self, count: int) -> str:
         what = "those that carry something" if self.has_plan else "those of the places that are short"
-        return what + (f", the {count} largest" if count == DRAWN and self.has_plan else f", the first {count}" if count == DRAWN else "")
+        return what + (
+            f", the {count} largest"
+            if count == DRAWN and self.has_plan
+            else f", the first {count}"
+            if count == DRAWN
+            else ""
+        )
 
     def why(self) -> str:
         parts = [f'<p class="reason">{text(line)}</p>' for line in opposite_sides(self.net)]
@@ -114,9 +146,15 @@ class Report:
     def bottleneck(self) -> str:
         if not self.cut:
             return ""
-        lines = [f"{arc.text} from {self.net.end(arc.src)} to {self.net.end(arc.dst)}: {grouped(arc.upper)}" for arc in sorted(self.cut, key=lambda arc: -arc.upper)]
+        lines = [
+            f"{arc.text} from {self.net.end(arc.src)} to {self.net.end(arc.dst)}: {grouped(arc.upper)}"
+            for arc in sorted(self.cut, key=lambda arc: -arc.upper)
+        ]
         more = [f"and {len(lines) - SHOWN} more"] if len(lines) > SHOWN else []
-        return section("Bottleneck", f"<p>{grouped(self.net.value)} in all. No flow can be larger.</p>" + bullets(lines[:SHOWN] + more))
+        return section(
+            "Bottleneck",
+            f"<p>{grouped(self.net.value)} in all. No flow can be larger.</p>" + bullets(lines[:SHOWN] + more),
+        )
 
     def prices(self) -> str:
         """Returns the arcs at which one more unit of capacity saves most."""
@@ -126,20 +164,37 @@ class Report:
         felt = [(amount, arc) for amount, arc in gains.felt if arc.is_full() and arc.name not in chosen]
         doubt = "" if gains.is_exact else " at most"
         saves = f"one more unit {better(self.net)}{doubt}"
-        lines = [f"{arc.text}, full at {grouped(arc.upper)}: {saves} {grouped(amount)}{gains.limit(arc)}" for amount, arc in felt[:MOST_GAINS]]
+        lines = [
+            f"{arc.text}, full at {grouped(arc.upper)}: {saves} {grouped(amount)}{gains.limit(arc)}"
+            for amount, arc in felt[:MOST_GAINS]
+        ]
         left = len(felt) - MOST_GAINS
-        lines += [f"{left} more, each {grouped(felt[MOST_GAINS][0])} or less: netflow-why --all lists them"] if left > 0 else []
+        lines += (
+            [f"{left} more, each {grouped(felt[MOST_GAINS][0])} or less: netflow-why --all lists them"]
+            if left > 0
+            else []
+        )
         return section("Where more capacity helps", bullets(lines)) if lines and not self.cut else ""
 
     def remarks(self) -> str:
         """Returns what is allowed, and often a mistake."""
         net, met = self.net, {end for arc in self.net.arcs for end in (arc.src, arc.dst)}
         declared = net.declared().items()
-        found = (([node.text for number, node in enumerate(net.nodes) if number not in met], "has no arc", "have no arc"),
-                 ([arc.text for arc in net.arcs if arc.lower == arc.upper == 0], "can carry nothing", "can carry nothing"),
-                 ([name for name, arcs in declared if not any(arc.price for arc in arcs)], "has no price", "have no price"),
-                 ([name for name, arcs in declared if self.has_plan and not any(arc.flow for arc in arcs)], "carries nothing", "carry nothing"))
-        lines = [f"{', '.join(names[:6])}{' and others' * (len(names) > 6)} {one if len(names) == 1 else many}." for names, one, many in found if names]
+        found = (
+            ([node.text for number, node in enumerate(net.nodes) if number not in met], "has no arc", "have no arc"),
+            ([arc.text for arc in net.arcs if arc.lower == arc.upper == 0], "can carry nothing", "can carry nothing"),
+            ([name for name, arcs in declared if not any(arc.price for arc in arcs)], "has no price", "have no price"),
+            (
+                [name for name, arcs in declared if self.has_plan and not any(arc.flow for arc in arcs)],
+                "carries nothing",
+                "carry nothing",
+            ),
+        )
+        lines = [
+            f"{', '.join(names[:6])}{' and others' * (len(names) > 6)} {one if len(names) == 1 else many}."
+            for names, one, many in found
+            if names
+        ]
         fractions = fractions_text(net)
         lines += [f"{fractions[:1].upper()}{fractions[1:]}."] if fractions else []
         lines += self.odd
@@ -156,23 +211,35 @@ class Report:
 
     def html(self) -> str:
         why = [] if self.has_plan else [self.why()]
-        prices, places = ([self.bottleneck(), self.prices()], [places_html(self.net, self.marginal)]) if self.has_plan else ([], [])
+        prices, places = (
+            ([self.bottleneck(), self.prices()], [places_html(self.net, self.marginal)]) if self.has_plan else ([], [])
+        )
         parts = [*why, section("The network", self.drawing()), *prices, self.remarks(), *self.tables(), *places]
         return page(self.title, self.files, self.head(), parts)
 
 
 def framed(picture: str) -> str:
-    """Returns the frame of a drawing, or of its parts in columns. Print leaves out a drawing with names too small to read."""
+    """Returns the frame of a drawing, or of its parts in columns. Print leaves out a drawing with names too small to
+    read."""
     sizes = [tuple(map(int, size)) for size in re.findall(r'<svg [^>]*?width="(\d+)" height="(\d+)"', picture)]
     wide, high = max(sizes)[0], sizes[0][1]
     if len(sizes) > 1:
         return f'<div class="picture"><div class="parts" style="--widest:{wide}px">{picture}</div></div>'
     if min(PRINTED[0] / wide, PRINTED[1] / high) < READABLE:
-        return f'<div class="picture screen">{picture}</div><p class="print-note">The drawing is on the page for the screen: its names are too small for print.</p>'
+        return (
+            f'<div class="picture screen">{picture}</div><p class="print-note">The drawing is on the page for the'
+            " screen: its names are too small for print.</p>"
+        )
     return f'<div class="picture whole{" tall" if high > TALL else ""}">{picture}</div>'
 
 
 def objective_unit(model: str, name: str) -> str:
     """Returns the unit that a comment on the objective's line gives: `minimize Total;  # in euros` or `# [t]`."""
-    found = re.search(rf"\b(?:minimize|maximize)\s+{re.escape(name)}\b[^\n]*#[^\n]*?(?:\bin\s+|\[)([^\]\n,.;]{{1,16}})", model) if name else None
+    found = (
+        re.search(
+            rf"\b(?:minimize|maximize)\s+{re.escape(name)}\b[^\n]*#[^\n]*?(?:\bin\s+|\[)([^\]\n,.;]{{1,16}})", model
+        )
+        if name
+        else None
+    )
     return found[1].strip() if found else ""

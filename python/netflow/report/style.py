@@ -17,7 +17,9 @@ svg text{font:13px system-ui,sans-serif;fill:var(--ink);text-anchor:middle}.node
 @media print{svg{max-width:100%;height:auto}.large .arc text{display:none}}
 """
 
-PAGE_STYLE = DRAWING_STYLE + """
+PAGE_STYLE = (
+    DRAWING_STYLE
+    + """
 *{box-sizing:border-box}
 body{font:15px/1.5 system-ui,sans-serif;color:var(--ink);background:var(--back);margin:0 auto;max-width:1240px;padding:20px 16px 40px}
 h1{font-size:1.4rem;margin:0 0 4px}h2{font-size:1.15rem;margin:32px 0 6px}h3{font-size:1rem;margin:14px 0 4px}p{margin:4px 0 8px}
@@ -64,6 +66,7 @@ th,.grid tr.sum td,.grid td:first-child,.grid td.key{position:static;background:
 section{break-inside:auto}h2,h3{break-after:avoid}}
 @page{margin:1.4cm}
 """
+)
 
 SCRIPT = """
 function value(cell){return cell.dataset.n===undefined?cell.textContent:cell.dataset.n}

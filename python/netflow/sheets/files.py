@@ -46,7 +46,9 @@ class Cell:
             return "."
         if ERROR_VALUE.fullmatch(self.text):
             self.reject("is an error value of the spreadsheet: write the number, or leave the cell empty")
-        text = self.text.replace(",", ".") if has_comma and re.fullmatch(r"[+-]?[0-9]*,[0-9]+", self.text) else self.text
+        text = (
+            self.text.replace(",", ".") if has_comma and re.fullmatch(r"[+-]?[0-9]*,[0-9]+", self.text) else self.text
+        )
         if NUMERAL.fullmatch(text):
             number = parse_numeral(text)
             if number is None or abs(number * factor) > LARGEST:
@@ -81,16 +83,21 @@ def column_number(letters: str) -> int:
 
 
 def read_sheet(source: str) -> list[list[Cell]]:
-    """Returns the rows that have something in them: of a CSV file, of standard input (`-`), or of a sheet, `FILE.xlsx:SHEET`."""
+    """Returns the rows that have something in them: of a CSV file, of standard input (`-`), or of a sheet,
+    `FILE.xlsx:SHEET`."""
     path, _, sheet = source.partition(".xlsx")
     try:
         if source.lower().endswith(".xlsx") or sheet.startswith(":"):
-            texts: Iterable[Sequence[str]] = xlsx_rows(source if not sheet.startswith(":") else f"{path}.xlsx", sheet[1:])
+            texts: Iterable[Sequence[str]] = xlsx_rows(
+                source if not sheet.startswith(":") else f"{path}.xlsx", sheet[1:]
+            )
         else:
             texts = csv_rows(source)
     except OSError as problem:
         raise ProgramError(UNREADABLE_FILE, f"netflow-sheet: {source}: {problem.strerror or problem}\n") from None
-    rows = [trimmed([Cell(text, source, row, column) for column, text in enumerate(line)]) for row, line in enumerate(texts)]
+    rows = [
+        trimmed([Cell(text, source, row, column) for column, text in enumerate(line)]) for row, line in enumerate(texts)
+    ]
     rows = [line for line in rows if line]
     if not rows:
         raise ProgramError(REJECTED, f"netflow-sheet: {source}: the sheet is empty\n")
@@ -98,7 +105,8 @@ def read_sheet(source: str) -> list[list[Cell]]:
 
 
 def csv_rows(path: str) -> Iterable[Sequence[str]]:
-    """Yields the rows of a CSV file; the mark between cells is the one of comma, semicolon and tab that the first row has most of."""
+    """Yields the rows of a CSV file; the mark between cells is the one of comma, semicolon and tab that the first row
+    has most of."""
     if path == "-":
         raw = sys.stdin.buffer.read()
     else:
@@ -110,7 +118,9 @@ def csv_rows(path: str) -> Iterable[Sequence[str]]:
     try:
         text = raw.decode(encoding)
     except UnicodeDecodeError:
-        raise ProgramError(REJECTED, f"netflow-sheet: {path}: not UTF-8: save it as CSV in UTF-8, or use iconv -f latin1 -t utf-8\n") from None
+        raise ProgramError(
+            REJECTED, f"netflow-sheet: {path}: not UTF-8: save it as CSV in UTF-8, or use iconv -f latin1 -t utf-8\n"
+        ) from None
     first = next((line for line in text.splitlines() if line.strip()), "")
     mark = max(",;\t", key=first.count)
     return csv.reader(io.StringIO(text, newline=""), delimiter=mark)

@@ -74,7 +74,14 @@ def tables_of(net: Network, model: str, words: argparse.Namespace) -> list[tuple
         used = [arc for arc in arcs if arc.flow or not words.used]
         if words.only in ("", name) and used:
             is_grid = words.grid and len(used[0].key) > 1
-            found.append((name, list(grid_of(name, used) if is_grid else list_of(net, used, headings(model, name, len(used[0].key))))))
+            found.append(
+                (
+                    name,
+                    list(
+                        grid_of(name, used) if is_grid else list_of(net, used, headings(model, name, len(used[0].key)))
+                    ),
+                )
+            )
     return found
 
 
@@ -97,7 +104,9 @@ def plan(words: argparse.Namespace, instance: Instance) -> int:
             return answer.status
         names = list(net.declared())
         if words.only and words.only not in names:
-            raise ProgramError(REJECTED, f"netflow-sheet: --only {words.only}: the model has the arcs {', '.join(names)}\n")
+            raise ProgramError(
+                REJECTED, f"netflow-sheet: --only {words.only}: the model has the arcs {', '.join(names)}\n"
+            )
         model = instance.model.text()
         write(net, model, words)
     return 0

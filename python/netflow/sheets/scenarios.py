@@ -55,7 +55,8 @@ def difference(value: Number, base: Number) -> str:
 
 
 def scenarios(words: argparse.Namespace, out: Any) -> int:
-    """Writes a row for the model as it is, and one for each case. A case with an error does not end the table; the status is then 3."""
+    """Writes a row for the model as it is, and one for each case. A case with an error does not end the table; the
+    status is then 3."""
     cases = cases_of(words)
     if not cases:
         raise ProgramError(USAGE, "netflow-sheet scenarios: give at least one --case or --vary\n")
@@ -91,13 +92,16 @@ def without_plan(net: Network) -> list[object]:
 
 
 def case_cells(base: Network, net: Network) -> list[object]:
-    """Returns the cells of a case: status, value, difference, how many arcs differ, and the reason if it has no plan."""
+    """Returns the cells of a case: status, value, difference, how many arcs differ, and the reason if it has no
+    plan."""
     if net.cut is not None:
         return without_plan(net)
     if base.cut is not None:
         return ["optimal", net.value, "", "", ""]
     flows = {arc.text: arc.flow for arc in base.arcs}
-    differing = sum(flows.get(arc.text, 0) != arc.flow for arc in net.arcs) + sum(flows[name] != 0 for name in flows.keys() - {arc.text for arc in net.arcs})
+    differing = sum(flows.get(arc.text, 0) != arc.flow for arc in net.arcs) + sum(
+        flows[name] != 0 for name in flows.keys() - {arc.text for arc in net.arcs}
+    )
     return ["optimal", net.value, difference(net.value, base.value), differing, ""]
 
 

@@ -14,7 +14,8 @@ from ..errors import DataError, ModelError, NetflowError, ProgramError, ScaleErr
 from ..exact import Exact, parse_numeral
 from ..hints.diagnostic import LINE, Diagnostic
 from ..inputs.grouped_digits import grouped_lines_of
-from ..inputs.instance import Input, Instance
+from ..inputs.instance import Instance
+from ..inputs.source import Input
 from ..program import INTERNAL, REJECTED, UNREADABLE_FILE, USAGE, Patience
 from ..reading.data import TOKEN
 from ..reading.model import Unparsed
@@ -31,7 +32,11 @@ class Words(argparse.ArgumentParser):
 
     def __init__(self, usage: str, **others: Any) -> None:
         summary, _, more = usage.partition("\n\n")
-        words: dict[str, Any] = {"usage": summary.replace("usage: ", "", 1), "description": more, "formatter_class": argparse.RawDescriptionHelpFormatter}
+        words: dict[str, Any] = {
+            "usage": summary.replace("usage: ", "", 1),
+            "description": more,
+            "formatter_class": argparse.RawDescriptionHelpFormatter,
+        }
         arguments: dict[str, Any] = {**words, "allow_abbrev": False, **others}
         super().__init__(**arguments)
         self.add_argument("--version", action="version", version=f"{self.prog} {__version__}")
@@ -44,12 +49,32 @@ class Words(argparse.ArgumentParser):
     def instance(self) -> "Words":
         """Adds the files and options of a model with its data."""
         self.add_argument("model", metavar="MODEL")
-        self.add_argument("data", metavar="DATA", nargs="*", default=[], help="data files; later ones override earlier ones (none: no data)")
+        self.add_argument(
+            "data",
+            metavar="DATA",
+            nargs="*",
+            default=[],
+            help="data files; later ones override earlier ones (none: no data)",
+        )
         self.add_argument("--objective", metavar="NAME", help="the objective, if the model has several")
-        self.add_argument("--set", metavar="NAME=VALUE", action="append", default=[], dest="changes",
-                          help="change a value: van=45, or cost[north,hill]=5")
-        self.add_argument("--scale", metavar="NAME=FACTOR", action="append", default=[], help="the factor of a parameter with decimals")
-        self.add_argument("--bounds", action="store_true", help="add bounds that no plan reaches to arcs that lack them")
+        self.add_argument(
+            "--set",
+            metavar="NAME=VALUE",
+            action="append",
+            default=[],
+            dest="changes",
+            help="change a value: van=45, or cost[north,hill]=5",
+        )
+        self.add_argument(
+            "--scale",
+            metavar="NAME=FACTOR",
+            action="append",
+            default=[],
+            help="the factor of a parameter with decimals",
+        )
+        self.add_argument(
+            "--bounds", action="store_true", help="add bounds that no plan reaches to arcs that lack them"
+        )
         return self
 
 
@@ -57,8 +82,15 @@ def instance_of(words: argparse.Namespace, extra: Sequence[str] = ()) -> Instanc
     """Returns the question of parsed words."""
     data = [Input(path) for path in words.data]
     origins = {**origins_of(words.changes, "--set"), **origins_of(extra, "the case")}
-    instance = Instance(Input(words.model), data, objective=words.objective, changes=changes_of([*words.changes, *extra]),
-                        scale=scale_of(words.scale), add_bounds=words.bounds, origins=origins)
+    instance = Instance(
+        Input(words.model),
+        data,
+        objective=words.objective,
+        changes=changes_of([*words.changes, *extra]),
+        scale=scale_of(words.scale),
+        add_bounds=words.bounds,
+        origins=origins,
+    )
     instance.words = given_words(words, extra)
     return instance
 
@@ -66,9 +98,14 @@ def instance_of(words: argparse.Namespace, extra: Sequence[str] = ()) -> Instanc
 def given_words(words: argparse.Namespace, extra: Sequence[str]) -> list[str]:
     """Returns the files and options of a question as words; none if a file is a pipe, which can be read only once."""
     files = [words.model, *words.data]
-    if any(file == "-" or os.path.exists(file) and not os.path.isfile(file) and os.path.realpath(file) != os.devnull for file in files):
+    if any(
+        file == "-" or os.path.exists(file) and not os.path.isfile(file) and os.path.realpath(file) != os.devnull
+        for file in files
+    ):
         return []
-    options = [["--set", change] for change in (*words.changes, *extra)] + [["--scale", factor] for factor in words.scale]
+    options = [["--set", change] for change in (*words.changes, *extra)] + [
+        ["--scale", factor] for factor in words.scale
+    ]
     options += [["--objective", words.objective]] if words.objective else []
     return [*files, *(word for pair in options for word in pair), *(["--bounds"] if words.bounds else [])]
 
@@ -137,7 +174,10 @@ def fractions_text(net: Network) -> str:
     named = net.factors.in_flows
     what = ", ".join(named) if named else "a bound or condition of the model"
     unit = Exact(1, net.factors.flow)
-    return f"flows are multiples of {unit}, since {what} {'have' if len(named) > 1 else 'has'} decimals; for whole flows use whole numbers there"
+    return (
+        f"flows are multiples of {unit}, since {what} {'have' if len(named) > 1 else 'has'} decimals; for whole flows"
+        " use whole numbers there"
+    )
 
 
 def note_fractions(net: Network) -> None:
@@ -169,7 +209,8 @@ def print_error_json(problem: ProgramError, instance: Instance) -> int:
 
 
 def run(main: Callable[[Sequence[str]], int], words: Sequence[str] | None = None) -> None:
-    """Runs the main function of a tool and exits with its status. A closed pipe is silent; output that fails has the status 4."""
+    """Runs the main function of a tool and exits with its status. A closed pipe is silent; output that fails has the
+    status 4."""
     if hasattr(signal, "SIGPIPE"):
         signal.signal(signal.SIGPIPE, signal.SIG_DFL)
     name = os.path.basename(sys.argv[0])

@@ -43,12 +43,15 @@ def files_of(words: Sequence[str]) -> list[int]:
             skip = word == "--objective"
             continue
         places.append(here)
-    return places[:len(TEXTS.get(words[0], ()))]
+    return places[: len(TEXTS.get(words[0], ()))]
 
 
 def width(text: str) -> int:
     """Returns the columns of a terminal that a text takes."""
-    return sum(0 if unicodedata.combining(letter) else 2 if unicodedata.east_asian_width(letter) in "WF" else 1 for letter in text)
+    return sum(
+        0 if unicodedata.combining(letter) else 2 if unicodedata.east_asian_width(letter) in "WF" else 1
+        for letter in text
+    )
 
 
 def source_lines(diagnostic: Diagnostic) -> list[str]:
@@ -57,7 +60,7 @@ def source_lines(diagnostic: Diagnostic) -> list[str]:
     if len(before) > AROUND:
         before = ".. " + before[-AROUND:]
     if len(after) > 2 * AROUND:
-        after = after[:2 * AROUND] + " .."
+        after = after[: 2 * AROUND] + " .."
     # A tab stays one, so that the mark is below its place whatever the terminal makes of it.
     under = "".join(letter if letter == "\t" else " " * width(letter) for letter in before)
     return [f"    {before}{after}", *([f"    {under}^"] if diagnostic.column else [])]
@@ -67,7 +70,9 @@ def lines_of(diagnostic: Diagnostic) -> list[str]:
     """Returns the explanation. A sure hint comes alone; without one, what to do in general comes last."""
     place = diagnostic.place() if diagnostic.called or diagnostic.is_change() else ""
     means, remedy = diagnostic.catalogue()
-    lines = textwrap.wrap(f"{place}: {means}" if place else means, WIDTH, break_long_words=False, break_on_hyphens=False)
+    lines = textwrap.wrap(
+        f"{place}: {means}" if place else means, WIDTH, break_long_words=False, break_on_hyphens=False
+    )
     is_text = "\0" not in diagnostic.shown and not diagnostic.shown.startswith("PK\x03\x04")
     lines += source_lines(diagnostic) if diagnostic.shown.strip() and is_text and not diagnostic.is_change() else []
     lines += [f"  Hint: {hint}" for hint in diagnostic.hints()]
@@ -89,7 +94,11 @@ def explain(words: list[str], is_json: bool) -> int:
         except OSError as problem:
             raise ProgramError(USAGE, f"{program()}: {problem.strerror}\n") from None
         line = done.stderr.decode("utf-8", "surrogateescape").rstrip("\n")
-        found = Diagnostic(line, words[0], session.files, [words[place] for place in places]) if LINE.fullmatch(line) else None
+        found = (
+            Diagnostic(line, words[0], session.files, [words[place] for place in places])
+            if LINE.fullmatch(line)
+            else None
+        )
         options = [word for here, word in enumerate(words[1:], 1) if here not in places]
         if found and is_json:
             print_json(found, options)
@@ -98,7 +107,9 @@ def explain(words: list[str], is_json: bool) -> int:
         if words[0] == "solve" and done.returncode in (0, 2):
             texts = [read(path) for path in session.files]
             write_hints(grouped_lines(texts[0], [(None, text) for text in texts[1:]]))
-        sys.stderr.write("".join(f"{line}\n" for line in [*lines_of(found), *further_lines(found, options)]) if found else "")
+        sys.stderr.write(
+            "".join(f"{line}\n" for line in [*lines_of(found), *further_lines(found, options)]) if found else ""
+        )
     return done.returncode
 
 
@@ -112,7 +123,11 @@ def is_rewriting(words: Sequence[str]) -> bool:
     """Whether the words of a call have several data files or an option that netflow itself does not have."""
     if words[0] not in ("solve", "compile"):
         return False
-    files = [word for here, word in enumerate(words[1:]) if words[here] != "--objective" and (not word.startswith("-") or word == "-")]
+    files = [
+        word
+        for here, word in enumerate(words[1:])
+        if words[here] != "--objective" and (not word.startswith("-") or word == "-")
+    ]
     return len(files) > 2 or any(word.partition("=")[0] in ("--set", "--scale", "--bounds") for word in words)
 
 

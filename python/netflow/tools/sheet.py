@@ -55,7 +55,9 @@ def chosen(rows: list[list[Cell]], columns: str) -> list[list[Cell]]:
         elif name.isalpha() and name.isupper() and len(name) <= 2 and column_number(name) < max(map(len, rows)):
             places.append(column_number(name))
         else:
-            raise ProgramError(REJECTED, f"{rows[0][0].path}: no column is called {name!r}; it has {', '.join(filter(None, titles))}\n")
+            raise ProgramError(
+                REJECTED, f"{rows[0][0].path}: no column is called {name!r}; it has {', '.join(filter(None, titles))}\n"
+            )
     width = max(map(len, rows))
     return [[filled(row, width)[index] for index in places] for row in rows]
 
@@ -64,27 +66,37 @@ def as_set(name: str, rows: list[list[Cell]], has_heading: bool) -> list[str]:
     if has_heading:
         rows = rows[1:]
     elif looks_like_heading(name, rows):
-        sys.stderr.write(f"netflow-sheet: {rows[0][0].place()}: {rows[0][0].text!r} becomes a member; if it is a heading, add --heading\n")
+        sys.stderr.write(
+            f"netflow-sheet: {rows[0][0].place()}: {rows[0][0].text!r} becomes a member; if it is a heading, add"
+            " --heading\n"
+        )
     width = len(rows[0]) if rows else 1
     lines: dict[str, Cell] = {}
     for row in rows:
         members = [index.member() for index in filled(row, width)]
         lines.setdefault(members[0] if width == 1 else f"({','.join(members)})", row[0])
     if len(lines) < len(rows):
-        sys.stderr.write(f"netflow-sheet: {rows[0][0].path}: members occur more than once and are written once: {len(lines)} of {len(rows)} rows\n")
+        sys.stderr.write(
+            f"netflow-sheet: {rows[0][0].path}: members occur more than once and are written once: {len(lines)} of"
+            f" {len(rows)} rows\n"
+        )
     return [f"set {name} :=", *lines, ";"]
 
 
 def looks_like_heading(name: str, rows: list[list[Cell]]) -> bool:
     first = rows[0][0].text.lower()
-    return len(rows) > 1 and any(difflib.SequenceMatcher(None, first, other.lower()).ratio() > 0.75 for other in (name, stem(rows[0][0].path)))
+    return len(rows) > 1 and any(
+        difflib.SequenceMatcher(None, first, other.lower()).ratio() > 0.75 for other in (name, stem(rows[0][0].path))
+    )
 
 
 def as_list(rows: list[list[Cell]], keys: int, members: str, scale: dict[str, int], has_comma: bool) -> list[str]:
     titles = rows[0][keys:]
     if not titles:
-        rows[0][0].reject(f"is in the first row, which has {len(rows[0])} of at least {keys + 1} titles: the keys, then the parameters. "
-                          "Is it a title of the sheet?")
+        rows[0][0].reject(
+            f"is in the first row, which has {len(rows[0])} of at least {keys + 1} titles: the keys, then the"
+            " parameters. Is it a title of the sheet?"
+        )
     names = [cell.name() for cell in titles]
     body = [filled(row, len(rows[0])) for row in rows[1:]]
     cells = [[cell.value(scale.get(name, 1), has_comma) for name, cell in zip(names, row[keys:])] for row in body]
@@ -104,7 +116,10 @@ def note_decimals(names: Sequence[str], cells: list[list[str]]) -> None:
                 factors[name] = common_factor([Fraction(1, factors.get(name, 1)), number])
     if factors:
         scale = " ".join(f"--scale {name}={factor}" for name, factor in factors.items())
-        sys.stderr.write(f"netflow-sheet: {', '.join(factors)}: decimals are kept, and the tools scale them; for netflow itself add {scale}\n")
+        sys.stderr.write(
+            f"netflow-sheet: {', '.join(factors)}: decimals are kept, and the tools scale them; for netflow itself add"
+            f" {scale}\n"
+        )
 
 
 def note_points(cells: list[Cell]) -> None:
@@ -143,6 +158,7 @@ def data(words: argparse.Namespace, parser: Words) -> list[str]:
     """Returns all statements that a configuration lists."""
     import configparser
     import os
+
     config = configparser.ConfigParser(interpolation=None)
     config.optionxform = str  # type: ignore[assignment]
     with open(words.config, encoding="utf-8") as file:
@@ -155,10 +171,22 @@ def data(words: argparse.Namespace, parser: Words) -> list[str]:
         kind, _, name = title.partition(" ")
         entry = dict(config[title])
         if kind not in ("set", "list", "grid") or "sheet" not in entry or kind != "list" and not name:
-            raise ProgramError(REJECTED, f"netflow-sheet: {words.config}: [{title}]: expected [set NAME], [list NAME] or [grid NAME] with sheet = ..\n")
+            raise ProgramError(
+                REJECTED,
+                (
+                    f"netflow-sheet: {words.config}: [{title}]: expected [set NAME], [list NAME] or [grid NAME] with"
+                    " sheet = ..\n"
+                ),
+            )
         asked = [kind, *([name] if kind != "list" else []), os.path.join(folder, entry.pop("sheet"))]
         for option, value in entry.items():
-            asked += [f"--{option}"] if value in ("yes", "true") else [f"--{option}", value] if value not in ("no", "false") else []
+            asked += (
+                [f"--{option}"]
+                if value in ("yes", "true")
+                else [f"--{option}", value]
+                if value not in ("no", "false")
+                else []
+            )
         lines += statement(parser.parse_args(asked))
     return lines
 
@@ -167,7 +195,9 @@ def build_parser() -> Words:
     usage, _, more = (__doc__ or "").partition("\n\n")
     parser = Words(f"{usage}\n\n{more}", prog="netflow-sheet")
     kinds = parser.add_subparsers(dest="kind", metavar="|".join(KINDS), required=True, parser_class=Words)
-    usages = {line.replace("usage: ", "").split()[1]: line.replace("usage: ", "").strip() for line in usage.splitlines()}
+    usages = {
+        line.replace("usage: ", "").split()[1]: line.replace("usage: ", "").strip() for line in usage.splitlines()
+    }
     made = {kind: kinds.add_parser(kind, usage=usages[kind], prog="netflow-sheet") for kind in KINDS}
     for kind in ("plan", "scenarios", "diff"):
         made[kind].instance()
@@ -177,13 +207,25 @@ def build_parser() -> Words:
     for kind in ("set", "list", "grid"):
         made[kind].add_argument("sheet", metavar="SHEET")
     made["set"].add_argument("--heading", action="store_true", help="the first row is a heading")
-    made["list"].add_argument("--keys", metavar="N", type=int, default=1, help="how many columns are keys (1); 0: one row of values without a key")
-    made["list"].add_argument("--set", metavar="NAME", default="", dest="set_name", help="the keys are the members of this set too")
+    made["list"].add_argument(
+        "--keys",
+        metavar="N",
+        type=int,
+        default=1,
+        help="how many columns are keys (1); 0: one row of values without a key",
+    )
+    made["list"].add_argument(
+        "--set", metavar="NAME", default="", dest="set_name", help="the keys are the members of this set too"
+    )
     made["grid"].add_argument("--turned", action="store_true", help="rows by the second key")
     for kind in ("set", "list"):
-        made[kind].add_argument("--columns", metavar="A,B", default="", help="the columns to take, by title or letter, keys first")
+        made[kind].add_argument(
+            "--columns", metavar="A,B", default="", help="the columns to take, by title or letter, keys first"
+        )
     for kind in ("list", "grid"):
-        made[kind].add_argument("--scale", metavar="NAME=FACTOR", action="append", default=[], help="multiply a parameter's values")
+        made[kind].add_argument(
+            "--scale", metavar="NAME=FACTOR", action="append", default=[], help="multiply a parameter's values"
+        )
         made[kind].add_argument("--comma", action="store_true", help="decimals have a comma: 7,5")
     made["data"].add_argument("config", metavar="CONFIG")
     return parser
@@ -196,9 +238,24 @@ def add_plan_options(made: dict[str, Words]) -> None:
     made["plan"].add_argument("--json", action="store_true", help="the plan as a JSON object")
     made["plan"].add_argument("--xlsx", metavar="FILE", default="", help="write a workbook")
     for kind in ("scenarios", "diff"):
-        made[kind].add_argument("--case", metavar="CHANGES", action="append", default=[], help='changes of one case: "van=45 wants[hill]=35"')
-    made["scenarios"].add_argument("--vary", metavar="NAME=VALUE,..", action="append", default=[], help="a case for each value")
-    made["diff"].add_argument("--with", metavar="DATA", action="append", default=[], dest="extra_data", help="data that come last in the other plan")
+        made[kind].add_argument(
+            "--case",
+            metavar="CHANGES",
+            action="append",
+            default=[],
+            help='changes of one case: "van=45 wants[hill]=35"',
+        )
+    made["scenarios"].add_argument(
+        "--vary", metavar="NAME=VALUE,..", action="append", default=[], help="a case for each value"
+    )
+    made["diff"].add_argument(
+        "--with",
+        metavar="DATA",
+        action="append",
+        default=[],
+        dest="extra_data",
+        help="data that come last in the other plan",
+    )
 
 
 def main(words: Sequence[str]) -> int:

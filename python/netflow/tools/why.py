@@ -19,7 +19,8 @@ from ..analysis.suspicions import remark_lines
 from ..errors import ProgramError
 from ..exact import magnitude
 from ..inputs.grouped_digits import grouped_lines_of
-from ..inputs.instance import Input, Instance
+from ..inputs.instance import Instance
+from ..inputs.source import Input
 from ..reading.headings import compared_texts
 from ..reading.model import Unparsed, parse
 from ..reading.network import Arc, Network
@@ -55,21 +56,29 @@ def part_rows(parts: list[Part], most: int) -> list[str]:
     if closed:
         lines.append(f"    closed: {few([part.text[3:].rpartition(', which carries')[0] for part in closed], 5)}")
     largest = [part for part in parts if part.amount][:5]
-    return [*lines, f"    the largest: {few([f'{part.text} ({part.amount})' for part in largest], 5)} (--all shows every line)"]
+    return [
+        *lines,
+        f"    the largest: {few([f'{part.text} ({part.amount})' for part in largest], 5)} (--all shows every line)",
+    ]
 
 
 def group_text(name: str, group: list[Part]) -> str:
     what = "arcs" if group[0].is_arc else "places"
     closed = sum(not part.amount for part in group)
-    return f"{name}: {len(group)} {what[:-1] if len(group) == 1 else what}" + (f", {closed} of them 0" if closed and group[0].is_arc else "")
+    return f"{name}: {len(group)} {what[:-1] if len(group) == 1 else what}" + (
+        f", {closed} of them 0" if closed and group[0].is_arc else ""
+    )
 
 
 # No plan
 
+
 def reason_lines(net: Network, reason: Reason, most: int) -> list[str]:
     asked, helping, none, other = reason.words()
     lines = [reason.headline(net), f"  {asked}, {reason.needed()} in all:", *part_rows(reason.asks, most)]
-    lines += [f"  {helping}, {reason.given()} in all:", *part_rows(reason.helps, most)] if reason.helps else [f"  {none}"]
+    lines += (
+        [f"  {helping}, {reason.given()} in all:", *part_rows(reason.helps, most)] if reason.helps else [f"  {none}"]
+    )
     if reason.idle and (len(reason.idle) <= most or not reason.helps):
         lines += [f"  {other}:", *rows([("", part.text) for part in reason.idle], most)]
     quiet = reason.quiet(net)
@@ -82,7 +91,11 @@ def change_lines(net: Network, most: int) -> list[str]:
     if found.is_large:
         return ["", "The least change with which there is a plan is not computed: the model is too large."]
     title = single_title(found.single) if found.single else "all shortages together:"
-    lines = ["", f"Least change with which there is a plan{':' if found.single else ','} {title}", *(f"    {change.sentence()}" for change in found.single)]
+    lines = [
+        "",
+        f"Least change with which there is a plan{':' if found.single else ','} {title}",
+        *(f"    {change.sentence()}" for change in found.single),
+    ]
     for what, changes in found.others().items():
         lines.append(f"  {what}: none is enough" if changes is None else f"  {what}: {total(changes)} in all")
         if changes is not None and is_left_out(changes):
@@ -96,7 +109,7 @@ def change_lines(net: Network, most: int) -> list[str]:
 def infeasible_lines(net: Network, found: list[Reason], most: int) -> list[str]:
     """Returns the text of a model without a plan."""
     lines = ["No plan.", *(text for line in opposite_sides(net) for text in ("", line))]
-    for reason in found[:most if most > SHOWN else SETS]:
+    for reason in found[: most if most > SHOWN else SETS]:
         lines += ["", *reason_lines(net, reason, most)]
     if len(found) > SETS and most <= SHOWN:
         lines += ["", f"{len(found) - SETS} more sets of places are short (--all shows them)"]
@@ -115,8 +128,11 @@ def bottleneck_lines(net: Network, gains: Gains, most: int) -> list[str]:
     if not cut:
         return []
     listed = sorted(cut, key=lambda arc: -arc.upper)
-    return ["", f"Bottleneck: {len(cut)} {'arc' if len(cut) == 1 else 'arcs'}, {net.value} in all. No flow can be larger:",
-            *rows([(arc.upper, f"{arc.text} from {net.end(arc.src)} to {net.end(arc.dst)}") for arc in listed], most)]
+    return [
+        "",
+        f"Bottleneck: {len(cut)} {'arc' if len(cut) == 1 else 'arcs'}, {net.value} in all. No flow can be larger:",
+        *rows([(arc.upper, f"{arc.text} from {net.end(arc.src)} to {net.end(arc.dst)}") for arc in listed], most),
+    ]
 
 
 def arc_lines(net: Network, gains: Gains, most: int) -> list[str]:
@@ -124,7 +140,9 @@ def arc_lines(net: Network, gains: Gains, most: int) -> list[str]:
     if not count:
         return ["", "No arc is full, and none is at a lower bound other than 0."]
     lines = ["", f"Arcs at a bound: {count} of {len(net.arcs)}. Arcs at their lower bound 0 are not counted."]
-    title = f"  If the bound were one unit wider, the plan would {better(net)[:-1]}{'' if gains.is_exact else ' at most'}:"
+    title = (
+        f"  If the bound were one unit wider, the plan would {better(net)[:-1]}{'' if gains.is_exact else ' at most'}:"
+    )
     # Only the lines that are shown get a limit.
     listed: list[tuple[object, object]] = [
         (amount, f"{arc.text} {bound_text(arc)}{gains.limit(arc)}") for amount, arc in gains.felt[:most]
@@ -143,14 +161,23 @@ def free_text(arcs: list[Arc], most: int) -> str:
 
 
 def matched_lines(net: Network, marginal: Marginal, places: list[Place], most: int) -> list[str]:
-    """Returns what pairs of changes cost, if what places need and give matches exactly, so that none can change alone."""
+    """Returns what pairs of changes cost, if what places need and give matches exactly, so that none can change
+    alone."""
     stuck = [place for place in places if place.side == "fixed" and place.wish and place.cost is None]
     if not stuck:
         return []
     whole = len(stuck) == sum(place.side == "fixed" and bool(place.wish) for place in places)
-    lines = ["", f"What {'the places' if whole else few([place.node.text for place in stuck], 3)} need and give matches exactly: none can change alone."]
-    needing = sorted((place for place in stuck if not place.is_giver), key=lambda place: magnitude(place.node.low), reverse=True)
-    for place in needing[:max(1, min(most, EXACT_WORK // max(1, len(net.arcs))))]:
+    lines = [
+        "",
+        (
+            f"What {'the places' if whole else few([place.node.text for place in stuck], 3)} need and give matches"
+            " exactly: none can change alone."
+        ),
+    ]
+    needing = sorted(
+        (place for place in stuck if not place.is_giver), key=lambda place: magnitude(place.node.low), reverse=True
+    )
+    for place in needing[: max(1, min(most, EXACT_WORK // max(1, len(net.arcs))))]:
         found = marginal.pair(place.number)
         if found is None:
             continue
@@ -158,19 +185,29 @@ def matched_lines(net: Network, marginal: Marginal, places: list[Place], most: i
         verb = f"costs {cost}" if cost > 0 else f"{better(net)} {-cost}" if cost < 0 else "costs nothing"
         lines.append(f"    {place.node.text} {place.wish}: one more, with one more from {giver}, {verb}")
     shown = len(lines) - 2
-    return lines + ([f"    and {len(needing) - shown} more (--all shows them)"] if shown and len(needing) > shown else [])
+    return lines + (
+        [f"    and {len(needing) - shown} more (--all shows them)"] if shown and len(needing) > shown else []
+    )
 
 
 def place_lines(net: Network, marginal: Marginal, most: int) -> list[str]:
     places = [Place(net, marginal, number) for number in range(len(net.nodes))]
     matched = matched_lines(net, marginal, places, most)
-    felt = sorted((place for place in places if place.is_felt()), key=lambda place: magnitude(place.felt_cost), reverse=True)
+    felt = sorted(
+        (place for place in places if place.is_felt()), key=lambda place: magnitude(place.felt_cost), reverse=True
+    )
     if not felt:
         return matched or ["", "One more unit at a place costs nothing, anywhere."]
     has_units = len(net.arcs) * len(felt[:most]) <= EXACT_WORK
-    lines = ["", "One unit more at a place:", *(place.line(net, place.units(marginal) if has_units else 0) for place in felt[:most])]
+    lines = [
+        "",
+        "One unit more at a place:",
+        *(place.line(net, place.units(marginal) if has_units else 0) for place in felt[:most]),
+    ]
     left = len(net.nodes) - len(felt[:most])
-    others = f"    at the other {f'{left} places' if left > 1 else 'place'}: " + ("nothing" if len(felt) <= most else "--all shows them")
+    others = f"    at the other {f'{left} places' if left > 1 else 'place'}: " + (
+        "nothing" if len(felt) <= most else "--all shows them"
+    )
     return lines + ([others] if left and not matched else []) + matched
 
 
@@ -180,7 +217,14 @@ def warning_lines(net: Network) -> list[str]:
     if net.arcs and not any(arc.price for arc in net.arcs):
         return ["", f"No arc has a price, so every plan is worth {net.value}: is `obj {net.objective} ..` missing?"]
     if net.value == 0:
-        return ["", f"The value is 0. Without a price: {few(unpriced, 5)}." if unpriced else "The value is 0: the plan uses no arc with a price."]
+        return [
+            "",
+            (
+                f"The value is 0. Without a price: {few(unpriced, 5)}."
+                if unpriced
+                else "The value is 0: the plan uses no arc with a price."
+            ),
+        ]
     return ["", f"Without a price: {few(unpriced, 5)}."] if unpriced else []
 
 
@@ -189,10 +233,17 @@ def feasible_lines(net: Network, most: int) -> list[str]:
     marginal = Marginal(net)
     gains = Gains(net, marginal)
     best = "No plan costs less." if net.sign > 0 else "No plan is worth more."
-    lines = [f"There is a plan: {net.objective} = {net.value}. {best}", *bottleneck_lines(net, gains, most), *arc_lines(net, gains, most)]
+    lines = [
+        f"There is a plan: {net.objective} = {net.value}. {best}",
+        *bottleneck_lines(net, gains, most),
+        *arc_lines(net, gains, most),
+    ]
     lines += place_lines(net, marginal, most) + warning_lines(net)
     if not gains.is_exact:
-        last = "These changes are for the next unit; those of arcs are at most so much, since beyond it other arcs may become full."
+        last = (
+            "These changes are for the next unit; those of arcs are at most so much, since beyond it other arcs may"
+            " become full."
+        )
     elif any("; holds " in line for line in lines):
         last = "These changes are exact for each unit as far as they hold; beyond that other arcs are full."
     else:
@@ -207,15 +258,25 @@ def without_check(instance: Instance, problem: ProgramError) -> Instance | None:
         return None
     text = instance.model.text()
     lines = text.split("\n")
-    place = sum(len(line) + 1 for line in lines[:int(found[1]) - 1])
-    place += len(lines[int(found[1]) - 1].encode("utf-8", "surrogateescape")[:int(found[2]) - 1].decode("utf-8", "surrogateescape"))
+    place = sum(len(line) + 1 for line in lines[: int(found[1]) - 1])
+    place += len(
+        lines[int(found[1]) - 1]
+        .encode("utf-8", "surrogateescape")[: int(found[2]) - 1]
+        .decode("utf-8", "surrogateescape")
+    )
     try:
         decl = next(decl for decl in parse(text) if decl.kind == "check" and decl.start <= place <= decl.end)
     except (StopIteration, Unparsed):
         return None
-    blank = re.sub(r"[^\n]", " ", text[decl.start:decl.end + 1])
-    made = Instance(Input(text=text[:decl.start] + blank + text[decl.end + 1:]), instance.data, objective=instance.objective,
-                    changes=instance.changes, scale=instance.scale, add_bounds=instance.add_bounds)
+    blank = re.sub(r"[^\n]", " ", text[decl.start : decl.end + 1])
+    made = Instance(
+        Input(text=text[: decl.start] + blank + text[decl.end + 1 :]),
+        instance.data,
+        objective=instance.objective,
+        changes=instance.changes,
+        scale=instance.scale,
+        add_bounds=instance.add_bounds,
+    )
     print(f"The check in line {found[1]} fails: {' '.join(text[decl.start:decl.end + 1].split())}\nWithout it:\n")
     return made
 
@@ -229,7 +290,10 @@ def answer_lines(net: Network, most: int) -> list[str]:
 def text_lines(instance: Instance, net: Network, most: int) -> list[str]:
     """Returns the answer with what is worth a look; below `No plan.` the numbers that may be the reason come first."""
     lines, grouped = answer_lines(net, most), grouped_lines_of(instance)
-    odd = [*compared_texts(instance.model.text(), [source.text() for source in instance.data]), *remark_lines(instance, net)]
+    odd = [
+        *compared_texts(instance.model.text(), [source.text() for source in instance.data]),
+        *remark_lines(instance, net),
+    ]
     if net.cut is not None and grouped:
         lines[1:1] = ["", *grouped]
         grouped = []

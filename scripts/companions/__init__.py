@@ -1,1 +1,0 @@
-"""Tests of the helper tools, which scripts/check_companions runs."""

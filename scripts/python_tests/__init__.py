@@ -1,1 +1,0 @@
-"""Tests of the Python package, which scripts/check_python runs."""

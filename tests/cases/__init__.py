@@ -1,0 +1,1 @@
+"""Mistakes in models and data, with what has to be said of each."""

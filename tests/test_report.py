@@ -1,0 +1,257 @@
+"""The pages of netflow-report: well-formed, complete, nothing on top of anything else, and in a browser."""
+import html
+import html.parser
+import json
+import random
+import re
+import shutil
+import subprocess
+
+import pytest
+from cases import mistakes
+from lib.examples import folders
+from support import TOP, run, solved, write
+
+from netflow.report.drawing import overlaps
+from netflow.report.placement import LETTER, grouped
+
+
+class Page(html.parser.HTMLParser):
+    """Whether a page's tags are closed as they were opened, and what it asks for from elsewhere."""
+
+    VOID = {"meta", "br", "hr", "img", "input", "link"}
+
+    def __init__(self, text):
+        super().__init__()
+        self.open, self.faults, self.count = [], [], {}
+        self.feed(text)
+        self.faults += [f"{it} is not closed" for it in self.open]
+
+    def handle_starttag(self, tag, attrs):
+        self.count[tag] = self.count.get(tag, 0) + 1
+        self.faults += [
+            f"{name}={it} leads elsewhere"
+            for name, it in attrs
+            if name in ("src", "href", "xlink:href", "action") and not str(it).startswith("#")
+        ]
+        if tag not in self.VOID:
+            self.open.append(tag)
+
+    def handle_endtag(self, tag):
+        if not self.open or self.open.pop() != tag:
+            self.faults.append(f"</{tag}> closes nothing")
+
+    def handle_startendtag(self, tag, attrs):
+        self.count[tag] = self.count.get(tag, 0) + 1
+
+
+def transport(depots, shops, is_short):
+    """A model of so many depots and shops, with a name that has to be escaped."""
+    dice = random.Random(f"{depots} {shops}")
+    need = [dice.randint(5, 40) for _ in range(shops)]
+    has = sum(need) // depots + (-2 if is_short else 12)
+    names = ["<b>&\"'", *(f"shop {it}" for it in range(1, shops))]
+    quoted = [mistakes.quoted(it) for it in names]
+    rows = "\n".join(f"d{it} " + " ".join(str(dice.randint(3, 60)) for _ in names) for it in range(depots))
+    model = """set D; set S; param wants {S}; param cost {D, S}; param has;
+minimize Total; node Depot {d in D}: net_out <= has; node Shop {s in S}: net_in = wants[s];
+arc Drive {d in D, s in S} >= 0, <= 40, from Depot[d], to Shop[s], obj Total cost[d,s];
+"""
+    data = (
+        f"set D := {' '.join(f'd{it}' for it in range(depots))};\nset S := {' '.join(quoted)};\nparam has := {has};\n"
+    )
+    data += (
+        f"param wants := {', '.join(f'{it} {number}' for it, number in zip(quoted, need))};\nparam cost:"
+        f" {' '.join(quoted)} :=\n{rows}\n;\n"
+    )
+    return model, data
+
+
+SIZES = ((2, 5), (5, 20), (20, 50))
+EXAMPLES = ("storage", "crews", "week", "two_objectives", "max_flow")
+NAMES = [*(f"{depots * shops}{kind}" for depots, shops in SIZES for kind in ("", "_short")), *EXAMPLES]
+
+
+def words_of(folder, name):
+    """Returns the words that solve the model of a page."""
+    if name in EXAMPLES:
+        return folders.words_of(TOP / "examples" / name)
+    depots, shops = next((depots, shops) for depots, shops in SIZES if name.split("_")[0] == str(depots * shops))
+    model, data = transport(depots, shops, name.endswith("_short"))
+    return write(folder, f"{name}.mod", model), write(folder, f"{name}.dat", data)
+
+
+def twice(names):
+    return sorted({it for it in names if names.count(it) > 1})
+
+
+def drawings(text):
+    """Returns the drawings of a page; the parts of one each have their own coordinates."""
+    return re.findall(r"<svg .*?</svg>", text, re.S)
+
+
+def overlapping(svg):
+    """Pairs of nodes that are drawn one on the other."""
+    boxes = [
+        tuple(map(float, it))
+        for it in re.findall(r'<rect x="([-\d.]+)" y="([-\d.]+)" width="([\d.]+)" height="([\d.]+)"', svg)
+    ]
+    return [
+        (a, b)
+        for here, a in enumerate(boxes)
+        for b in boxes[:here]
+        if a[0] < b[0] + b[2] and b[0] < a[0] + a[2] and a[1] < b[1] + b[3] and b[1] < a[1] + a[3]
+    ]
+
+
+@pytest.mark.parametrize("name", NAMES)
+def test_page(tmp_path, name):
+    words = words_of(tmp_path, name)
+    status, text, told = run("netflow-report", *words)
+    net, wanted, _ = solved(*words)
+    assert (status, told) == (wanted, ""), "status"
+    page = Page(text)
+    assert page.faults == [], "tags"
+    assert "url(" not in re.sub(r"url\(#\w+\)", "", text), "something is fetched"
+    tables = re.findall(r"<section><h2>([^<]*)</h2>\n<p>(\d+) arcs?,.*?</section>", text, re.S)
+    assert {it: int(count) for it, count in tables} == {it: len(arcs) for it, arcs in net.declared().items()}, "arcs"
+    rows = sum(
+        part.count("<tr") - 1
+        for part in re.findall(r"<section><h2>[^<]*</h2>\n<p>\d+ arcs?,(.*?)(?:<details|</section>)", text, re.S)
+    )
+    assert rows == len(net.arcs), "rows"
+    assert [it for svg in drawings(text) for it in overlapping(svg)] == [], "nodes on one another"
+    assert status == 0 or re.search(r'class="reason">[^<]* (short|too much)\.', text), "no reason"
+    assert twice(re.findall(r'<g class="node [^"]*" id="(n\d+)"', text)) == [], "places drawn twice"
+    drawn = run("netflow-report", *words, "--svg")[1].strip()
+    assert (Page(drawn).faults if drawn else []) == [], "the drawing's tags"
+    assert drawn.startswith("<svg ") and "<style>" in drawn or "so none is drawn" in text, "no drawing"
+    if status == 0 and net.nodes:
+        cells = cells_of(re.search(r"<h2>Places</h2>(.*?)</section>", text, re.S)[1])
+        each = len(cells) // len(net.nodes)
+        inflows = [int(cells[it + 2]) - int(cells[it + 3]) for it in range(0, len(cells), each)]
+        assert inflows == [it.inflow for it in net.nodes], "inflow minus outflow"
+    assert status or f"{net.objective} = {grouped(net.value)}<" in text, "no value"
+    assert [it for svg in drawings(text) for it in crowded(svg)] == [], "numbers on one another or on nodes"
+    check_grids(net, text)
+    check_totals(net, text)
+
+
+def check_totals(net, text):
+    """The totals of the first declaration: of each part of its keys they come to what flows in all."""
+    found = re.search(r"<summary>totals</summary>(.*?)</details>", text, re.S)
+    if found:
+        declared = re.findall(r"<h2>([^<]*)</h2>", text[: found.start()])[-1]
+        flows = sum(it.flow for it in net.declared()[declared])
+        for table in re.findall(r"<tbody>(.*?)</tbody>", found[1], re.S):
+            cells = [
+                data or shown
+                for data, shown in re.findall(r'<td class="number flow"(?: data-n="([^"]*)")?>([^<]*)</td>', table)
+            ]
+            assert sum(map(int, cells)) == flows, f"totals of {declared}"
+
+
+def cells_of(part):
+    """Returns the cells of tables, numbers without the marks between their groups."""
+    return [data or shown for data, shown in re.findall(r'<td[^>]*?(?: data-n="([^"]*)")?>([^<]*)</td>', part)]
+
+
+def crowded(svg):
+    """Returns the numbers of a small drawing that overlap another number or a node, by the widths that the drawing
+    assumes."""
+    if 'class="large"' in svg:
+        return []
+    nodes = [
+        tuple(map(float, it))
+        for it in re.findall(r'<rect x="([-\d.]+)" y="([-\d.]+)" width="([\d.]+)" height="([\d.]+)"', svg)
+    ]
+    boxes = [(x, y, x + wide, y + high) for x, y, wide, high in nodes]
+    numbers = []
+    for x, y, shown in re.findall(r'<g class="arc number [^"]*"><text x="([-\d]+)" y="([-\d]+)">([^<]*)</text>', svg):
+        half = LETTER * len(shown) / 2 - 1
+        numbers.append((float(x) - half, float(y) - 10, float(x) + half, float(y) + 1, shown))
+    found = [it[4] for it in numbers if any(overlaps(it, box) for box in boxes)]
+    return found + [one[4] for here, one in enumerate(numbers) for two in numbers[:here] if overlaps(one, two)]
+
+
+def check_grids(net, text):
+    """The cells of a grid come to what flows in all, and so does the total in its corner."""
+    for title, part in re.findall(
+        r"<h2>([^<]*)</h2>(?:(?!</section>).)*?<table class=\"grid[^\"]*\">(.*?)</table>", text, re.S
+    ):
+        if "<tfoot>" not in part:
+            continue
+        flows = sum(it.flow for it in net.declared()[title])
+        body, foot = part.split("<tfoot>")
+        cells = [float(it) for it in re.findall(r'<td class="(?:full|zero)?" data-n="([^"]*)"', body)]
+        assert sum(cells) == flows, f"the grid of {title}"
+        last = re.findall(r"<td>([^<]*)</td>", foot)[-1]
+        assert last == grouped(flows), f"the total of {title}'s grid"
+
+
+# In a browser
+
+TRIAL = """<script>
+addEventListener('error',function(it){document.body.dataset.error=it.message});
+addEventListener('load',function(){var said={};
+ function has(it){return Array.from(it.querySelectorAll('th')).some(function(head){return head.textContent==='most'})}
+ var button=document.querySelector('.toggle'),section=button?button.closest('section'):Array.from(document.querySelectorAll('section')).filter(has).pop();
+ if(button)button.click();
+ var heads=Array.from(section.querySelectorAll('th')),place=heads.findIndex(function(it){return it.textContent==='most'});
+ function rows(){return Array.from(section.querySelector('tbody').rows).map(function(it){return it.cells[place].textContent})}
+ heads[place].firstChild.click();said.up=rows();heads[place].firstChild.click();said.down=rows();
+ var find=section.querySelector('[type=search]');
+ if(find){find.value=section.querySelector('tbody td').textContent;find.oninput();
+  said.found=Array.from(section.querySelector('tbody').rows).every(function(it){
+   return Boolean(it.getClientRects().length)===it.textContent.toLowerCase().includes(find.value.toLowerCase())});find.value='';find.oninput()}
+ said.shown=Array.from(section.querySelector('tbody').rows).filter(function(it){return it.getClientRects().length}).length;said.rows=rows().length;
+ said.overflow=document.documentElement.scrollWidth-document.documentElement.clientWidth;
+ said.dark=matchMedia('(prefers-color-scheme:dark)').matches;
+ var texts=Array.from(document.querySelectorAll('svg .node')).filter(function(it){var box=it.querySelector('rect').getBBox();
+  return Array.from(it.querySelectorAll('text')).some(function(t){var b=t.getBBox();return b.x<box.x||b.x+b.width>box.x+box.width})});said.wide=texts.length;
+ document.body.dataset.said=JSON.stringify(said)})</script>"""
+
+
+def opened(browser, path, width, is_dark):
+    """What the page's trial says in a window of this width, and the errors of its console."""
+    dark = ["--blink-settings=preferredColorScheme=0"] if is_dark else []
+    words = [
+        browser,
+        "--headless=new",
+        "--no-sandbox",
+        "--disable-gpu",
+        "--enable-logging=stderr",
+        "--v=0",
+        "--virtual-time-budget=3000",
+        f"--window-size={width},900",
+        *dark,
+        "--dump-dom",
+        path.as_uri(),
+    ]
+    done = subprocess.run(words, capture_output=True, encoding="utf-8", errors="replace", timeout=120)
+    found = re.search(r'data-said="([^"]*)"', done.stdout)
+    errors = re.findall(r"CONSOLE.*", done.stderr) + re.findall(r'data-error="[^"]*"', done.stdout)
+    return (html.unescape(found[1]) if found else None), errors
+
+
+@pytest.mark.parametrize("width, is_dark", [(1200, False), (500, True)])
+@pytest.mark.parametrize("name", NAMES)
+def test_browser(tmp_path, pytestconfig, name, width, is_dark):
+    """In Chromium nothing is wider than the window, a click sorts, hidden rows appear, and no error is reported."""
+    if not pytestconfig.getoption("--browser"):
+        pytest.skip("without --browser no page is opened")
+    browser = shutil.which("chromium") or shutil.which("chromium-browser") or shutil.which("google-chrome")
+    assert browser, "no chromium is on the PATH"
+    text = run("netflow-report", *words_of(tmp_path, name))[1]
+    path = write(tmp_path, f"{name}.html", text.replace("</body>", f"{TRIAL}</body>"))
+    said, errors = opened(browser, path, width, is_dark)
+    assert errors == []
+    assert said, "nothing is said"
+    said = json.loads(said)
+    assert said["up"] == sorted(said["up"], key=int)
+    assert said["down"] == sorted(said["up"], key=int, reverse=True)
+    assert said.get("found", True)
+    assert said["shown"] == said["rows"]
+    assert said["overflow"] == 0
+    assert said["dark"] == is_dark
+    assert said["wide"] == 0, "names wider than their nodes"

@@ -1,0 +1,93 @@
+"""The tools' words, compared with their manual page and completions, and how scripts/first_look passes files on."""
+import importlib.machinery
+import importlib.util
+import json
+import pathlib
+import re
+
+import pytest
+from support import TOOLS, TOP, run, write
+
+from netflow.reading.headings import first_comment
+
+
+def script(path):
+    """Returns a script without a suffix as a module."""
+    loader = importlib.machinery.SourceFileLoader(path.name.replace("-", "_"), str(path))
+    module = importlib.util.module_from_spec(importlib.util.spec_from_loader(loader.name, loader))
+    loader.exec_module(module)
+    return module
+
+
+LOOK = script(TOP / "scripts" / "first_look")
+
+
+def test_words():
+    """Each tool and each of its options is in the manual page and in the completions, and is installed."""
+    manual = (TOP / "share" / "netflow-companions.1").read_text(encoding="utf-8").replace("\\-", "-")
+    completions = [
+        (TOP / "share" / "completions" / it).read_text(encoding="utf-8")
+        for it in ("netflow.bash", "netflow.fish", "_netflow-companions")
+    ]
+    installed = re.search(r"for companion in (.*); do", (TOP / "scripts" / "install").read_text(encoding="utf-8"))[
+        1
+    ].split()
+    names = sorted(it.name for it in TOOLS.iterdir() if it.name.startswith("netflow-"))
+    assert sorted(f"netflow-{it}" for it in installed) == names, "what scripts/install installs"
+    for name in names:
+        usage = run(name, "--help")[1].partition("\n\n")[0]
+        assert f".B {name}" in manual and all(
+            name in it for it in completions
+        ), f"{name}: not in the manual page or a completion"
+        for option in set(re.findall(r"--[a-z]+", usage)):
+            told = [
+                option in manual,
+                option in completions[0],
+                f"-l {option[2:]}" in completions[1],
+                option in completions[2],
+            ]
+            assert all(told), f"{name} {option}: not in the manual page or a completion: {told}"
+
+
+def test_editors():
+    """Each word of the language is in the syntax files of Vim and VS Code, whose patterns are well-formed."""
+    vim = (TOP / "share" / "editors" / "netflow.vim").read_text(encoding="utf-8")
+    grammar = json.loads(
+        (TOP / "share" / "editors" / "vscode" / "syntaxes" / "netflow.tmLanguage.json").read_text(encoding="utf-8")
+    )
+    patterns = [re.compile(it["match"]) for it in grammar["patterns"] if "match" in it]
+    page = (TOP / "docs" / "reference" / "language.md").read_text(encoding="utf-8")
+    words = re.search(r"(?m)^```\n(and arc .*?)^```", page, re.S)
+    assert words, "docs/reference/language.md has no list of reserved words"
+    for word in words[1].split() if words else ():
+        assert re.search(rf"\b{word}\b", vim), f"share/editors/netflow.vim: no {word}"
+        assert any(found.fullmatch(word) for found in patterns), f"netflow.tmLanguage.json: no {word}"
+
+
+TITLES = (
+    (
+        "# Coils from three mills\n# to seven towns, as in the book. In dollars.\nset S;",
+        "Coils from three mills to seven towns, as in the book",
+    ),
+    ("/* Shifts of the ward\n   for two weeks. */", "Shifts of the ward for two weeks"),
+    ("# =====\n# Bread\n# Author: Jane\n", "Bread"),
+    ("# To St. Gallen, e.g. by van. More.", "To St. Gallen, e.g. by van"),
+    ("set S; # no title\n", ""),
+    ("# Costs of 3.5 (see p. 4). More", "Costs of 3.5 (see p. 4)"),
+    ("# one\n\n# two", "one"),
+    ("# " + "word " * 40, "word " * 19 + "word\u2026"),
+)
+
+
+@pytest.mark.parametrize("text, title", TITLES)
+def test_title(text, title):
+    """A page's title is the first sentence of the comment that the model begins with."""
+    assert first_comment(text) == title
+
+
+def test_first_look_stages_files(tmp_path):
+    """Files go to the run under names without blanks; what is no file stays as it is."""
+    path = write(tmp_path, "a model.mod", "node ;\n")
+    words = ["solve", str(path), "/dev/null", "--objective", str(path), "/nowhere/x"]
+    staged = LOOK.staged(words, pathlib.Path(tmp_path))
+    assert staged == ["--data", f"text1={path.resolve()}", "--", "solve", "text1", *words[2:]], "first_look: words"
