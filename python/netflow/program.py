@@ -37,9 +37,9 @@ def program(path: Path | None = None) -> str:
     if named:
         return named
     for place in PLACES:
-        found = os.path.normpath(os.path.join(HERE, place))
-        if os.path.isfile(found) and os.access(found, os.X_OK):
-            return found
+        result = os.path.normpath(os.path.join(HERE, place))
+        if os.path.isfile(result) and os.access(result, os.X_OK):
+            return result
     on_path = next(_programs_on_path(), None)
     if not on_path:
         raise ProgramError(USAGE, "netflow: the program is not on the PATH; set the variable NETFLOW to its path\n")

@@ -209,15 +209,15 @@ def least_changes(net: Network) -> LeastChanges:
     search, single = SingleMoves(net, problem, divided(whole, net.factors.flow)), {}
     for kind, amounts in flows.items():
         single[kind] = (
-            search.found(moves[kind], amounts) if amounts and sum(amounts) == whole and BOTH not in flows else []
+            search.enough(moves[kind], amounts) if amounts and sum(amounts) == whole and BOTH not in flows else []
         )
-    found = LeastChanges()
+    changes = LeastChanges()
     for kind, amounts in flows.items():
         best = [move.change(search.amount) for _, move in single[kind][:1]]
-        found.kinds[kind] = best or least_change(net, problem, moves[kind], amounts)
+        changes.kinds[kind] = best or least_change(net, problem, moves[kind], amounts)
     pairs = sorted((pair for ranked in single.values() for pair in ranked), key=lambda pair: pair[0])
-    found.single = [move.change(search.amount) for _, move in pairs]
-    return found
+    changes.single = [move.change(search.amount) for _, move in pairs]
+    return changes
 
 
 def least_change(

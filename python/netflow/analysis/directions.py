@@ -50,11 +50,11 @@ class Declared:
 
 def opposite_sides(net: Network) -> list[str]:
     """Returns a line for each declaration of nodes all of which need the opposite of what their arcs can do."""
-    found: dict[str, dict[int, Node]] = {}
+    result: dict[str, dict[int, Node]] = {}
     for number, node in enumerate(net.nodes):
         if node.low > 0 or node.high < 0:
-            found.setdefault(node.text.partition("[")[0], {})[number] = node
-    declared = [Declared(name, nodes) for name, nodes in found.items()]
+            result.setdefault(node.text.partition("[")[0], {})[number] = node
+    declared = [Declared(name, nodes) for name, nodes in result.items()]
     owners = {number: declaration for declaration in declared for number in declaration.nodes}
     for arc in net.arcs:
         for declaration in {owners[number] for number in (arc.src, arc.dst) if number in owners}:

@@ -190,27 +190,27 @@ class Cuts:
 def reasons(net: Network) -> list[Reason]:
     """Returns the sets of a network without a plan that are short, the largest shortage first, without those that say
     the same as one before them from its other side."""
-    found: list[Reason] = []
+    result: list[Reason] = []
     for reason in all_reasons(net, *net.cut) if net.cut is not None else ():
-        if not any(reason.is_mirror(other) for other in found):
-            found.append(reason)
-    return sorted(found, key=lambda reason: -reason.short())
+        if not any(reason.is_mirror(other) for other in result):
+            result.append(reason)
+    return sorted(result, key=lambda reason: -reason.short())
 
 
 def all_reasons(net: Network, side: str, nodes: AbstractSet[int]) -> list[Reason]:
     """Returns the sets that are short: those of the cut, and further ones that remain short if the sets before them get
     what they lack."""
-    found = reasons_of_cut(net, side, nodes)
+    result = reasons_of_cut(net, side, nodes)
     for _ in range(min(ROUNDS, LARGEST // len(net.lines))):
-        cut = cut_besides(net, found)
-        known = {(reason.side, *reason.nodes) for reason in found}
+        cut = cut_besides(net, result)
+        known = {(reason.side, *reason.nodes) for reason in result}
         more = (
             [reason for reason in reasons_of_cut(net, *cut) if (reason.side, *reason.nodes) not in known] if cut else []
         )
         if not more:
             break
-        found += more
-    return found
+        result += more
+    return result
 
 
 def reasons_of_cut(net: Network, side: str, nodes: AbstractSet[int]) -> list[Reason]:

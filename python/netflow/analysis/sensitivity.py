@@ -58,17 +58,17 @@ class Residual:
         """Returns the least reduced cost from `start` to each node (or from each node to it); None if there is
         no path."""
         near = self.into if is_backward else self.out
-        found: Lengths = [None] * (self.outside + 1)
+        result: Lengths = [None] * (self.outside + 1)
         heap: list[tuple[Number, int]] = [(0, start)]
         while heap:
             length, here = heapq.heappop(heap)
-            if found[here] is not None:
+            if result[here] is not None:
                 continue
-            found[here] = length
+            result[here] = length
             for there, more, _ in near[here]:
-                if found[there] is None:
+                if result[there] is None:
                     heapq.heappush(heap, (length + more, there))
-        return found
+        return result
 
     def costs(self, labels: Lengths, start: int, is_backward: bool = False) -> Lengths:
         """Returns the costs that belong to labels."""

@@ -39,15 +39,15 @@ class SingleMoves:
             [] if is_open else [(side, {number + 1 for number in inside})],
         )
 
-    def found(self, moves: Sequence[Move], flows: Sequence[int]) -> list[tuple[Rank, Move]]:
+    def enough(self, moves: Sequence[Move], flows: Sequence[int]) -> list[tuple[Rank, Move]]:
         """Returns pairs of a rank and a move, the best rank first. `flows` say how far a least change moves
         each bound."""
         known = [move for move, flow in zip(moves, flows) if flow]
-        found: list[tuple[Rank, Move]] = []
+        result: list[tuple[Rank, Move]] = []
         usual, tried = usual_bounds(moves), 0
         candidates = [(self.rank(move, usual), move) for move in moves if self.is_sensible(move) and self.helps(move)]
         for rank, move in sorted(candidates, key=lambda pair: pair[0]):
-            if len(found) == LISTED or tried > min(TRIED, LINES // self.problem.size):
+            if len(result) == LISTED or tried > min(TRIED, LINES // self.problem.size):
                 break
             if not self.helps(move):
                 continue
@@ -55,10 +55,10 @@ class SingleMoves:
             cut = None if is_known else self.problem.cut_with(move)
             tried += not is_known
             if cut is None:
-                found.append((rank, move))
+                result.append((rank, move))
             else:
                 self.cuts.append(cut)
-        return found
+        return result
 
     def rank(self, move: Move, usual: Usual) -> Rank:
         """Returns the rank of a move: the oddest bound comes first, and a place that would need or give nothing at all

@@ -111,12 +111,12 @@ class SimpleMinCostFlow:
 
     def maximum_flow(self) -> GraphNumber:
         """Returns what leaves the nodes that give."""
-        found = {node: Fraction(0) for node, supply in self._supplies.items() if supply > 0}
+        result = {node: Fraction(0) for node, supply in self._supplies.items() if supply > 0}
         for arc, flow in zip(self._arcs, self._solved().flows):
             for node, sign in ((arc.src, 1), (arc.dst, -1)):
-                if node in found:
-                    found[node] += sign * flow
-        return self._number.shown(sum(found.values(), Fraction(0)))
+                if node in result:
+                    result[node] += sign * flow
+        return self._number.shown(sum(result.values(), Fraction(0)))
 
     def num_nodes(self) -> int:
         return 1 + max([-1, *self._supplies, *(arc.src for arc in self._arcs), *(arc.dst for arc in self._arcs)])

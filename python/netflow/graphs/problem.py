@@ -151,10 +151,10 @@ def require_bounded(net: Network) -> None:
 
 def exact(value: object, what: str) -> Fraction | None:
     """Returns a number exactly, None for an infinite one."""
-    found = as_fraction(value)
-    if found is None and not (isinstance(value, float) and value == float("inf")):
+    result = as_fraction(value)
+    if result is None and not (isinstance(value, float) and value == float("inf")):
         raise DataError(f"{what}: {value!r} is no number")
-    return found
+    return result
 
 
 class Numbers:

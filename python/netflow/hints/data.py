@@ -168,16 +168,16 @@ def named(diagnostic: Diagnostic) -> set[str]:
 
 def listed(diagnostic: Diagnostic) -> dict[str, list[Token]]:
     """Returns the members that the data list for each set, as tokens."""
-    found: dict[str, list[Token]] = {}
+    result: dict[str, list[Token]] = {}
     words = list(tokens(diagnostic.texts.get("data", "")))
     for here in range(len(words) - 2):
         if words[here].text == "set" and words[here + 2].text == ":=":
-            row = found.setdefault(words[here + 1].text, [])
+            row = result.setdefault(words[here + 1].text, [])
             for token in words[here + 3 :]:
                 if token.text == ";":
                     break
                 row += [token] if token.text not in "(),*" else []
-    return found
+    return result
 
 
 def unknown_member(diagnostic: Diagnostic) -> Hints:
@@ -365,7 +365,7 @@ def failed_check(diagnostic: Diagnostic) -> Hints:
         " ".join(words).replace("> =", ">=").replace("< =", "<="),
         "netflow-why MODEL DATA asks again without this check",
     )
-    signs = [found[0] for found in re.finditer(r"<=|>=|<>|!=|(?<!:)=|<|>", text.replace(":=", ""))]
+    signs = [match[0] for match in re.finditer(r"<=|>=|<>|!=|(?<!:)=|<|>", text.replace(":=", ""))]
     is_lone = len(signs) == 1 and not {"and", "or", "not", "if"} & set(words)
     if words.count("sum") >= 2 and signs == ["="]:
         yield f"the two sums differ: {again} and says how much is short", True

@@ -36,11 +36,11 @@ class Diagnostic:
         names: Sequence[str | None],
         texts: dict[str, str] | None = None,
     ) -> None:
-        found = LINE.fullmatch(line.rstrip("\n"))
-        if found is None:
+        match = LINE.fullmatch(line.rstrip("\n"))
+        if match is None:
             raise ValueError(f"{line!r} is no error line of netflow")
-        self.number, self.name, self.text = found[1], found[2], found[3]
-        self.row, self.column, self.detail = int(found[4] or 0), int(found[5] or 0), found[6] or ""
+        self.number, self.name, self.text = match[1], match[2], match[3]
+        self.row, self.column, self.detail = int(match[4] or 0), int(match[5] or 0), match[6] or ""
         kinds = TEXTS.get(command, ())
         self.path, self.called = dict(zip(kinds, paths)).get(self.text), dict(zip(kinds, names)).get(self.text)
         self.texts = texts if texts is not None else {kind: read(path) for kind, path in zip(kinds, paths)}
@@ -57,8 +57,8 @@ class Diagnostic:
         line = problem.line
         unread = re.match(r"(E90 \w+ \w+): (.*): [^:]*$", line.split("\n")[0])
         line = unread[1] if unread else line.split("\n")[0]
-        found = LINE.fullmatch(line)
-        if not found:
+        match = LINE.fullmatch(line)
+        if not match:
             return None
         data = instance.data or []
         texts = {
@@ -80,9 +80,9 @@ class Diagnostic:
 
     def another(self, line: str) -> "Diagnostic":
         """Returns the diagnostic of another error line for the same inputs."""
-        made = Diagnostic(line, *self.asked, self.texts)
-        made.instance = self.instance
-        return made
+        diagnostic = Diagnostic(line, *self.asked, self.texts)
+        diagnostic.instance = self.instance
+        return diagnostic
 
     @property
     def line(self) -> int:
@@ -133,8 +133,8 @@ class Diagnostic:
         return self.shown[len(self.before) :]
 
     def word(self) -> str:
-        found = TOKEN.match(self.at())
-        return found[0] if found else ""
+        match = TOKEN.match(self.at())
+        return match[0] if match else ""
 
     def statement(self) -> list[Token]:
         """Returns the tokens of the statement that contains the place: from the last `;` before it to the next one."""
@@ -153,11 +153,11 @@ class Diagnostic:
 
     def statement_before(self) -> list[Token]:
         """Returns the tokens of the statement before the place."""
-        found: list[Token] = []
+        result: list[Token] = []
         for token in self.tokens_before():
-            found = [] if found and found[-1].text == ";" else found
-            found.append(token)
-        return [] if found and found[-1].text == ";" else found
+            result = [] if result and result[-1].text == ";" else result
+            result.append(token)
+        return [] if result and result[-1].text == ";" else result
 
     def words(self, kind: str) -> list[str]:
         return [token.bare() for token in tokens(self.texts.get(kind, ""))]
@@ -189,9 +189,9 @@ class Diagnostic:
 
     def hints(self) -> list[str]:
         """Returns the hints, sure ones first; if one is sure, only those that are."""
-        found = list(dict.fromkeys(self.graded_hints()))
-        sure = [text for text, is_sure in found if is_sure]
-        return sure or [text for text, _ in found]
+        result = list(dict.fromkeys(self.graded_hints()))
+        sure = [text for text, is_sure in result if is_sure]
+        return sure or [text for text, _ in result]
 
     def has_sure_hint(self) -> bool:
         return any(is_sure for _, is_sure in self.graded_hints())
@@ -200,11 +200,11 @@ class Diagnostic:
 def catalogue(number: str) -> list[str]:
     """Returns the first paragraph of a code's section, and its list item "Fix:"; empty texts without the page."""
     for place in PAGES:
-        found = re.search(
+        match = re.search(
             rf"(?ms)^## {number} \w+\n\n(.*?)(?=^## |\Z)", read(os.path.normpath(os.path.join(HERE, place)))
         )
-        if found:
-            said = [paragraph.strip().replace("\n", " ") for paragraph in re.split(r"\n\n(?:- )?|\n- ", found[1])]
+        if match:
+            said = [paragraph.strip().replace("\n", " ") for paragraph in re.split(r"\n\n(?:- )?|\n- ", match[1])]
             remedy = next((REMEDY.sub("", paragraph, count=1) for paragraph in said if REMEDY.match(paragraph)), "")
             return [plain(paragraph) for paragraph in (said[0], remedy)]
     return ["", ""]

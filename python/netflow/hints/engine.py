@@ -135,9 +135,9 @@ def condition_word(diagnostic: Diagnostic) -> Hints:
         if token.text in ("to_come", "cover", "coeff"):
             yield f"{token.text}: {REPLACEMENTS[token.text]}", True
             return
-    found = re.search(rf"(net_(?:in|out))\s*>=\s*({SIDE})\s*,\s*<=\s*({SIDE})\s*(?:;|$)", diagnostic.shown)
-    if found:
-        yield f"a range is one condition: {found[2]} <= {found[1]} <= {found[3]}", True
+    match = re.search(rf"(net_(?:in|out))\s*>=\s*({SIDE})\s*,\s*<=\s*({SIDE})\s*(?:;|$)", diagnostic.shown)
+    if match:
+        yield f"a range is one condition: {match[2]} <= {match[1]} <= {match[3]}", True
 
 
 def unended_declaration(diagnostic: Diagnostic) -> Hints:
@@ -203,9 +203,9 @@ def misplaced(diagnostic: Diagnostic) -> Hints:
 
 def dots(diagnostic: Diagnostic) -> Hints:
     """Three dots for the two of a range."""
-    found = re.search(r"(\w+)\s*\.\.\.\s*(\w+)", diagnostic.shown)
-    if diagnostic.text == "model" and found and found.start() <= len(diagnostic.before) <= found.end():
-        yield f"is {found[1]}..{found[2]} meant?", True
+    match = re.search(r"(\w+)\s*\.\.\.\s*(\w+)", diagnostic.shown)
+    if diagnostic.text == "model" and match and match.start() <= len(diagnostic.before) <= match.end():
+        yield f"is {match[1]}..{match[2]} meant?", True
 
 
 def doubled(diagnostic: Diagnostic) -> Hints:

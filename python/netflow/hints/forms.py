@@ -39,10 +39,10 @@ def statement_words(diagnostic: Diagnostic) -> list[str]:
 
 def no_function(diagnostic: Diagnostic) -> Hints:
     """`card(S)`, `max(a, b)`, `sqrt(x)`."""
-    found = re.search(rf"({NAME})\s*$", diagnostic.before)
-    if diagnostic.text != "model" or not diagnostic.at().startswith("(") or not found or found[1] in kinds(diagnostic):
+    match = re.search(rf"({NAME})\s*$", diagnostic.before)
+    if diagnostic.text != "model" or not diagnostic.at().startswith("(") or not match or match[1] in kinds(diagnostic):
         return
-    name = found[1]
+    name = match[1]
     if name in ("max", "min"):
         yield f"{name}(a, b): write {name} {{v in {{a, b}}}} v", True
     elif name in REPLACEMENTS:
@@ -72,9 +72,9 @@ def no_function(diagnostic: Diagnostic) -> Hints:
 
 def bare_sum(diagnostic: Diagnostic) -> Hints:
     """`sum supply[i]` without an index."""
-    found = re.search(r"\b(sum|min|max)\s*$", diagnostic.before)
-    if diagnostic.text == "model" and found and diagnostic.at()[:1] not in ("{", "("):
-        yield f"{found[1]} is followed by its index in braces: {found[1]} {{i in S}} {diagnostic.word()}..", True
+    match = re.search(r"\b(sum|min|max)\s*$", diagnostic.before)
+    if diagnostic.text == "model" and match and diagnostic.at()[:1] not in ("{", "("):
+        yield f"{match[1]} is followed by its index in braces: {match[1]} {{i in S}} {diagnostic.word()}..", True
 
 
 def end_in_parentheses(diagnostic: Diagnostic) -> Hints:
@@ -193,9 +193,9 @@ def net_outside_node(diagnostic: Diagnostic) -> Hints:
 
 def hyphen_range(diagnostic: Diagnostic) -> Hints:
     """`t in 1-last` for `t in 1..last`."""
-    found = re.search(r"\bin\s+(\w+)\s*-\s*(\w+)\s*[,:}]", diagnostic.at().split("\n")[0])
-    if diagnostic.text == "model" and found:
-        yield f"{found[1]}-{found[2]}: is {found[1]}..{found[2]} meant?", True
+    match = re.search(r"\bin\s+(\w+)\s*-\s*(\w+)\s*[,:}]", diagnostic.at().split("\n")[0])
+    if diagnostic.text == "model" and match:
+        yield f"{match[1]}-{match[2]}: is {match[1]}..{match[2]} meant?", True
 
 
 def redeclared(diagnostic: Diagnostic) -> Hints:
@@ -257,18 +257,18 @@ def unknown_index(diagnostic: Diagnostic) -> Hints:
     from .data import declared, indices, members_in_data
 
     words = list(diagnostic.statement())
-    found = [name for name in dict.fromkeys(indices(words)) if name not in RESERVED]
+    result = [name for name in dict.fromkeys(indices(words)) if name not in RESERVED]
     others = set(re.findall(NAME, diagnostic.texts.get("model", "")))
     is_near = [name for name in others if name != diagnostic.detail and name.lower() == diagnostic.detail.lower()]
     if (
         diagnostic.text == "model"
         and len(diagnostic.detail) <= 2
-        and found
-        and diagnostic.detail not in declared(diagnostic) | set(found) | members_in_data(diagnostic)
+        and result
+        and diagnostic.detail not in declared(diagnostic) | set(result) | members_in_data(diagnostic)
         and not is_near
     ):
         if diagnostic.detail not in set(indices(list(tokens(diagnostic.texts.get("model", ""))))):
-            yield f"{diagnostic.detail} is no index here; this declaration has {', '.join(found)}", True
+            yield f"{diagnostic.detail} is no index here; this declaration has {', '.join(result)}", True
 
 
 def subscripts(diagnostic: Diagnostic) -> Hints:
@@ -280,7 +280,7 @@ def subscripts(diagnostic: Diagnostic) -> Hints:
     name = diagnostic.word()
     if diagnostic.text != "model" or name not in shapes.keys:
         return
-    words = [found[0] for found in TOKEN.finditer(diagnostic.at())][1:]
+    words = [match[0] for match in TOKEN.finditer(diagnostic.at())][1:]
     given = len(items(inside(words))) if words[:1] == ["["] else 0
     count = shapes.keys[name]
     if count != given:

@@ -72,7 +72,7 @@ class Sets:
     def of_name(self, name: str) -> list[tuple[int, str, set[Members] | None]]:
         """Returns for each item in the braces of a declaration how many parts it has, its title and its members."""
         braces = self.decls[name].braces if name in self.decls else None
-        found = []
+        result = []
         for item in (braces.args[:-1] if braces.value else braces.args) if braces else []:
             is_indexed = item.op == "in"
             width = (
@@ -82,8 +82,8 @@ class Sets:
                 if is_indexed
                 else self.shapes.of_set(item)
             )
-            found.append((width, *self.of(item.args[1] if is_indexed else item)))
-        return found
+            result.append((width, *self.of(item.args[1] if is_indexed else item)))
+        return result
 
 
 class Key:

@@ -43,7 +43,7 @@ def further_errors(first: Diagnostic, options: Sequence[str] = ()) -> list[Diagn
         cells = Places(model, data)
     except Unparsed:
         return []
-    found: list[Diagnostic] = []
+    result: list[Diagnostic] = []
     last, end = first, time.monotonic() + SECONDS
     hints, names = set(first.hints()), [name_of(first)]
     with Session([]) as session:
@@ -66,9 +66,9 @@ def further_errors(first: Diagnostic, options: Sequence[str] = ()) -> list[Diagn
             names.append(name_of(last))
             new = [hint for hint in last.hints() if hint not in hints]
             if names.count(name_of(last)) <= OF_ONE_NAME and (new or not last.hints()):
-                found.append(last)
+                result.append(last)
             hints.update(new)
-    return found
+    return result
 
 
 def name_of(error: Diagnostic) -> str:

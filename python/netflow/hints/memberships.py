@@ -176,12 +176,12 @@ class Memberships:
 
     def parameter(self, expr: Expr, env: Env) -> Member:
         key = tuple(self.value(part, env) for part in expr.args)
-        found = self.values.get((expr.value, key))
-        source = self.source(expr.value) if found is None and not key else None
-        found = self.value(source, {}) if source else found
-        if found is None or found == ".":
+        result = self.values.get((expr.value, key))
+        source = self.source(expr.value) if result is None and not key else None
+        result = self.value(source, {}) if source else result
+        if result is None or result == ".":
             raise Unknown
-        return found
+        return result
 
 
 def row_text(row: Key) -> str:

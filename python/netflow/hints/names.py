@@ -64,16 +64,16 @@ def respelled(diagnostic: Diagnostic) -> Hints:
 
 def equals_in_braces(diagnostic: Diagnostic) -> Hints:
     """`{s = SHOPS}`."""
-    found = re.match(rf"({NAME})\s*=\s*({NAME})", diagnostic.at())
+    match = re.match(rf"({NAME})\s*=\s*({NAME})", diagnostic.at())
     words = [token.text for token in diagnostic.statement_before()]
     if (
         diagnostic.text == "model"
-        and found
+        and match
         and words[-1:] in (["{"], [","])
         and words.count("{") > words.count("}")
-        and found[2] in declared_as(diagnostic, "set")
+        and match[2] in declared_as(diagnostic, "set")
     ):
-        yield f"an index is named with its set by in: {found[1]} in {found[2]}", True
+        yield f"an index is named with its set by in: {match[1]} in {match[2]}", True
 
 
 def odd_name(diagnostic: Diagnostic) -> Hints:
@@ -127,9 +127,9 @@ def no_to(diagnostic: Diagnostic) -> Hints:
         and diagnostic.word() in declared_as(diagnostic, "node")
     ):
         yield f"is , to missing before {diagnostic.word()}?", True
-    found = re.match(r"(?:between|connects)\s+([^,;]*?)\s+(?:and|to)\s+([^,;]*)", diagnostic.at())
-    if diagnostic.text == "model" and diagnostic.number != "E15" and found:
-        yield f"the ends of an arc are two phrases: from {found[1]}, to {found[2].strip()}", True
+    match = re.match(r"(?:between|connects)\s+([^,;]*?)\s+(?:and|to)\s+([^,;]*)", diagnostic.at())
+    if diagnostic.text == "model" and diagnostic.number != "E15" and match:
+        yield f"the ends of an arc are two phrases: from {match[1]}, to {match[2].strip()}", True
 
 
 def early_end(diagnostic: Diagnostic) -> Hints:
@@ -146,10 +146,10 @@ def early_end(diagnostic: Diagnostic) -> Hints:
 
 def two_conditions(diagnostic: Diagnostic) -> Hints:
     """`net_in >= 2, net_in <= 5`."""
-    found = re.search(r"(net_in|net_out)\s*>=\s*([^,;]*?)\s*$", diagnostic.before)
+    match = re.search(r"(net_in|net_out)\s*>=\s*([^,;]*?)\s*$", diagnostic.before)
     after = re.match(r",\s*(?:(net_in|net_out)\s*)?<=\s*([^,;]*)", diagnostic.at())
-    if diagnostic.text == "model" and found and after and after[1] in (None, found[1]) and after[1]:
-        yield f"a node has one condition: {found[2]} <= {found[1]} <= {after[2].strip()}", True
+    if diagnostic.text == "model" and match and after and after[1] in (None, match[1]) and after[1]:
+        yield f"a node has one condition: {match[2]} <= {match[1]} <= {after[2].strip()}", True
 
 
 HINTS: HintTable = (

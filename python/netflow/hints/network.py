@@ -71,31 +71,31 @@ def variable_in_condition(diagnostic: Diagnostic) -> Hints:
 
 def coefficient(diagnostic: Diagnostic) -> Hints:
     """`coeff Shop[s] 1` and `coeff Shop[s] -1`."""
-    found = re.match(rf"coeff\s+({NAME}{KEY})\s*(-?\s*[\d.]*)", diagnostic.at())
-    if diagnostic.text != "model" or not found:
+    match = re.match(rf"coeff\s+({NAME}{KEY})\s*(-?\s*[\d.]*)", diagnostic.at())
+    if diagnostic.text != "model" or not match:
         return
-    number = found[2].replace(" ", "")
+    number = match[2].replace(" ", "")
     if number in ("1", "-1"):
-        yield f"coeff {found[1]} {number}: write {'to' if number == '1' else 'from'} {found[1]}", True
+        yield f"coeff {match[1]} {number}: write {'to' if number == '1' else 'from'} {match[1]}", True
     else:
         yield "coeff N 1 is `to N`, and coeff N -1 is `from N`; another coefficient is a gain, which no network has", True
 
 
 def equals_after_objective(diagnostic: Diagnostic) -> Hints:
     """`obj Total = cost[b,s]`."""
-    found = re.search(rf"\bobj\s+({NAME})\s*$", diagnostic.before)
-    if diagnostic.text == "model" and found and diagnostic.at().startswith(("=", ":=")):
+    match = re.search(rf"\bobj\s+({NAME})\s*$", diagnostic.before)
+    if diagnostic.text == "model" and match and diagnostic.at().startswith(("=", ":=")):
         price = re.match(r":?=\s*((?:\[[^\]]*\]|[^,;\[])*)", diagnostic.at())
-        yield f"no = comes after the objective's name: obj {found[1]} {price[1].strip() if price else '..'}", True
+        yield f"no = comes after the objective's name: obj {match[1]} {price[1].strip() if price else '..'}", True
 
 
 def end_with_parentheses(diagnostic: Diagnostic) -> Hints:
     """`from Bakery(b)`."""
-    found = re.search(rf"\b(?:from|to)\s+({NAME})\s*$", diagnostic.before)
+    match = re.search(rf"\b(?:from|to)\s+({NAME})\s*$", diagnostic.before)
     inside = re.match(rf"\(((?:\s*{NAME}\s*,?)+)\)", diagnostic.at())
-    has_index = found and re.search(rf"\bnode\s+{found[1]}\s*\{{", diagnostic.texts["model"])
-    if diagnostic.text == "model" and found and has_index and inside:
-        yield f"subscripts are in brackets: {found[1]}[{','.join(part.strip() for part in inside[1].split(','))}]", True
+    has_index = match and re.search(rf"\bnode\s+{match[1]}\s*\{{", diagnostic.texts["model"])
+    if diagnostic.text == "model" and match and has_index and inside:
+        yield f"subscripts are in brackets: {match[1]}[{','.join(part.strip() for part in inside[1].split(','))}]", True
 
 
 def second_brackets(diagnostic: Diagnostic) -> Hints:

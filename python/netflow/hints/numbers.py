@@ -27,9 +27,9 @@ def error_value(diagnostic: Diagnostic) -> Hints:
 
 def quoted_number(diagnostic: Diagnostic) -> Hints:
     """`hill "30"`."""
-    found = re.match(r"(['\"])([+-]?\d+(?:\.\d+)?)\1", diagnostic.at())
-    if diagnostic.text == "data" and found and not diagnostic.is_change():
-        yield f"{found[0]} is a text: write {found[2]}", True
+    match = re.match(r"(['\"])([+-]?\d+(?:\.\d+)?)\1", diagnostic.at())
+    if diagnostic.text == "data" and match and not diagnostic.is_change():
+        yield f"{match[0]} is a text: write {match[2]}", True
 
 
 def number_of(text: str) -> str:
@@ -56,10 +56,10 @@ def grouped_in_list(diagnostic: Diagnostic) -> Hints:
     body = "\n".join(lines[words[0].row - 1 : words[-1].row])
     body = re.sub(r"#[^\n]*", "", body.partition(head[1])[2].partition(":=")[2].partition(";")[0])
     for pattern in (COMMA, BLANK):
-        found = re.search(pattern, body)
-        if found and size > 1 and has_values(re.sub(pattern, "0", body), size) and not has_values(body, size):
-            row = next(row for row in range(words[0].row, words[-1].row + 1) if found[0] in lines[row - 1])
-            yield f"{found[0]} in {diagnostic.rows_text([row])}: {number_of(found[0])}", True
+        match = re.search(pattern, body)
+        if match and size > 1 and has_values(re.sub(pattern, "0", body), size) and not has_values(body, size):
+            row = next(row for row in range(words[0].row, words[-1].row + 1) if match[0] in lines[row - 1])
+            yield f"{match[0]} in {diagnostic.rows_text([row])}: {number_of(match[0])}", True
             return
 
 

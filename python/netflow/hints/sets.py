@@ -36,14 +36,14 @@ def listed_rows(diagnostic: Diagnostic, world: Memberships, name: str) -> list[t
     """Returns the tuples of a set in the data, each with its line."""
     words, text = set_words(diagnostic, name), diagnostic.texts.get("data", "")
     width = world.shapes.sets.get(name, 1)
-    found = [(tuple(map(member, words[here : here + width])), words[here].row) for here in range(0, len(words), width)]
+    result = [(tuple(map(member, words[here : here + width])), words[here].row) for here in range(0, len(words), width)]
     params = {decl: size for decl, size in world.shapes.keys.items() if world.shapes.decls[decl].kind == "param"}
     for statement in DataText(text, params, world.shapes.sets, True).statements:
         row, last = 1, 0
         for cell in statement.cells if statement.set_name == name else []:
             row, last = row + text.count("\n", last, cell.token.start), cell.token.start
-            found.append((cell.key, row))
-    return list(dict.fromkeys(found))
+            result.append((cell.key, row))
+    return list(dict.fromkeys(result))
 
 
 def outside(diagnostic: Diagnostic) -> Hints:
@@ -94,8 +94,8 @@ def set_slices(diagnostic: Diagnostic) -> Hints:
     head = [token.text for token in words[:3]]
     if diagnostic.text != "data" or head[:1] != ["set"] or head[2:] != [":="] or diagnostic.word() != "*":
         return
-    found = re.search(r"\([^()]*$", diagnostic.before)
-    template = f"{found[0] if found else '('}{diagnostic.at().partition(')')[0]})"
+    match = re.search(r"\([^()]*$", diagnostic.before)
+    template = f"{match[0] if match else '('}{diagnostic.at().partition(')')[0]})"
     pairs = slice_pairs([token for token in words[3:] if token.text != ";"])
     yield (
         f"{template} is a slice of AMPL, which netflow does not have: write whole"

@@ -26,13 +26,13 @@ def chained(diagnostic: Diagnostic) -> Hints:
     """A second comparison of the same expression inside braces or a check: `1 <= t <= n`."""
     if diagnostic.text != "model" or not diagnostic.at().startswith(("<", ">", "=")):
         return
-    found = re.search(rf"({OPERAND})\s*(<=?|>=?)\s*({OPERAND})\s*$", diagnostic.before)
+    match = re.search(rf"({OPERAND})\s*(<=?|>=?)\s*({OPERAND})\s*$", diagnostic.before)
     after = re.match(rf"(<=?|>=?)\s*({OPERAND})", diagnostic.at())
     words = [token.text for token in diagnostic.statement_before()]
     is_inside = words.count("{") > words.count("}")
-    if not found or not after or not (is_inside or words[:1] == ["check"]):
+    if not match or not after or not (is_inside or words[:1] == ["check"]):
         return
-    left, first, middle, second, right = *found.groups(), *after.groups()
+    left, first, middle, second, right = *match.groups(), *after.groups()
     last_item = "".join(words[len(words) - words[::-1].index("{") :]) if is_inside else ":"
     if is_inside and ":" not in last_item and re.fullmatch(NAME, middle) and (first, second) == ("<=", "<="):
         yield f"an index is named with its set: {middle} in {left}..{right}", True
@@ -86,9 +86,9 @@ def bounds_in_one(diagnostic: Diagnostic) -> Hints:
         or not re.search(r"(?:[},]|\w)\s*$", diagnostic.before)
     ):
         return
-    found = BOUND.match(diagnostic.at())
-    if found:
-        yield f"the bounds of an arc are two phrases: >= {found['low']}, <= {found['high']}", True
+    match = BOUND.match(diagnostic.at())
+    if match:
+        yield f"the bounds of an arc are two phrases: >= {match['low']}, <= {match['high']}", True
 
 
 def mixed_range(diagnostic: Diagnostic) -> Hints:
@@ -97,10 +97,10 @@ def mixed_range(diagnostic: Diagnostic) -> Hints:
     if diagnostic.text != "model" or not statement or statement[0].text != "node":
         return
     line = diagnostic.shown[diagnostic.shown.rfind(":", 0, len(diagnostic.before)) + 1 :]
-    found = RANGE.search(line)
-    if found and found["low"].strip() and found["one"] != found["two"]:
+    match = RANGE.search(line)
+    if match and match["low"].strip() and match["one"] != match["two"]:
         yield (
-            f"both signs of a range are the same: {found['low'].strip()} <= {found['net']} <= {found['high'].strip()}",
+            f"both signs of a range are the same: {match['low'].strip()} <= {match['net']} <= {match['high'].strip()}",
             True,
         )
 
@@ -127,14 +127,14 @@ def comma_for_colon(diagnostic: Diagnostic) -> Hints:
 def no_objective(diagnostic: Diagnostic) -> Hints:
     """`obj freight[p,q]`: the objective's name is missing."""
     names = sorted(declared(diagnostic, "minimize", "maximize"))
-    found = re.search(rf"\bobj\s+(?:({NAME})\s*)?$", diagnostic.before)
-    if diagnostic.text != "model" or not found or not names:
+    match = re.search(rf"\bobj\s+(?:({NAME})\s*)?$", diagnostic.before)
+    if diagnostic.text != "model" or not match or not names:
         return
     word = re.match(NAME, diagnostic.at())
-    head = found[1] or (word[0] if word and diagnostic.number == "E12" and diagnostic.detail not in names else "")
+    head = match[1] or (word[0] if word and diagnostic.number == "E12" and diagnostic.detail not in names else "")
     is_price = head in declared(diagnostic, "param") if head else re.match(r"[\d(]", diagnostic.at()) is not None
     if is_price:
-        price = (found[1] or "") + re.match(r"(?:\[[^\]]*\]|[^,;])*", diagnostic.at())[0].strip()  # type: ignore[index]
+        price = (match[1] or "") + re.match(r"(?:\[[^\]]*\]|[^,;])*", diagnostic.at())[0].strip()  # type: ignore[index]
         price = re.sub(rf"\s+(?:{'|'.join(names)})$", "", price)
         yield f"the objective's name comes after obj: obj {names[0]} {price}", True
 
@@ -150,23 +150,23 @@ def check_without_colon(diagnostic: Diagnostic) -> Hints:
 
 def colon_range(diagnostic: Diagnostic) -> Hints:
     """`{1:last}` and `{t in 1:last}`."""
-    found = re.match(rf"\{{?\s*(?:{NAME}\s+in\s+)?(\w+)\s*:\s*(\w+)\s*[}},]", diagnostic.at())
-    if diagnostic.text == "model" and found and not found[1].isidentifier():
-        yield f"{found[1]}:{found[2]}: is {found[1]}..{found[2]} meant?", True
+    match = re.match(rf"\{{?\s*(?:{NAME}\s+in\s+)?(\w+)\s*:\s*(\w+)\s*[}},]", diagnostic.at())
+    if diagnostic.text == "model" and match and not match[1].isidentifier():
+        yield f"{match[1]}:{match[2]}: is {match[1]}..{match[2]} meant?", True
 
 
 def nothing_after(diagnostic: Diagnostic) -> Hints:
     """`default;`, `>= ,`: a phrase without its value."""
-    found = re.search(r"(\bdefault|\bwithin|\bdimen|\bobj|\bfrom|\bto|:=|<=|>=|[-+*=:(\[])\s*$", diagnostic.before)
-    if diagnostic.text == "model" and found and diagnostic.at()[:1] in (";", ",", "}", "]", ")"):
-        yield f"what comes after {found[1]} is missing", True
+    match = re.search(r"(\bdefault|\bwithin|\bdimen|\bobj|\bfrom|\bto|:=|<=|>=|[-+*=:(\[])\s*$", diagnostic.before)
+    if diagnostic.text == "model" and match and diagnostic.at()[:1] in (";", ",", "}", "]", ")"):
+        yield f"what comes after {match[1]} is missing", True
 
 
 def tuple_without_comma(diagnostic: Diagnostic) -> Hints:
     """`(GOA HAM)` in data."""
-    found = re.search(r"\(\s*([^\s,()]+)\s+$", diagnostic.before)
-    if diagnostic.text == "data" and found and diagnostic.word() not in (",", ")", ";"):
-        yield f"the members of a tuple have commas between them: ({found[1]},{diagnostic.word()})", True
+    match = re.search(r"\(\s*([^\s,()]+)\s+$", diagnostic.before)
+    if diagnostic.text == "data" and match and diagnostic.word() not in (",", ")", ";"):
+        yield f"the members of a tuple have commas between them: ({match[1]},{diagnostic.word()})", True
 
 
 def braces_in_data(diagnostic: Diagnostic) -> Hints:

@@ -111,9 +111,9 @@ def blank_text(diagnostic: Diagnostic, columns: list[Token], more: int) -> str:
     ones."""
     known = {token.bare() for token in tokens(diagnostic.texts.get("data", ""))}
     pairs = [f"{one.bare()} {two.bare()}" for one, two in zip(columns, columns[1:])]
-    found = [pair for pair in pairs if pair in known]
-    if found:
-        return f"write a name with a blank in quotes, {few([repr(pair) for pair in found], 3)}"
+    result = [pair for pair in pairs if pair in known]
+    if result:
+        return f"write a name with a blank in quotes, {few([repr(pair) for pair in result], 3)}"
     return (
         f"is a name with a blank in it? Write it with quotes, such as '{pairs[0]}'"
         if pairs and more

@@ -42,11 +42,11 @@ def character(diagnostic: Diagnostic) -> Hints:
 def unit(diagnostic: Diagnostic) -> Hints:
     """`40km`, or `40 loaves` for a parameter with one value."""
     word = diagnostic.word().rstrip(",;")
-    found = re.fullmatch(r"([+-]?\d+(?:\.\d+)?)[^\W\d_]+", word)
+    match = re.fullmatch(r"([+-]?\d+(?:\.\d+)?)[^\W\d_]+", word)
     if diagnostic.text != "data" or diagnostic.is_change():
         return
-    if diagnostic.number == "E36" and found and not word.translate(str.maketrans("OoIl", "0011")).isdigit():
-        yield f"{word}: write the number without its unit, {found[1]}", True
+    if diagnostic.number == "E36" and match and not word.translate(str.maketrans("OoIl", "0011")).isdigit():
+        yield f"{word}: write the number without its unit, {match[1]}", True
     elif (
         diagnostic.number == "E31"
         and "[" not in diagnostic.detail
@@ -77,11 +77,11 @@ def one_number(diagnostic: Diagnostic) -> Hints:
 def keys_as_tuples(diagnostic: Diagnostic) -> Hints:
     """`param cost := (north,hill) 4`."""
     words = [token.text for token in diagnostic.statement_before()]
-    found = re.match(r"\(([^()]*)\)\s*(\S+)", diagnostic.at())
-    if diagnostic.text == "data" and words[:1] == ["param"] and words[-1:] == [":="] and found:
+    match = re.match(r"\(([^()]*)\)\s*(\S+)", diagnostic.at())
+    if diagnostic.text == "data" and words[:1] == ["param"] and words[-1:] == [":="] and match:
         yield (
             "the keys of a value have no parentheses:"
-            f" {' '.join(part.strip() for part in found[1].split(','))} {found[2].rstrip(';')}",
+            f" {' '.join(part.strip() for part in match[1].split(','))} {match[2].rstrip(';')}",
             True,
         )
 

@@ -53,15 +53,15 @@ def lines_of_model(model: str) -> Iterator[str]:
 def lines_of_data(model: str, name: str | None, text: str) -> Sequence[str]:
     shapes = Shapes(parse(model), model)
     params = {decl: shapes.keys[decl] for decl in shapes.names("param")}
-    found: dict[str, list[tuple[Key, Token]]] = {}
+    result: dict[str, list[tuple[Key, Token]]] = {}
     for statement in DataText(text, params, shapes.sets, True).statements:
         values = [(cell.name, cell.key, cell.token) for cell in statement.cells]
         values += [(f"the default of {statement.name}", (), statement.default)] if statement.default is not None else []
         for param, key, token in values:
             if token.kind == "word" and GROUPED.fullmatch(token.text):
-                found.setdefault(param, []).append((key, token))
+                result.setdefault(param, []).append((key, token))
     lines = []
-    for param, cells in found.items():
+    for param, cells in result.items():
         key, token = cells[0]
         title = f"{param}[{','.join(map(shown, key))}]" if key else param
         line = f"line {text.count(chr(10), 0, token.start) + 1}{f' of {name}' if name else ''}"

@@ -14,9 +14,10 @@ from ..program import UNREADABLE_FILE, Answer, Session, call
 from ..reading.conditions import mark_open_sides
 from ..reading.data import DataText
 from ..reading.edits import EditedText
+from ..reading.headings import objective_of
 from ..reading.model import Decl, Shapes, Unparsed, parse
 from ..reading.network import Network
-from ..reading.output import read_compiled, read_cut, read_plan, read_prices
+from ..reading.output import read_certificate, read_compiled, read_cut, read_cut_of_problem, read_plan, read_prices
 from ..types import Edit, Key, Value
 from .decimals import CERTAIN, GRAMMAR, is_decimal, next_error
 from .overrides import Overrides, tokens_with_numbers
@@ -112,14 +113,14 @@ class Instance:
         problem = next_error(self.session, kinds)
         if problem is None:
             return
-        found = PLACE.fullmatch(problem.message)
-        if not above or source is None or found is None or found[2] == "model":
+        match = PLACE.fullmatch(problem.message)
+        if not above or source is None or match is None or match[2] == "model":
             raise problem
-        row, rest = int(found[3]), f"{found[4]}{found[5].rstrip()}"
+        row, rest = int(match[3]), f"{match[4]}{match[5].rstrip()}"
         raise ProgramError(
             problem.status,
-            f"{found[1]} {row}:{rest}\nin {source.name or 'the text'}:{row}:{found[4]}\n",
-            f"{found[1]} {row + above}:{rest}\n",
+            f"{match[1]} {row}:{rest}\nin {source.name or 'the text'}:{row}:{match[4]}\n",
+            f"{match[1]} {row + above}:{rest}\n",
         )
 
     def require_files(self) -> None:
@@ -177,27 +178,27 @@ class Instance:
                 if path
                 else problem
             )
-        found = PLACE.fullmatch(problem.message)
-        edited = self.edited.get(found[2]) if found else None
-        if not edited or found is None:
+        match = PLACE.fullmatch(problem.message)
+        edited = self.edited.get(match[2]) if match else None
+        if not edited or match is None:
             return problem
-        row, column, above = int(found[3]), int(found[4]), 0
-        if found[2] == "data" and self.change_at(row):
-            line = f"{found[1]} {row}:{column}{found[5].rstrip()}\n"
-            return ProgramError(problem.status, f"{found[1]}{found[5].rstrip()}\nin {self.change_at(row)}\n", line)
+        row, column, above = int(match[3]), int(match[4]), 0
+        if match[2] == "data" and self.change_at(row):
+            line = f"{match[1]} {row}:{column}{match[5].rstrip()}\n"
+            return ProgramError(problem.status, f"{match[1]}{match[5].rstrip()}\nin {self.change_at(row)}\n", line)
         for part in edited:
             lines = part.text.count("\n") + 1
             if row - above <= lines:
                 column = part.original_place(row - above, column)[1]
                 break
             above += lines
-        line = f"{found[1]} {row}:{column}{found[5].rstrip()}\n"
+        line = f"{match[1]} {row}:{column}{match[5].rstrip()}\n"
         if len(edited) < 2:
             return ProgramError(problem.status, line)
         path, place = self.source_of(row)
         return ProgramError(
             problem.status,
-            f"{found[1]} {place}:{column}{found[5].rstrip()}\nin {path or 'the text'}:{place}:{column}\n",
+            f"{match[1]} {place}:{column}{match[5].rstrip()}\nin {path or 'the text'}:{place}:{column}\n",
             line,
         )
 
@@ -244,32 +245,49 @@ class Instance:
         key_text = f"[{', '.join(map(repr, key))}]" if key else ""
         return f"{name}{key_text} = {str(value) if isinstance(value, Fraction) else repr(value)}"
 
-    def network(self, with_prices: bool = False) -> tuple[Answer, Network]:
-        """Returns the answer of `solve` and the network with the plan; with prices too if asked for."""
+    def network(self) -> tuple[Answer, Network]:
+        """Returns the answer of `solve`, and the network with its plan, or with the cut that shows that there is none."""
         self.prepare()
         was_rewritten = self.is_rewritten
-        with ThreadPoolExecutor(2) as calls:
-            # The program solves the model and finds prices while this process reads the network.
+        with ThreadPoolExecutor(1) as calls:
+            # The program solves the model while this process reads the network.
             solving = calls.submit(self.session.ask, "solve")
             compiled = self.ask("compile").text
             if self.is_rewritten != was_rewritten:
                 solving = calls.submit(self.session.ask, "solve")
-            pricing = calls.submit(call, ["min", "/dev/stdin"], compiled) if with_prices else None
             net = read_compiled(compiled)
+            mark_open_sides(net, self.model.text())
             try:
                 answer = solving.result()
             except ProgramError as problem:
                 raise self.placed(problem) from None
-            mark_open_sides(net, self.model.text())
-            if answer.status == 0:
-                read_plan(answer.text, net)
-                self.check_bounds(net)
-            else:
-                net.cut = read_cut(answer.text, net)
-            net.divide(self.factors)
-            if pricing is not None and answer.status == 0:
-                read_prices(pricing.result().text, net)
+        if answer.status == 0:
+            read_plan(answer.text, net)
+            self.check_bounds(net)
+        else:
+            net.cut = read_cut(answer.text, net)
+        net.divide(self.factors)
         return answer, net
+
+    def priced_network(self) -> Network:
+        """Returns the network with its plan and prices, or with a cut. The program reads the model once, and then solves the problem
+        that it is compiled to, since `solve` prints no prices."""
+        compiled = self.ask("compile").text
+        with ThreadPoolExecutor(1) as calls:
+            solving = calls.submit(call, ["min", "/dev/stdin"], compiled)
+            net = read_compiled(compiled)
+            mark_open_sides(net, self.model.text())
+            answer = solving.result()
+        if answer.status == 0:
+            net.objective = self.objective or objective_of(self.model.text())
+            read_certificate(answer.text, net)
+            self.check_bounds(net)
+        else:
+            net.cut = read_cut_of_problem(answer.text, net)
+        net.divide(self.factors)
+        if answer.status == 0:
+            read_prices(answer.text, net)
+        return net
 
     def check_bounds(self, net: Network) -> None:
         """Raises Unbounded if an added bound is what limits the objective."""

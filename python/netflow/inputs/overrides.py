@@ -7,12 +7,12 @@ from .python_data import PythonData
 
 
 def tokens_with_numbers(piece: DataText) -> list[tuple[str, Token]]:
-    found = []
+    result = []
     for statement in piece.statements:
-        found += [(cell.name, cell.token) for cell in statement.cells if cell.token.kind == "word"]
+        result += [(cell.name, cell.token) for cell in statement.cells if cell.token.kind == "word"]
         if statement.default is not None:
-            found.append((statement.name, statement.default))
-    return found
+            result.append((statement.name, statement.default))
+    return result
 
 
 class Overrides:
@@ -29,23 +29,23 @@ class Overrides:
             cells |= {(cell.name, cell.key) for cell in later.cells()}
             sets |= {st.name if st.kind == "set" else st.set_name for st in later.statements}
             defaults |= {st.name for st in later.statements if st.default is not None}
-        found = [blank(piece.text, token.start, token.end) for token in piece.frame]
+        result = [blank(piece.text, token.start, token.end) for token in piece.frame]
         for statement in piece.statements:
             if statement.kind == "set" and statement.name in sets:
-                found += blanks(piece.text, statement.start, statement.end)
+                result += blanks(piece.text, statement.start, statement.end)
                 continue
             if statement.set_name and statement.set_name in sets:
-                found += [blank(piece.text, token.start, token.end) for token in statement.set_tokens]
+                result += [blank(piece.text, token.start, token.end) for token in statement.set_tokens]
             if statement.default is not None and statement.name in defaults:
-                found += [
+                result += [
                     blank(piece.text, token.start, token.end)
                     for token in (statement.default_word, statement.default)
                     if token is not None
                 ]
-            found += [
+            result += [
                 (cell.token.start, cell.token.end, ".") for cell in statement.cells if (cell.name, cell.key) in cells
             ]
-        return found
+        return result
 
 
 def blank(text: str, start: int, end: int) -> Edit:

@@ -129,15 +129,15 @@ def members_of(name: str, value: Any, size: int) -> list[Key]:
                 " member"
             )
         value = value.itertuples(index=False, name=None)
-    found = [tuple(plain(part, f"set {name}") for part in (row if is_row(row) else (row,))) for row in value]
+    result = [tuple(plain(part, f"set {name}") for part in (row if is_row(row) else (row,))) for row in value]
     seen = set()
-    for member in found:
+    for member in result:
         if len(member) != size:
             raise DataError(f"set {name}: the member {key_text(member)} has {parts(member)}; expected {size}")
         if member in seen:
             raise DataError(f"set {name}: the member {key_text(member)} is given twice")
         seen.add(member)
-    return found
+    return result
 
 
 def key_text(key: Key) -> str:
@@ -181,7 +181,7 @@ def declared_text(shapes: Shapes, name: str, *kinds: str) -> str:
 def rows_of(name: str, value: Any, size: int, texts: set[Member] | None, head: str) -> dict[Key, Value]:
     """Returns the values of a parameter by key; a missing value (None, NaN) has no entry. `texts` are members that stay
     texts; `head` is the name with the braces of its declaration."""
-    found: dict[Key, Value] = {}
+    result: dict[Key, Value] = {}
     seen = set()
     for key, item in pairs_of(name, value, size):
         key = tuple(key_part(plain(part, f"param {name}"), texts) for part in key)
@@ -200,8 +200,8 @@ def rows_of(name: str, value: Any, size: int, texts: set[Member] | None, head: s
         seen.add(key)
         made = value_of(name, item)
         if made is not None:
-            found[key] = made
-    return found
+            result[key] = made
+    return result
 
 
 def key_part(part: Member, texts: set[Member] | None) -> Member:

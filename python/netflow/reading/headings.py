@@ -34,15 +34,15 @@ def before_condition(words: Sequence[str]) -> Iterator[str]:
 
 def items(words: Sequence[str]) -> list[list[str]]:
     """Returns the items of braces: the words between their commas."""
-    found: list[list[str]] = [[]]
+    result: list[list[str]] = [[]]
     depth = 0
     for word in words:
         depth += (word in CLOSING) - (word in CLOSING.values())
         if word == "," and depth == 0:
-            found.append([])
+            result.append([])
         else:
-            found[-1].append(word)
-    return found
+            result[-1].append(word)
+    return result
 
 
 NAME = re.compile(r"[A-Za-z_]\w*")
@@ -51,28 +51,34 @@ NAME = re.compile(r"[A-Za-z_]\w*")
 def headings(text: str, name: str, count: int) -> list[str]:
     """Returns what the parts of a key are called: the sets that the braces name, or the dummies if a set is used twice,
     is written out, or another part has a dummy's name; `key 1` and so on if the text does not say so many."""
-    found: list[tuple[str, str]] = []
+    result: list[tuple[str, str]] = []
     lone: list[str] = []
     for item in items(braces_of(text, name)):
         cut = item.index("in") if "in" in item else 0
         dummies, a_set = [word for word in item[:cut] if NAME.fullmatch(word)], " ".join(item[cut and cut + 1 :])
         lone += [a_set] if not dummies and NAME.fullmatch(a_set) else []
         is_named = len(dummies) <= 1 and NAME.fullmatch(a_set)
-        found += [(a_set if is_named else dummy, dummy) for dummy in dummies or [a_set]]
-    more = count - len(found)
+        result += [(a_set if is_named else dummy, dummy) for dummy in dummies or [a_set]]
+    more = count - len(result)
     if more > 0 and len(lone) == 1:
         # A set of tuples without dummies has as many parts as are left.
-        place = found.index((lone[0], lone[0]))
-        found[place : place + 1] = [(f"{lone[0]} {index + 1}",) * 2 for index in range(more + 1)]
-    sets = [name for name, _ in found]
+        place = result.index((lone[0], lone[0]))
+        result[place : place + 1] = [(f"{lone[0]} {index + 1}",) * 2 for index in range(more + 1)]
+    sets = [name for name, _ in result]
     # Either all titles are sets, or all are dummies: a mixture of `GRADES` and `t` reads badly.
-    are_sets = len(set(sets)) == len(sets) and all(NAME.fullmatch(name) for name, _ in found)
-    titles = sets if are_sets else [dummy for _, dummy in found]
+    are_sets = len(set(sets)) == len(sets) and all(NAME.fullmatch(name) for name, _ in result)
+    titles = sets if are_sets else [dummy for _, dummy in result]
     return (
         titles
         if len(titles) == count and all(titles) and len(set(titles)) == count
         else [f"key {index + 1}" for index in range(count)]
     )
+
+
+def objective_of(text: str) -> str:
+    """Returns the name of the first objective that a model declares; an empty text if it declares none."""
+    words = [token.text for token in tokens(text)]
+    return next((name for word, name in zip(words, words[1:]) if word in ("minimize", "maximize")), "")
 
 
 def compared_texts(model: str, data: Iterable[str]) -> list[str]:

@@ -55,12 +55,12 @@ def references(texts: Sequence[str]) -> tuple[list[str], list[list[Member]]]:
     """Returns the names and the keys of references such as `Ship['PITT','NE']`."""
     known, keys = Members(), []
     names: dict[str, str] = {}
-    found = []
+    result = []
     for text in texts:
         name, bracket, key = text.partition("[")
         parts = known.key(key[:-1]) if key[-1:] == "]" or not bracket else None
         if parts is None or name not in names and not NAME.fullmatch(name):
             raise Unreadable(f"{text!r} is no node and no arc")
-        found.append(names.setdefault(name, name))
+        result.append(names.setdefault(name, name))
         keys.append(parts)
-    return found, keys
+    return result, keys

@@ -103,10 +103,10 @@ def tokens_of(text: str) -> list[Token]:
 def parse(text: str) -> list[Decl]:
     """Returns the declarations of a model; raises Unparsed."""
     parser = _Parser(text)
-    found = []
+    result = []
     while parser.at < len(parser.tokens):
-        found.append(parser.declaration())
-    return found
+        result.append(parser.declaration())
+    return result
 
 
 class _Parser:
@@ -145,21 +145,21 @@ class _Parser:
 
     def declaration(self) -> Decl:
         first = self.want("set", "param", "check", "node", "arc", "minimize", "maximize")
-        made = Decl(first.text, "" if first.text == "check" else self.name(), first.start)
+        decl = Decl(first.text, "" if first.text == "check" else self.name(), first.start)
         if first.text in ("param", "check", "node", "arc") and self.peek() == "{":
-            made.braces = self.braces()
+            decl.braces = self.braces()
         if first.text == "check":
             self.want(":")
-            made.phrases.append(self.phrase_of("check", self.condition))
+            decl.phrases.append(self.phrase_of("check", self.condition))
         elif first.text in ("node", "minimize", "maximize"):
             if self.peek() == ":":
                 self.next()
-                made.phrases.append(self.phrase_of("value", self.net if first.text == "node" else self.value))
+                decl.phrases.append(self.phrase_of("value", self.net if first.text == "node" else self.value))
         else:
             while self.peek() != ";":
-                made.phrases.append(self.phrase(first.text))
-        made.end = self.want(";").start
-        return made
+                decl.phrases.append(self.phrase(first.text))
+        decl.end = self.want(";").start
+        return decl
 
     def phrase_of(self, word: str, parse_part: Callable[[], Expr]) -> Phrase:
         part = parse_part()
@@ -341,9 +341,9 @@ class Shapes:
             part = phrase.exprs[0]
             if phrase.word == "dimen":
                 return int(part.value) if part.op == "num" and part.value.isdigit() else 1
-            found = self.of_set(part)
-            if found:
-                return found
+            result = self.of_set(part)
+            if result:
+                return result
         return 1
 
     def of_set(self, expr: Expr) -> int:

@@ -114,6 +114,7 @@ class Network:
         self.problem = ""
         self.declarations: list[tuple[str, bool]] = []
         self.constant, self.sign, self.objective = 0, 1, ""
+        self.offsets: list[int] = []  # what a flow of the problem lacks to that of its arc
         self.value: Number = 0
         self.factors = Factors()
         # The side and the node indices of a cut, if there is no plan.
@@ -146,10 +147,10 @@ class Network:
 
     @functools.cached_property
     def _declared(self) -> dict[str, list[Arc]]:
-        found: dict[str, list[Arc]] = {}
+        result: dict[str, list[Arc]] = {}
         for name, arcs in itertools.groupby(self.arcs, operator.attrgetter("name")):
-            found.setdefault(name, []).extend(arcs)
-        return found
+            result.setdefault(name, []).extend(arcs)
+        return result
 
     def declared(self) -> dict[str, list[Arc]]:
         """Returns the arcs by the names of their declarations, in the model's order."""

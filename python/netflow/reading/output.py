@@ -76,7 +76,7 @@ def read_link(line: str, net: Network) -> None:
 def place_arcs(net: Network, texts: list[str], offsets: list[int], drawn: list[list[int]]) -> None:
     """Makes the arcs from their names and offsets: ends, bounds without the offsets, prices, and what they allow at
     each node."""
-    outside, sign = len(net.nodes), net.sign
+    outside, sign, net.offsets = len(net.nodes), net.sign, offsets
     srcs, dsts, leasts, mosts, costs = (column[: len(texts)] for column in drawn)
     if len(costs) < len(texts):
         raise Unreadable("the problem has fewer arcs than the model")
@@ -121,8 +121,8 @@ def read_plan(text: str, net: Network) -> None:
         name, is_table = lines[line][:-3], lines[line].endswith(" :=")
         if is_table:
             count = next((here for here in range(at, len(arcs)) if arcs[here].name != name), len(arcs)) - at
-            found = [row.rpartition(" ") for row in lines[line + 1 : line + 1 + count]]
-            keys, flows = [row[0] for row in found], [row[2] for row in found]
+            result = [row.rpartition(" ") for row in lines[line + 1 : line + 1 + count]]
+            keys, flows = [row[0] for row in result], [row[2] for row in result]
             if lines[line + 1 + count : line + 2 + count] != [";"]:
                 raise Unreadable(f"the table of {name} does not end after {count} arcs")
         else:
@@ -164,10 +164,10 @@ def take_flows(net: Network, arcs: list[Arc], flows: list[int]) -> None:
 
 
 def valued(line: str) -> tuple[str, int]:
-    found = re.fullmatch(rf"(\S+) = ({NUMBER})", line)
-    if not found:
+    match = re.fullmatch(rf"(\S+) = ({NUMBER})", line)
+    if not match:
         raise Unreadable(f"{line!r} gives no name a number")
-    return found[1], int(found[2])
+    return match[1], int(match[2])
 
 
 def divided_cut(text: str, net: Network) -> str:
@@ -187,7 +187,34 @@ def read_cut(text: str, net: Network) -> tuple[str, set[int]]:
         raise Unreadable("a cut was expected")
     places = {node.text: number for number, node in enumerate(net.nodes)}
     side, inside = lines[1].split(" ")[0], {places[line[5:]] for line in lines[2:] if line.startswith("node ")}
-    if lines[-1] != "outside":
+    return from_inside(side, inside | {len(net.nodes)} if lines[-1] == "outside" else inside, net)
+
+
+def read_certificate(certificate: str, net: Network) -> None:
+    """Sets the value and the flows of a network from a certificate of the problem that it is compiled to."""
+    cost, _, _ = certificate.partition("\n")
+    if not cost.startswith("s "):
+        raise Unreadable("a certificate was expected")
+    net.value = net.constant + net.sign * numbers([cost[2:]])[0]
+    first = beginning(certificate, "f ")
+    flows = columns(certificate[first : beginning(certificate, "v ", first)], "f", 2)[1][: len(net.arcs)]
+    if len(flows) < len(net.arcs):
+        raise Unreadable("the certificate has fewer flows than the model has arcs")
+    take_flows(net, net.arcs, list(map(operator.add, flows, net.offsets)))
+
+
+def read_cut_of_problem(text: str, net: Network) -> tuple[str, set[int]]:
+    """Returns the side and the node indices of a cut of the problem that a network is compiled to, as `read_cut` does."""
+    first, *lines = lines_of(text)
+    if first not in ("x over", "x under") or not all(line.startswith("m ") for line in lines):
+        raise Unreadable("a cut was expected")
+    inside = {number - 1 for number in numbers([line[2:] for line in lines])}
+    return from_inside(first[2:], inside, net)
+
+
+def from_inside(side: str, inside: set[int], net: Network) -> tuple[str, set[int]]:
+    """Returns a cut that does not contain the outside: the set itself, or its complement, which shows the same from its side."""
+    if len(net.nodes) not in inside:
         return side, inside
     return {"over": "under", "under": "over"}[side], set(range(len(net.nodes))) - inside
 

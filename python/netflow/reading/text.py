@@ -25,10 +25,10 @@ def few(names: Sequence[str], most: int) -> str:
 def tokens(text: str) -> Iterator[Token]:
     """Yields the words of a text, without comments, each with its row."""
     row, last = 1, 0
-    for found in TOKEN.finditer(text):
-        row, last = row + text.count("\n", last, found.start()), found.start()
-        if not found[0].startswith(("#", "/*")):
-            yield Token(found[0], row)
+    for match in TOKEN.finditer(text):
+        row, last = row + text.count("\n", last, match.start()), match.start()
+        if not match[0].startswith(("#", "/*")):
+            yield Token(match[0], row)
 
 
 def decoded(raw: bytes) -> str:

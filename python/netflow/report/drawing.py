@@ -38,14 +38,14 @@ def draw(
     alone: bool = False,
 ) -> Picture:
     """Returns the picture that fits a page best."""
-    found = Picture(net, arcs, marked, across, alone)
-    if found.sheet[0] > WIDE:
+    picture = Picture(net, arcs, marked, across, alone)
+    if picture.sheet[0] > WIDE:
         other = Picture(net, arcs, marked, across, alone, is_down=True)
-        if other.sheet[0] <= max(WIDE, found.sheet[0] / 2):
+        if other.sheet[0] <= max(WIDE, picture.sheet[0] / 2):
             return other
-    if found.sheet[1] > HIGH and len(set(found.layer.values())) <= FLAT:
-        found.parts = split(found)
-    return found
+    if picture.sheet[1] > HIGH and len(set(picture.layer.values())) <= FLAT:
+        picture.parts = split(picture)
+    return picture
 
 
 def split(whole: Picture) -> list[Picture]:

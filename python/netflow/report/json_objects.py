@@ -156,15 +156,15 @@ def cut_json(
     side: str, cut: Sequence[str], reasons: Sequence[Reason], net: Network | None, changes: LeastChanges | None = None
 ) -> dict[str, object]:
     """Returns the object of a model without a plan, with its least changes if they are given and were computed."""
-    found: dict[str, object] = {"schema": SCHEMA, "status": "infeasible", "cut": {"side": side, "nodes": list(cut)}}
-    found["reasons"] = [reason_json(net, reason) for reason in reasons] if net is not None else []
+    result: dict[str, object] = {"schema": SCHEMA, "status": "infeasible", "cut": {"side": side, "nodes": list(cut)}}
+    result["reasons"] = [reason_json(net, reason) for reason in reasons] if net is not None else []
     if changes is not None and not changes.is_large:
-        found["single_changes"] = list(map(change_json, changes.single))
-        found["least_changes"] = {
+        result["single_changes"] = list(map(change_json, changes.single))
+        result["least_changes"] = {
             kind: None if changes_of_kind is None else list(map(change_json, changes_of_kind))
             for kind, changes_of_kind in changes.kinds.items()
         }
-    return found
+    return result
 
 
 def no_plan_json(net: Network, changes: LeastChanges | None = None) -> dict[str, object]:
@@ -182,11 +182,11 @@ def arc_rows(
     net: Network, headings: Mapping[str, Sequence[str]], name: str | None = None, used_only: bool = False
 ) -> list[dict[str, object]]:
     """Returns a dict for each arc, with its key's parts by their headings."""
-    found: list[dict[str, object]] = []
+    result: list[dict[str, object]] = []
     for arc in net.arcs:
         if (name is None or arc.name == name) and (arc.flow or not used_only):
             keys = dict(zip(headings.get(arc.name, ()), arc.key))
-            found.append(
+            result.append(
                 {
                     "arc": arc.name,
                     **keys,
@@ -198,4 +198,4 @@ def arc_rows(
                     "price": arc.price,
                 }
             )
-    return found
+    return result

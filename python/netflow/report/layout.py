@@ -52,19 +52,19 @@ def walked(
 def nearest(nodes: list[int], into: dict[int, list[int]], out: dict[int, list[int]]) -> dict[int, int]:
     """Returns layers by the number of arcs from the sources."""
     line = [node for node in nodes if not into[node]] or list(nodes)[:1]
-    found = dict.fromkeys(line, 0)
+    result = dict.fromkeys(line, 0)
     none: list[int] = []
     for rest in (none, nodes):
-        for node in [node for node in rest if node not in found]:
-            if node not in found:
-                found[node] = 0
+        for node in [node for node in rest if node not in result]:
+            if node not in result:
+                result[node] = 0
                 line.append(node)
         for node in line:
             for there in out[node]:
-                if there not in found:
-                    found[there] = found[node] + 1
+                if there not in result:
+                    result[there] = result[node] + 1
                     line.append(there)
-    return found
+    return result
 
 
 def pulled(found: dict[int, int], out: dict[int, list[int]], back: set[tuple[int, int]]) -> dict[int, int]:
@@ -107,10 +107,10 @@ def components(nodes: list[int], arcs: Iterable[Arc]) -> list[list[int]]:
         if arc.src in head and arc.dst in head:
             one, two = sorted((top(arc.src), top(arc.dst)))
             head[two] = one
-    found: dict[int, list[int]] = {}
+    result: dict[int, list[int]] = {}
     for node in nodes:
-        found.setdefault(top(node), []).append(node)
-    return list(found.values())
+        result.setdefault(top(node), []).append(node)
+    return list(result.values())
 
 
 def has_cycle(nodes: list[int], arcs: Iterable[Arc]) -> bool:

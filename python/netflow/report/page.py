@@ -44,8 +44,8 @@ class Cells(Dict[object, str]):
         self.kind = kind
 
     def __missing__(self, value: object) -> str:
-        found = self[value] = cell(value, self.kind)
-        return found
+        result = self[value] = cell(value, self.kind)
+        return result
 
 
 def table(head: Sequence[tuple[str, str]], rows: Sequence[tuple[str, Sequence[object]]], classes: str = "") -> str:

@@ -200,7 +200,7 @@ class Placement:
     def spread_ports(self) -> dict[tuple[int, bool], float]:
         """Returns for each end of an arc its distance from the middle of its node's side, in the order of the other
         ends."""
-        found: dict[tuple[int, bool], float] = {}
+        result: dict[tuple[int, bool], float] = {}
         for (number, _), ends in self.sides.items():
 
             def other(end: tuple[Arc, bool]) -> float:
@@ -215,9 +215,9 @@ class Placement:
             scale = min(1.0, room / sum(pitches)) if self.is_small else min(1.0, max(room, 1) / sum(pitches))
             at = -sum(pitches) * scale / 2
             for (arc, is_tail), size in zip(ends, pitches):
-                found[id(arc), is_tail] = at + size * scale / 2
+                result[id(arc), is_tail] = at + size * scale / 2
                 at += size * scale
-        return found
+        return result
 
 
 def ends_of(arc: Arc) -> tuple[int, int]:

@@ -38,7 +38,7 @@ class Report:
     """The answer to a question, by parts of a page."""
 
     def __init__(self, instance: Instance, files: str, unit: str = "") -> None:
-        self.answer, self.net = instance.network(with_prices=True)
+        self.net = instance.priced_network()
         model = instance.model.text()
         self.files, self.model, self.reasons = files, model, []
         self.odd = [
@@ -235,11 +235,11 @@ def framed(picture: str) -> str:
 
 def objective_unit(model: str, name: str) -> str:
     """Returns the unit that a comment on the objective's line gives: `minimize Total;  # in euros` or `# [t]`."""
-    found = (
+    match = (
         re.search(
             rf"\b(?:minimize|maximize)\s+{re.escape(name)}\b[^\n]*#[^\n]*?(?:\bin\s+|\[)([^\]\n,.;]{{1,16}})", model
         )
         if name
         else None
     )
-    return found[1].strip() if found else ""
+    return match[1].strip() if match else ""

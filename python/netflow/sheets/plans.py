@@ -27,8 +27,8 @@ class Cells(Dict[object, str]):
     def __missing__(self, value: object) -> str:
         out = io.StringIO()
         csv.writer(out, lineterminator="\n").writerow([value, ""])
-        found = self[value] = out.getvalue()[:-2]
-        return found
+        result = self[value] = out.getvalue()[:-2]
+        return result
 
 
 def write_rows(rows: Iterable[Sequence[object]]) -> None:
@@ -67,14 +67,14 @@ def grid_of(name: str, arcs: list[Arc]) -> Iterator[list[object]]:
         yield [*key, *(flows.get(member, "") for member in across)]
 
 
-def tables_of(net: Network, model: str, words: argparse.Namespace) -> list[tuple[str, list[list[object]]]]:
+def tables_of(net: Network, model: str, arguments: argparse.Namespace) -> list[tuple[str, list[list[object]]]]:
     """Returns pairs of a declaration's name and the rows of its table, or its grid."""
-    found = []
+    result = []
     for name, arcs in net.declared().items():
-        used = [arc for arc in arcs if arc.flow or not words.used]
-        if words.only in ("", name) and used:
-            is_grid = words.grid and len(used[0].key) > 1
-            found.append(
+        used = [arc for arc in arcs if arc.flow or not arguments.used]
+        if arguments.only in ("", name) and used:
+            is_grid = arguments.grid and len(used[0].key) > 1
+            result.append(
                 (
                     name,
                     list(
@@ -82,49 +82,49 @@ def tables_of(net: Network, model: str, words: argparse.Namespace) -> list[tuple
                     ),
                 )
             )
-    return found
+    return result
 
 
-def plan(words: argparse.Namespace, instance: Instance) -> int:
+def plan(arguments: argparse.Namespace, instance: Instance) -> int:
     """Writes the plan of a question; without a plan its cut goes to standard error."""
     with instance:
         try:
             answer, net = instance.network()
         except ProgramError as problem:
-            if words.json:
+            if arguments.json:
                 return print_error_json(problem, instance)
             raise
         note_fractions(net)
         note_grouped(instance)
-        if words.json:
+        if arguments.json:
             print(dump_lines(plan_columns(net) if net.cut is None else no_plan_json(net)))
             return answer.status
         if answer.status:
             sys.stderr.write(f"{divided_cut(answer.text, net)}netflow-sheet: netflow-why says why there is no plan\n")
             return answer.status
         names = list(net.declared())
-        if words.only and words.only not in names:
+        if arguments.only and arguments.only not in names:
             raise ProgramError(
-                REJECTED, f"netflow-sheet: --only {words.only}: the model has the arcs {', '.join(names)}\n"
+                REJECTED, f"netflow-sheet: --only {arguments.only}: the model has the arcs {', '.join(names)}\n"
             )
         model = instance.model.text()
-        write(net, model, words)
+        write(net, model, arguments)
     return 0
 
 
-def write(net: Network, model: str, words: argparse.Namespace) -> None:
+def write(net: Network, model: str, arguments: argparse.Namespace) -> None:
     out = csv.writer(sys.stdout, lineterminator="\n")
-    if words.xlsx:
+    if arguments.xlsx:
         summary: list[list[object]] = [["objective", net.objective], ["value", net.value]]
-        write_xlsx(words.xlsx, [("Summary", summary), *tables_of(net, model, words)])
-    elif words.only:
-        for _, rows in tables_of(net, model, words):
+        write_xlsx(arguments.xlsx, [("Summary", summary), *tables_of(net, model, arguments)])
+    elif arguments.only:
+        for _, rows in tables_of(net, model, arguments):
             write_rows(rows)
-    elif words.grid:
+    elif arguments.grid:
         out.writerow([net.objective, net.value])
-        for _, rows in tables_of(net, model, words):
+        for _, rows in tables_of(net, model, arguments):
             out.writerow([])
             write_rows(rows)
     else:
-        write_rows(one_table(net, [arc for arc in net.arcs if arc.flow or not words.used]))
+        write_rows(one_table(net, [arc for arc in net.arcs if arc.flow or not arguments.used]))
         out.writerows([[], [net.objective, net.value]])

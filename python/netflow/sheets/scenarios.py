@@ -19,30 +19,30 @@ from ..types import Number
 CHANGE = re.compile(r"\w+(?:\[[^\]]*\])?\s*=\s*(?:'[^']*'|\"[^\"]*\"|\S+)")
 
 
-def cases_of(words: argparse.Namespace) -> list[list[str]]:
+def cases_of(arguments: argparse.Namespace) -> list[list[str]]:
     """Returns the changes of each case: those of --case, then all combinations of the values of --vary."""
-    found = [case_words(case) for case in words.case]
+    result = [case_words(case) for case in arguments.case]
     varied = []
-    for word in getattr(words, "vary", []):
+    for word in getattr(arguments, "vary", []):
         name, _, values = word.partition("=")
         if not values:
             raise ProgramError(USAGE, f"--vary {word}: expected NAME=VALUE,VALUE,..\n")
         varied.append([f"{name}={value.strip()}" for value in values.split(",")])
-    return found + ([list(values) for values in itertools.product(*varied)] if varied else [])
+    return result + ([list(values) for values in itertools.product(*varied)] if varied else [])
 
 
 def case_words(text: str) -> list[str]:
     """Returns the changes of one case; blanks inside brackets and quotes do not separate them."""
-    found = CHANGE.findall(text)
-    if "".join(found).replace(" ", "") != text.replace(" ", ""):
+    result = CHANGE.findall(text)
+    if "".join(result).replace(" ", "") != text.replace(" ", ""):
         raise ProgramError(USAGE, f"--case {text}: expected NAME=VALUE NAME[KEY]=VALUE ..\n")
-    return found
+    return result
 
 
-def answer_of(words: argparse.Namespace, changes: list[str], extra_data: list[str] | None = None) -> Network:
+def answer_of(arguments: argparse.Namespace, changes: list[str], extra_data: list[str] | None = None) -> Network:
     """Returns the network with the plan, or the cut, of a case."""
-    asked = copy.copy(words)
-    asked.data = [*words.data, *(extra_data or [])]
+    asked = copy.copy(arguments)
+    asked.data = [*arguments.data, *(extra_data or [])]
     with instance_of(asked, changes) as instance:
         net = instance.network()[1]
         note_grouped(instance)
@@ -54,20 +54,20 @@ def difference(value: Number, base: Number) -> str:
     return f"+{change}" if change > 0 else str(change)
 
 
-def scenarios(words: argparse.Namespace, out: Any) -> int:
+def scenarios(arguments: argparse.Namespace, out: Any) -> int:
     """Writes a row for the model as it is, and one for each case. A case with an error does not end the table; the
     status is then 3."""
-    cases = cases_of(words)
+    cases = cases_of(arguments)
     if not cases:
         raise ProgramError(USAGE, "netflow-sheet scenarios: give at least one --case or --vary\n")
-    base = answer_of(words, [])
+    base = answer_of(arguments, [])
     out.writerow(["case", "status", "value", "difference", "arcs that differ", "reason"])
     first: list[object] = ["optimal", base.value, 0, 0, ""]
     out.writerow(["as it is", *(first if base.cut is None else without_plan(base))])
     status = 0
     for case in cases:
         try:
-            with instance_of(words, case) as instance:
+            with instance_of(arguments, case) as instance:
                 row = case_cells(base, instance.network()[1])
                 note_grouped(instance)
         except ProgramError as problem:
@@ -105,12 +105,14 @@ def case_cells(base: Network, net: Network) -> list[object]:
     return ["optimal", net.value, difference(net.value, base.value), differing, ""]
 
 
-def diff(words: argparse.Namespace, out: Any) -> int:
+def diff(arguments: argparse.Namespace, out: Any) -> int:
     """Writes the objective, and each arc whose flow differs between the model as it is and the case."""
-    if not words.case and not words.extra_data:
+    if not arguments.case and not arguments.extra_data:
         raise ProgramError(USAGE, "netflow-sheet diff: give --case or --with\n")
-    first = answer_of(words, [])
-    second = answer_of(words, [change for case in words.case for change in case_words(case)], words.extra_data)
+    first = answer_of(arguments, [])
+    second = answer_of(
+        arguments, [change for case in arguments.case for change in case_words(case)], arguments.extra_data
+    )
     for net, name in ((first, "as it is"), (second, "as changed")):
         if net.cut is not None:
             raise ProgramError(2, f"netflow-sheet: the model {name} has no plan: netflow-why says why\n")

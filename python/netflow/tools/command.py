@@ -27,8 +27,8 @@ NOTED: set[str] = set()
 OTHER_VERSION = "the output of netflow does not have the documented form; is the program of another version?"
 
 
-class Words(argparse.ArgumentParser):
-    """The words of a tool; wrong ones end with the status that netflow gives them."""
+class ToolParser(argparse.ArgumentParser):
+    """The arguments of a tool; wrong ones end with the status that netflow gives them."""
 
     def __init__(self, usage: str, **others: Any) -> None:
         summary, _, more = usage.partition("\n\n")
@@ -46,7 +46,7 @@ class Words(argparse.ArgumentParser):
         sys.stderr.write(f"{self.prog}: {message}\n")
         sys.exit(USAGE)
 
-    def instance(self) -> "Words":
+    def add_instance(self) -> "ToolParser":
         """Adds the files and options of a model with its data."""
         self.add_argument("model", metavar="MODEL")
         self.add_argument(
@@ -78,51 +78,51 @@ class Words(argparse.ArgumentParser):
         return self
 
 
-def instance_of(words: argparse.Namespace, extra: Sequence[str] = ()) -> Instance:
+def instance_of(arguments: argparse.Namespace, extra: Sequence[str] = ()) -> Instance:
     """Returns the question of parsed words."""
-    data = [Input(path) for path in words.data]
-    origins = {**origins_of(words.changes, "--set"), **origins_of(extra, "the case")}
+    data = [Input(path) for path in arguments.data]
+    origins = {**origins_of(arguments.changes, "--set"), **origins_of(extra, "the case")}
     instance = Instance(
-        Input(words.model),
+        Input(arguments.model),
         data,
-        objective=words.objective,
-        changes=changes_of([*words.changes, *extra]),
-        scale=scale_of(words.scale),
-        add_bounds=words.bounds,
+        objective=arguments.objective,
+        changes=changes_of([*arguments.changes, *extra]),
+        scale=scale_of(arguments.scale),
+        add_bounds=arguments.bounds,
         origins=origins,
     )
-    instance.words = given_words(words, extra)
+    instance.words = given_words(arguments, extra)
     return instance
 
 
-def given_words(words: argparse.Namespace, extra: Sequence[str]) -> list[str]:
+def given_words(arguments: argparse.Namespace, extra: Sequence[str]) -> list[str]:
     """Returns the files and options of a question as words; none if a file is a pipe, which can be read only once."""
-    files = [words.model, *words.data]
+    files = [arguments.model, *arguments.data]
     if any(
         file == "-" or os.path.exists(file) and not os.path.isfile(file) and os.path.realpath(file) != os.devnull
         for file in files
     ):
         return []
-    options = [["--set", change] for change in (*words.changes, *extra)] + [
-        ["--scale", factor] for factor in words.scale
+    options = [["--set", change] for change in (*arguments.changes, *extra)] + [
+        ["--scale", factor] for factor in arguments.scale
     ]
-    options += [["--objective", words.objective]] if words.objective else []
-    return [*files, *(word for pair in options for word in pair), *(["--bounds"] if words.bounds else [])]
+    options += [["--objective", arguments.objective]] if arguments.objective else []
+    return [*files, *(word for pair in options for word in pair), *(["--bounds"] if arguments.bounds else [])]
 
 
 def changes_of(words: Sequence[str]) -> dict[str, Any]:
     """Returns the values of `NAME=VALUE` and `NAME[KEY,..]=VALUE` by name."""
-    found: dict[str, Any] = {}
+    result: dict[str, Any] = {}
     for word in words:
         name, key, value = change_of(word)
         if key:
-            rows = found.setdefault(name, {})
+            rows = result.setdefault(name, {})
             if not isinstance(rows, dict):
                 raise ProgramError(USAGE, f"--set {word}: {name} already has a value without a key\n")
             rows[key] = value
         else:
-            found[name] = value
-    return found
+            result[name] = value
+    return result
 
 
 def change_of(word: str) -> tuple[str, Key, Value | int]:
@@ -158,13 +158,13 @@ def value_of(text: str) -> Value | int:
 
 
 def scale_of(words: Sequence[str]) -> dict[str, int]:
-    found = {}
+    result = {}
     for word in words:
         name, _, factor = word.partition("=")
         if not factor.isdigit() or int(factor) < 1:
             raise ProgramError(USAGE, f"--scale {word}: expected NAME=FACTOR, a factor of 1 or more\n")
-        found[name] = int(factor)
-    return found
+        result[name] = int(factor)
+    return result
 
 
 def fractions_text(net: Network) -> str:
@@ -194,9 +194,9 @@ def note_grouped(instance: Instance) -> None:
     sys.stderr.write("".join(f"{os.path.basename(sys.argv[0])}: {line}\n" for line in new))
 
 
-def title_of(words: argparse.Namespace) -> str:
-    names = [os.path.basename(path) for path in words.data if path != os.devnull]
-    return f"{os.path.basename(words.model)}{' with ' if names else ''}{', '.join(names)}"
+def title_of(arguments: argparse.Namespace) -> str:
+    names = [os.path.basename(path) for path in arguments.data if path != os.devnull]
+    return f"{os.path.basename(arguments.model)}{' with ' if names else ''}{', '.join(names)}"
 
 
 def print_error_json(problem: ProgramError, instance: Instance) -> int:

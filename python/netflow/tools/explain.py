@@ -29,7 +29,7 @@ from ..reading.keys import shown
 from ..reading.output import divided_cut
 from ..reading.text import read
 from ..report.json_objects import dump_lines, error_json
-from .command import Words, instance_of
+from .command import ToolParser, instance_of
 from .command import run as run_tool
 
 WIDTH, AROUND = 100, 60
@@ -133,7 +133,7 @@ def is_rewriting(words: Sequence[str]) -> bool:
 
 def explain_rewritten(words: list[str], is_json: bool) -> int:
     """Asks for the answer as the other tools do, and explains the error if there is one."""
-    parser = Words(__doc__ or "", prog="netflow-explain").instance()
+    parser = ToolParser(__doc__ or "", prog="netflow-explain").add_instance()
     parser.add_argument("--lean", action="store_true", help="with compile: no lower bounds in the problem")
     parsed = parser.parse_args(words[1:])
     with instance_of(parsed) as instance:
@@ -179,18 +179,18 @@ def divided_text(instance: Instance) -> str:
     return "\n".join(lines) + "\n"
 
 
-def main(words: Sequence[str]) -> int:
-    if list(words[:1]) in ([], ["-h"], ["--help"]):
-        print((__doc__ or "").strip(), file=sys.stdout if words else sys.stderr)
-        return 0 if words else USAGE
-    if words[0] == "--version":
+def main(arguments: Sequence[str]) -> int:
+    if list(arguments[:1]) in ([], ["-h"], ["--help"]):
+        print((__doc__ or "").strip(), file=sys.stdout if arguments else sys.stderr)
+        return 0 if arguments else USAGE
+    if arguments[0] == "--version":
         print(f"netflow-explain {__version__}")
         return 0
-    asked, is_rewritten = [word for word in words if word != "--json"], False
+    asked, is_rewritten = [word for word in arguments if word != "--json"], False
     if not asked or asked[0] not in TEXTS and asked[0] not in ("help", "-V"):
         asked.insert(0, "solve")
         is_rewritten = True
-    return (explain_rewritten if is_rewritten or is_rewriting(asked) else explain)(asked, "--json" in words)
+    return (explain_rewritten if is_rewritten or is_rewriting(asked) else explain)(asked, "--json" in arguments)
 
 
 def command() -> None:

@@ -12,24 +12,24 @@ from ..errors import ProgramError
 from ..inputs.instance import Instance
 from ..report.json_objects import dump_lines, no_plan_json, plan_columns
 from ..report.report import Report
-from .command import Words, instance_of, note_fractions, print_error_json
+from .command import ToolParser, instance_of, note_fractions, print_error_json
 from .command import run as run_tool
 from .command import title_of
 
 
-def main(words: Sequence[str]) -> int:
-    parser = Words(__doc__, prog="netflow-report").instance()
+def main(arguments: Sequence[str]) -> int:
+    parser = ToolParser(__doc__, prog="netflow-report").add_instance()
     parser.add_argument("--svg", action="store_true", help="only the drawing")
     parser.add_argument("--json", action="store_true", help="the plan as a JSON object")
     parser.add_argument("--unit", metavar="TEXT", default="", help="the unit of the value, such as EUR")
-    parsed = parser.parse_args(words)
+    parsed = parser.parse_args(arguments)
     with instance_of(parsed) as instance:
         if parsed.json:
             return print_json(instance)
         report = Report(instance, title_of(parsed), parsed.unit)
         note_fractions(report.net)
         print(report.picture(True)[0] if parsed.svg else report.html(), end="\n" if parsed.svg else "")
-        return report.answer.status
+        return 0 if report.has_plan else 2
 
 
 def print_json(instance: Instance) -> int:

@@ -36,7 +36,7 @@ from ..reading.data import PLAIN_NAME
 from ..sheets.files import Cell, column_number, filled, read_sheet, stem
 from ..sheets.plans import plan
 from ..sheets.scenarios import diff, scenarios
-from .command import Words, instance_of
+from .command import ToolParser, instance_of
 from .command import run as run_tool
 from .command import scale_of
 
@@ -124,11 +124,11 @@ def note_decimals(names: Sequence[str], cells: list[list[str]]) -> None:
 
 def note_points(cells: list[Cell]) -> None:
     """Reports the decimals of a text file that may be whole numbers with a point between groups of digits."""
-    found = [cell for cell in cells if GROUPED.fullmatch(cell.text) and not cell.path.lower().endswith(".xlsx")]
-    for cell in found[:3]:
+    result = [cell for cell in cells if GROUPED.fullmatch(cell.text) and not cell.path.lower().endswith(".xlsx")]
+    for cell in result[:3]:
         sys.stderr.write(f"netflow-sheet: {cell.place()}: {cell.text}: {meant(cell.text)}\n")
-    if len(found) > 3:
-        sys.stderr.write(f"netflow-sheet: {len(found) - 3} more cells of {found[0].path} have such a point\n")
+    if len(result) > 3:
+        sys.stderr.write(f"netflow-sheet: {len(result) - 3} more cells of {result[0].path} have such a point\n")
 
 
 def as_grid(name: str, rows: list[list[Cell]], is_turned: bool, scale: dict[str, int], has_comma: bool) -> list[str]:
@@ -143,30 +143,32 @@ def as_grid(name: str, rows: list[list[Cell]], is_turned: bool, scale: dict[str,
     return [f"param {name}{' (tr)' if is_turned else ''}: {' '.join(columns)} :=", *lines, ";"]
 
 
-def statement(words: argparse.Namespace) -> list[str]:
+def statement(arguments: argparse.Namespace) -> list[str]:
     """Returns the lines of the statement that a sheet becomes."""
-    rows = chosen(read_sheet(words.sheet), getattr(words, "columns", ""))
-    if words.kind == "set":
-        return as_set(words.name, rows, words.heading)
-    scale = scale_of(words.scale)
-    if words.kind == "list":
-        return as_list(rows, words.keys, words.set_name, scale, words.comma)
-    return as_grid(words.name, rows, words.turned, scale, words.comma)
+    rows = chosen(read_sheet(arguments.sheet), getattr(arguments, "columns", ""))
+    if arguments.kind == "set":
+        return as_set(arguments.name, rows, arguments.heading)
+    scale = scale_of(arguments.scale)
+    if arguments.kind == "list":
+        return as_list(rows, arguments.keys, arguments.set_name, scale, arguments.comma)
+    return as_grid(arguments.name, rows, arguments.turned, scale, arguments.comma)
 
 
-def data(words: argparse.Namespace, parser: Words) -> list[str]:
+def data(arguments: argparse.Namespace, parser: ToolParser) -> list[str]:
     """Returns all statements that a configuration lists."""
     import configparser
     import os
 
     config = configparser.ConfigParser(interpolation=None)
     config.optionxform = str  # type: ignore[assignment]
-    with open(words.config, encoding="utf-8") as file:
+    with open(arguments.config, encoding="utf-8") as file:
         try:
             config.read_file(file)
         except configparser.Error as problem:
-            raise ProgramError(REJECTED, f"netflow-sheet: {words.config}: {str(problem).splitlines()[0]}\n") from None
-    folder, lines = os.path.dirname(words.config), []
+            raise ProgramError(
+                REJECTED, f"netflow-sheet: {arguments.config}: {str(problem).splitlines()[0]}\n"
+            ) from None
+    folder, lines = os.path.dirname(arguments.config), []
     for title in config.sections():
         kind, _, name = title.partition(" ")
         entry = dict(config[title])
@@ -174,7 +176,7 @@ def data(words: argparse.Namespace, parser: Words) -> list[str]:
             raise ProgramError(
                 REJECTED,
                 (
-                    f"netflow-sheet: {words.config}: [{title}]: expected [set NAME], [list NAME] or [grid NAME] with"
+                    f"netflow-sheet: {arguments.config}: [{title}]: expected [set NAME], [list NAME] or [grid NAME] with"
                     " sheet = ..\n"
                 ),
             )
@@ -191,16 +193,16 @@ def data(words: argparse.Namespace, parser: Words) -> list[str]:
     return lines
 
 
-def build_parser() -> Words:
+def build_parser() -> ToolParser:
     usage, _, more = (__doc__ or "").partition("\n\n")
-    parser = Words(f"{usage}\n\n{more}", prog="netflow-sheet")
-    kinds = parser.add_subparsers(dest="kind", metavar="|".join(KINDS), required=True, parser_class=Words)
+    parser = ToolParser(f"{usage}\n\n{more}", prog="netflow-sheet")
+    kinds = parser.add_subparsers(dest="kind", metavar="|".join(KINDS), required=True, parser_class=ToolParser)
     usages = {
         line.replace("usage: ", "").split()[1]: line.replace("usage: ", "").strip() for line in usage.splitlines()
     }
     made = {kind: kinds.add_parser(kind, usage=usages[kind], prog="netflow-sheet") for kind in KINDS}
     for kind in ("plan", "scenarios", "diff"):
-        made[kind].instance()
+        made[kind].add_instance()
     add_plan_options(made)
     for kind in ("set", "grid"):
         made[kind].add_argument("name", metavar="NAME")
@@ -231,7 +233,7 @@ def build_parser() -> Words:
     return parser
 
 
-def add_plan_options(made: dict[str, Words]) -> None:
+def add_plan_options(made: dict[str, ToolParser]) -> None:
     made["plan"].add_argument("--only", metavar="NAME", default="", help="the table of one declaration of arcs")
     made["plan"].add_argument("--grid", action="store_true", help="a grid for each declaration")
     made["plan"].add_argument("--used", action="store_true", help="only arcs that carry something")
@@ -258,9 +260,9 @@ def add_plan_options(made: dict[str, Words]) -> None:
     )
 
 
-def main(words: Sequence[str]) -> int:
+def main(arguments: Sequence[str]) -> int:
     parser = build_parser()
-    parsed = parser.parse_args(words)
+    parsed = parser.parse_args(arguments)
     for name in (getattr(parsed, "name", None), getattr(parsed, "set_name", None)):
         if name and not PLAIN_NAME.fullmatch(name):
             parser.error(f"{name!r} is no name of a set or parameter")

@@ -27,7 +27,7 @@ from ..reading.network import Arc, Network
 from ..reading.text import few
 from ..report.json_objects import arc_columns, dump_lines, no_plan_json, node_columns, plan_json_head
 from ..types import Number
-from .command import Words, instance_of, note_fractions, note_grouped, print_error_json
+from .command import ToolParser, instance_of, note_fractions, note_grouped, print_error_json
 from .command import run as run_tool
 
 SHOWN, SETS = 20, 3
@@ -47,12 +47,12 @@ def part_rows(parts: list[Part], most: int) -> list[str]:
     groups: dict[str, list[Part]] = {}
     for part in parts:
         groups.setdefault(part.name, []).append(part)
-    found: list[tuple[Number, str]] = [
+    result: list[tuple[Number, str]] = [
         (sum(part.amount for part in group), group_text(name, group)) for name, group in groups.items()
     ]
     closed = [part for part in parts if part.is_arc and not part.amount]
-    found.sort(key=lambda pair: pair[0], reverse=True)
-    lines = rows(found, most)
+    result.sort(key=lambda pair: pair[0], reverse=True)
+    lines = rows(result, most)
     if closed:
         lines.append(f"    closed: {few([part.text[3:].rpartition(', which carries')[0] for part in closed], 5)}")
     largest = [part for part in parts if part.amount][:5]
@@ -253,15 +253,15 @@ def feasible_lines(net: Network, most: int) -> list[str]:
 
 def without_check(instance: Instance, problem: ProgramError) -> Instance | None:
     """Returns the question without the check that fails; None if that is not the error."""
-    found = re.match(r"E35 \w+ model (\d+):(\d+)", problem.message)
-    if not found:
+    match = re.match(r"E35 \w+ model (\d+):(\d+)", problem.message)
+    if not match:
         return None
     text = instance.model.text()
     lines = text.split("\n")
-    place = sum(len(line) + 1 for line in lines[: int(found[1]) - 1])
+    place = sum(len(line) + 1 for line in lines[: int(match[1]) - 1])
     place += len(
-        lines[int(found[1]) - 1]
-        .encode("utf-8", "surrogateescape")[: int(found[2]) - 1]
+        lines[int(match[1]) - 1]
+        .encode("utf-8", "surrogateescape")[: int(match[2]) - 1]
         .decode("utf-8", "surrogateescape")
     )
     try:
@@ -277,7 +277,7 @@ def without_check(instance: Instance, problem: ProgramError) -> Instance | None:
         scale=instance.scale,
         add_bounds=instance.add_bounds,
     )
-    print(f"The check in line {found[1]} fails: {' '.join(text[decl.start:decl.end + 1].split())}\nWithout it:\n")
+    print(f"The check in line {match[1]} fails: {' '.join(text[decl.start:decl.end + 1].split())}\nWithout it:\n")
     return made
 
 
@@ -310,16 +310,16 @@ def print_json(net: Network) -> None:
     print(dump_lines({**plan_json_head(net), "arcs": arcs, "nodes": nodes}))
 
 
-def main(words: Sequence[str]) -> int:
-    parser = Words(__doc__, prog="netflow-why").instance()
+def main(arguments: Sequence[str]) -> int:
+    parser = ToolParser(__doc__, prog="netflow-why").add_instance()
     parser.add_argument("--all", action="store_true", help="every line of each list")
     parser.add_argument("--json", action="store_true", help="the answer as a JSON object")
-    parsed = parser.parse_args(words)
+    parsed = parser.parse_args(arguments)
     instance, refused = instance_of(parsed), 0
     while True:
         with instance:
             try:
-                answer, net = instance.network(with_prices=True)
+                net = instance.priced_network()
             except ProgramError as problem:
                 if parsed.json:
                     return print_error_json(problem, instance)
@@ -334,7 +334,7 @@ def main(words: Sequence[str]) -> int:
                 print_json(net)
             else:
                 print("\n".join(text_lines(instance, net, 10**9 if parsed.all else SHOWN)))
-            return refused or answer.status
+            return refused or (0 if net.cut is None else 2)
 
 
 def command() -> None:
