@@ -47,6 +47,6 @@ class ProgramHook(BuildHookInterface):
 
 
 def glibc_of(program: pathlib.Path) -> tuple[int, ...]:
-    """Returns the least version of the GNU C library that has all that the program asks of it."""
+    """Returns the least version of the GNU C library that has all that the program needs."""
     found = re.findall(rb"GLIBC_(\d+(?:\.\d+)+)", program.read_bytes())
     return max((tuple(map(int, version.split(b"."))) for version in found), default=(2, 34))

@@ -116,7 +116,7 @@ def test_exceptions_are_networkx_ones_and_can_be_pickled():
         with pytest.raises(nx.NetworkXUnfeasible) as error:
             netflow.min_cost_flow(G)
         caught.append(error.value)
-    assert type(caught[0]) is type(caught[1]) and isinstance(caught[0], netflow.Infeasible)
+    assert caught[0].__class__ is caught[1].__class__ and isinstance(caught[0], netflow.Infeasible)
     copy = pickle.loads(pickle.dumps(caught[0]))
     assert (type(copy), str(copy), copy.cut) == (type(caught[0]), str(caught[0]), caught[0].cut)
     with pytest.raises(nx.NetworkXNotImplemented):

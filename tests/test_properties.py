@@ -10,7 +10,9 @@ hypothesis = pytest.importorskip("hypothesis", reason="hypothesis is missing: ap
 from hypothesis import HealthCheck, given, settings  # noqa: E402
 from hypothesis import strategies as st  # noqa: E402
 
-SETTINGS = settings(max_examples=60, database=None, deadline=None, derandomize=True, suppress_health_check=[HealthCheck.too_slow])
+SETTINGS = settings(
+    max_examples=60, database=None, deadline=None, derandomize=True, suppress_health_check=[HealthCheck.too_slow]
+)
 NODES = "abc"
 PAIRS = [(i, j) for i in NODES for j in NODES if i != j]
 MODEL = """set P; set L within P cross P; param need {P}; param most {L}; param price {L};

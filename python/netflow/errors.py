@@ -41,7 +41,7 @@ class Unreadable(NetflowError):
 
 class ScaleError(NetflowError):
     """Decimals that cannot be scaled to whole numbers: `parameter` and `factor` are the parameter and its factor, None
-    if unknown; `is_numeral` if it is a numeral of the model, which the program reports by its position."""
+    if unknown; `is_numeral` for a numeral of the model, which the program reports by its position."""
 
     def __init__(
         self, message: str, parameter: str | None = None, factor: int | None = None, is_numeral: bool = False
@@ -57,8 +57,8 @@ class DataError(NetflowError, ValueError):
 class ModelError(NetflowError, ValueError):
     """An error in a model, its data, a problem or a certificate.
 
-    `code` is the number (`E12`), `name` its name, `text` the input (`model`, `data`, ..), `file` the path if it has
-    one, `line` and `column` the place counted from 1 (0 if there is none), `place` the place in words, such as
+    `code` is the number (`E12`), `name` its name, `text` the input (`model`, `data`, ..), `file` the path, if
+    any, `line` and `column` the place counted from 1 (0 if there is none), `place` the place in words, such as
     `bread.dat:5:14`, or `the value of van` for data from Python, `source` the line of the input, `detail` what the
     program adds, `meaning` a sentence on the code, `hint` the most likely fix, `hints` all of them.
     """
@@ -100,8 +100,8 @@ class ModelError(NetflowError, ValueError):
 
 
 class Infeasible(NetflowError):
-    """No plan exists. `cut` are the names of the nodes that show it, `side` is `under` if they need more than can come
-    and `over` if they have more than can leave; `reasons` are the smallest such sets, with amounts."""
+    """No plan exists. `cut` are the names of the nodes that show this, `side` is `under` if they need more than can
+    come and `over` if they have more than can leave; `reasons` are the smallest such sets, with amounts."""
 
     def __init__(
         self, message: str, cut: list[Any], side: str, reasons: list[Reason], network: Network | None = None

@@ -15,7 +15,7 @@ MOST_DIGITS = 60
 
 
 class Exact(Fraction):
-    """A fraction that prints as a decimal: `12.75`, or `1/3` if it has no finite decimal."""
+    """A fraction that prints as a decimal: `12.75`, or `1/3` without a finite decimal."""
 
     def __str__(self) -> str:
         return decimal_text(self)

@@ -19,7 +19,7 @@ HERE = os.path.dirname(os.path.realpath(__file__))
 USAGE, REJECTED, UNREADABLE_FILE, INTERNAL = 64, 3, 4, 70
 # Inside a wheel; in an installed tree (share/netflow/netflow); in a checkout (python/netflow).
 PLACES = ("bin/netflow", "../../../bin/netflow", "../../crates/netflow/out/netflow", "../../netflow")
-# Seconds after which a tool that a person waits for says that it is still running.
+# Seconds after which a tool that a person waits for prints a line.
 PATIENCE = 2.0
 
 
@@ -110,7 +110,7 @@ class Session:
 
 
 class Patience:
-    """Prints a line on a terminal if what it surrounds takes longer than two seconds."""
+    """Prints a line on a terminal if the calls inside take longer than two seconds."""
 
     def __init__(self, line: str) -> None:
         self.timer = threading.Timer(PATIENCE, sys.stderr.write, [line])
@@ -126,7 +126,7 @@ class Patience:
 
 
 def run(words: Sequence[str], text: str | None = None, path: Path | None = None) -> subprocess.CompletedProcess[str]:
-    """Runs the program and returns what it printed, whatever its status."""
+    """Runs the program and returns its output, whatever its status."""
     name = program(path)
     source = subprocess.DEVNULL if text is None else None
     try:

@@ -1,4 +1,4 @@
-"""Solves a model from Python: `solve` and the `Solution` that it returns."""
+"""Solves a model from Python: `solve` and its result, a `Solution`."""
 from __future__ import annotations
 
 import os
@@ -132,7 +132,7 @@ class Solution(Mapping[str, Union[Flows, Number]]):
         return pandas.DataFrame(rows)
 
     def _priced(self) -> Marginal:
-        """Adds prices to the network, if it has none, and returns what one unit more costs at each node."""
+        """Adds prices to the network, if there are none, and returns what one unit more costs at each node."""
         if self._marginal is None:
             read_prices(call(["min", "/dev/stdin"], self.network.problem).text, self.network)
             self._marginal = Marginal(self.network)
@@ -298,7 +298,7 @@ def inputs_of(data: object) -> tuple[list[Input], dict[str, object]]:
 
 
 def model_error(problem: ProgramError, instance: Instance) -> Exception:
-    """Returns the ModelError of what the program reports, or the problem itself if it is another one."""
+    """Returns the ModelError of what the program reports, or another problem unchanged."""
     if problem.status not in (REJECTED, UNREADABLE_FILE):
         return problem
     diagnostic = Diagnostic.of_instance(problem, instance)

@@ -13,7 +13,7 @@ Number = Union[int, Fraction]
 Amount = Union[int, Fraction, float]
 # A replacement of a part of a text: start, end, new text.
 Edit = Tuple[int, int, str]
-# A value of a parameter after it is read: a number, a text, or an infinite float.
+# A value of a parameter after reading: a number, a text, or an infinite float.
 Value = Union[Fraction, str, float]
 # What a set or parameter can be given as: a text, a number, or a dict, a list or an object of pandas.
 Data = Union[str, SupportsFloat, Iterable[object]]

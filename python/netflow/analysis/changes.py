@@ -1,4 +1,4 @@
-"""The least change of a model's bounds with which there is a plan, as `netflow min` computes it."""
+"""The least change of a model's bounds with which there is a plan, computed by `netflow min`."""
 from __future__ import annotations
 
 import dataclasses
@@ -20,7 +20,7 @@ NODES, ARCS, BOTH = "of what places need and give", "of what arcs may carry", "o
 
 @dataclasses.dataclass
 class Change:
-    """By how much a bound of the model is moved, from what it was; `is_exact` if it is both sides of an equation."""
+    """By how much a bound of the model is moved, from what it was; `is_exact` for both sides of an equation."""
 
     amount: Number
     text: str
@@ -45,8 +45,8 @@ class Change:
 
 @dataclasses.dataclass
 class Move:
-    """A bound that can be moved: the ends of the arc that represents it in the problem, and the change that a flow on
-    it means."""
+    """A bound that can be moved: the ends of the arc that represents it in the problem, and the change that
+    a flow on this arc means."""
 
     ends: str
     text: str
@@ -194,7 +194,7 @@ def concentrated(problem: Costless, moves: Sequence[Move], flows: list[int]) -> 
 
 
 def least_changes(net: Network) -> LeastChanges:
-    """Returns the least changes at one place, those of each kind of bounds, and that of both kinds if it is less than
+    """Returns the least changes at one place, those of each kind of bounds, and that of both kinds if less than
     each alone."""
     moves = {NODES: list(moves_of_nodes(net)), ARCS: list(moves_of_arcs(net))}
     both = [*moves[NODES], *moves[ARCS]]

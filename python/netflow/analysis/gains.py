@@ -10,7 +10,7 @@ from .sensitivity import Marginal, arc_change, arc_units
 
 # Up to how many steps exact changes are computed: arcs of the network times listed arcs, or pairs of places.
 EXACT_WORK = 300_000
-# Up to how many steps it is looked for how far one change holds.
+# Up to how many steps the search takes for how far one change holds.
 LIMIT_WORK = 50_000
 
 
@@ -32,7 +32,7 @@ class Gains:
         return arc_change(net, self.residual, arc) if self.is_exact else magnitude(arc.worth)
 
     def limit(self, arc: Arc) -> str:
-        """Returns up to which bound the gain of an arc holds, in words; an empty text if it is not known."""
+        """Returns up to which bound the gain of an arc holds, in words; an empty text if unknown."""
         units = arc_units(self.residual, arc, LIMIT_WORK) if self.is_exact else 0
         return limit_text(arc.upper, units) if arc.is_full() else limit_text(arc.lower, -units)
 

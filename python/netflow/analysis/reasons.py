@@ -20,7 +20,7 @@ ROUNDS, LARGEST = 12, 200_000
 
 @dataclasses.dataclass
 class Part:
-    """One line of a reason: an amount, what it is of, the name of that declaration, and the arc if it is one."""
+    """One line of a reason: an amount, what has it, the name of that declaration, and the arc if it is one."""
 
     amount: Number
     text: str
@@ -35,8 +35,8 @@ class Part:
 @dataclasses.dataclass
 class Reason:
     """A set of nodes that needs more than can arrive (`under`), or has more than can leave (`over`). `asks` are the
-    parts that have to be met, `helps` those that can meet them, at most; `idle` are arcs that lead out of it, or into
-    it, and do not help.
+    parts that have to be met, `helps` those that can meet them, at most; `idle` are arcs across its border
+    that do not help.
     """
 
     side: str
@@ -99,7 +99,7 @@ class Cuts:
                     self.near[number].append(arc)
 
     def needs(self, number: int) -> Number:
-        """Returns what has to come to the node, or to leave it, by its own condition."""
+        """Returns what has to come to the node, or to leave, by its own condition."""
         node = self.net.nodes[number]
         return node.low if self.is_under else -node.high
 
@@ -108,7 +108,7 @@ class Cuts:
         return node.has_low() if self.is_under else node.has_high()
 
     def carried(self, arc: Arc, is_inward: bool) -> Number:
-        """Returns the most that the arc brings to a set that it crosses, or takes away from it."""
+        """Returns the most that the arc brings to a set, or takes away, across its border."""
         return arc.upper if is_inward == self.is_under else -arc.lower
 
     def short(self, nodes: AbstractSet[int]) -> Number:
@@ -159,7 +159,7 @@ class Cuts:
             yield set(line)
 
     def reason(self, nodes: AbstractSet[int]) -> Reason:
-        """Returns the set's reason: what asks, what helps, and the arcs across it that do neither."""
+        """Returns the set's reason: what asks, what helps, and the arcs across its border that do neither."""
         asks: list[Part] = []
         helps: list[Part] = []
         idle: list[Part] = []
@@ -214,7 +214,7 @@ def all_reasons(net: Network, side: str, nodes: AbstractSet[int]) -> list[Reason
 
 
 def reasons_of_cut(net: Network, side: str, nodes: AbstractSet[int]) -> list[Reason]:
-    """Returns the smallest sets of a cut: each is part of it, and together they are short by as much or more."""
+    """Returns the smallest sets of a cut: each is a part, and together they are short by as much or more."""
     cuts, found = Cuts(net, side), []
     for part in cuts.parts(nodes):
         found += [nodes_of_part for nodes_of_part in cuts.parts(cuts.thinned(part)) if cuts.short(nodes_of_part) > 0]

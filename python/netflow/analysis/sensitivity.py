@@ -22,7 +22,7 @@ Lengths = List[Optional[Number]]
 
 class Residual:
     """The residual network of a plan with prices; node `len(net.nodes)` is the outside. For each node `out` has the
-    arcs that leave it, as triples of a node, a reduced cost and a capacity, and `into` those that enter it."""
+    arcs that leave it, as triples of a node, a reduced cost and a capacity, and `into` those that enter."""
 
     def __init__(self, net: Network) -> None:
         self.net, self.outside = net, len(net.nodes)
@@ -55,7 +55,7 @@ class Residual:
         return 0 if number == self.outside else self.net.nodes[number].worth
 
     def labels(self, start: int, is_backward: bool = False) -> Lengths:
-        """Returns the least reduced cost from `start` to each node (or from each node to it); None if there is
+        """Returns the least reduced cost from `start` to each node (or back); None if there is
         no path."""
         near = self.into if is_backward else self.out
         result: Lengths = [None] * (self.outside + 1)
@@ -79,12 +79,12 @@ class Residual:
         ]
 
     def distances(self, start: int, is_backward: bool = False) -> Lengths:
-        """Returns the least cost from `start` to each node (or from each node to it); None if there is no path."""
+        """Returns the least cost from `start` to each node (or back); None if there is no path."""
         return self.costs(self.labels(start, is_backward), start, is_backward)
 
     def units(self, start: int, end: int, labels: Lengths, work: float = math.inf) -> Amount:
-        """Returns how many units all cheapest paths from start to end carry together, infinity for any number; 0 if it
-        takes more steps than `work`. `labels` are those of the start."""
+        """Returns how many units all cheapest paths from start to end carry together, infinity for any number; 0 if
+        this takes more steps than `work`. `labels` are those of the start."""
         if start == end:
             return math.inf
         rooms: dict[int, dict[int, Amount]] = {}
@@ -101,7 +101,7 @@ class Residual:
 
 
 def greatest_flow(rooms: dict[int, dict[int, Amount]], start: int, end: int, work: float) -> Amount:
-    """Returns the greatest flow through arcs with these capacities, by shortest augmenting paths; 0 if it takes more
+    """Returns the greatest flow through arcs with these capacities, by shortest augmenting paths; 0 if this takes more
     steps than `work`. It changes the capacities."""
     total: Amount = 0
     while work > 0:

@@ -25,7 +25,7 @@ LISTED, TRIED, LINES = 5, 20, 300_000
 
 
 class SingleMoves:
-    """The search for bounds of a network without a plan, each of which is enough alone if it is moved by `amount`."""
+    """The search for bounds of a network without a plan, each of which is enough alone, moved by `amount`."""
 
     def __init__(self, net: Network, problem: Costless, amount: Number) -> None:
         side, inside = net.cut if net.cut is not None else ("", set())
@@ -91,7 +91,7 @@ def group_of(move: Move) -> Group:
 
 
 def oddness(move: Move, usual: Usual) -> float:
-    """Returns how many times a bound is above the usual one, or below it if it has to be raised; 1 if it is not
+    """Returns how many times a bound is above the usual one, or below, to be raised; 1 if not
     known."""
     other = usual.get(group_of(move), move.was)
     large, small = (move.was, other) if move.sign < 0 else (other, move.was)

@@ -39,9 +39,9 @@ def network_simplex(
 ) -> tuple[GraphNumber, GraphFlows]:
     """Returns the least cost and the flows of a directed graph, as `networkx.network_simplex` does.
 
-    A node's demand is what it takes (below 0: what it gives), an arc's capacity its limit (none: no limit), its weight
+    A node's demand is what the node takes (below 0: gives), an arc's capacity its limit (none: no limit), its weight
     the cost of a unit. Raises Infeasible, with the nodes of a cut, or Unbounded; if NetworkX is imported these are its
-    exceptions too. With `certify` the answer is checked by `netflow check` before it is returned.
+    exceptions too. With `certify` the answer is checked by `netflow check` first.
     """
     if not G.is_directed():
         raise _error("UndirectedGraph", "min_cost_flow takes a directed graph")
@@ -112,7 +112,7 @@ EXCEPTIONS: Dict[str, Tuple[Type[NetflowError], str]] = {
 
 
 def __getattr__(name: str) -> type[NetflowError]:
-    """Makes the class of an exception that is one of NetworkX too, once, so that it can be pickled by its name."""
+    """Makes the class of an exception that is one of NetworkX too, once, so that pickle finds the class by its name."""
     if name not in EXCEPTIONS:
         raise AttributeError(f"module {__name__!r} has no attribute {name!r}")
     base, other = EXCEPTIONS[name]

@@ -58,7 +58,7 @@ class SimpleMinCostFlow:
         return [self.add_arc_with_capacity_and_unit_cost(*arc) for arc in zip(tails, heads, capacities, unit_costs)]
 
     def set_node_supply(self, node: int, supply: SupportsFloat) -> None:
-        """Sets what a node gives; below 0 it takes."""
+        """Sets what a node gives; below 0, takes."""
         self._supplies[_node(node)] = finite(self._number(supply, "supply"), node)
 
     def set_nodes_supplies(self, nodes: Iterable[int], supplies: Iterable[SupportsFloat]) -> None:
@@ -66,7 +66,7 @@ class SimpleMinCostFlow:
             self.set_node_supply(node, supply)
 
     def solve(self) -> Status:
-        """Solves the problem; `cut` has the nodes that show it if no flow is feasible."""
+        """Solves the problem; `cut` has the nodes that show that no flow is feasible."""
         if sum(self._supplies.values()):
             return Status.UNBALANCED
         return self._solve(self._arcs, dict(self._supplies), self.num_nodes())

@@ -16,7 +16,7 @@ from ..program import call, problem_text
 from ..reading.network import Network
 from ..types import Number
 
-# A number of a graph: it is read exactly, and results are floats if one of the numbers was.
+# A number of a graph, which is read exactly; results are floats if one of the numbers was.
 GraphNumber = Union[int, float, Fraction]
 
 # The limits of `netflow min`.
@@ -64,7 +64,7 @@ class Problem:
         )
 
     def text(self) -> str:
-        """Returns the problem in the DIMACS format; raises DataError or ScaleError if it is past the program's
+        """Returns the problem in the DIMACS format; raises DataError or ScaleError past the program's
         limits."""
         if self.count > NODES or len(self.arcs) > ARCS:
             raise DataError(

@@ -1,1 +1,1 @@
-"""What an error of a model or its data probably means, and how to fix it."""
+"""What an error of a model or its data probably means, and its fix."""

@@ -181,7 +181,7 @@ def listed(diagnostic: Diagnostic) -> dict[str, list[Token]]:
 
 
 def unknown_member(diagnostic: Diagnostic) -> Hints:
-    """A key of sets that are not plain with a member that no set lists: it is misspelt; else perhaps the members are
+    """A key of sets that are not plain with a member that no set lists, which is misspelt; else perhaps the members are
     exchanged."""
     if list(outside_set(diagnostic)) or list(missing_in_set(diagnostic)):
         return
@@ -343,11 +343,9 @@ def speaking(diagnostic: Diagnostic) -> Hints:
     whole = [row for row in whole if diagnostic.instance is not None and diagnostic.instance.change_at(row)] or whole
     some = sorted((row for row, words in rows.items() if members & words), key=lambda row: -len(members & rows[row]))
     if rows:
-        yield (
-            f"see {name} in"
-            f" {diagnostic.rows_text((whole or some or [first])[:3])}{'' if diagnostic.instance is not None and diagnostic.instance.change_at(first) else ' of the data'}",
-            False,
-        )
+        is_change = diagnostic.instance is not None and diagnostic.instance.change_at(first)
+        place = diagnostic.rows_text((whole or some or [first])[:3])
+        yield f"see {name} in {place}{'' if is_change else ' of the data'}", False
 
 
 def no_data(diagnostic: Diagnostic) -> Hints:

@@ -95,7 +95,7 @@ class Diagnostic:
 
     def change(self) -> str:
         """Returns in words the change, by an option or from Python, that has the error; an empty text if a file
-        has it."""
+        has the error."""
         return (
             self.instance.change_at(self.row) if self.instance is not None and self.text == "data" and self.row else ""
         )
@@ -137,7 +137,7 @@ class Diagnostic:
         return match[0] if match else ""
 
     def statement(self) -> list[Token]:
-        """Returns the tokens of the statement that contains the place: from the last `;` before it to the next one."""
+        """Returns the tokens of the statement that contains the place: from the last `;` to the next one."""
         whole: list[Token] = []
         for token in self.tokens_before():
             whole = [] if whole and whole[-1].text == ";" else whole
@@ -168,7 +168,7 @@ class Diagnostic:
         return list(tokens(text))
 
     def catalogue(self) -> list[str]:
-        """Returns what the code means and how to fix it, without advice on words that the line does not have."""
+        """Returns what the code means and how to fix the error, without advice on words that the line does not have."""
         means, remedy = catalogue(self.number)
         if self.number == "E10":
             is_first = self.word() in DECLARING
@@ -182,7 +182,7 @@ class Diagnostic:
         return [means, remedy]
 
     def graded_hints(self) -> Iterator[tuple[str, bool]]:
-        """Yields hints, each with whether it is sure."""
+        """Yields hints, sure or not."""
         from .engine import hints_of
 
         yield from hints_of(self)

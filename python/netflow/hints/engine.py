@@ -1,7 +1,7 @@
 """Hints for the errors of models: what the text suggests was meant.
 
-A hint can be wrong, so it is a question unless the text leaves no doubt; each hint is a pair of its text and whether it
-is sure.
+A hint can be wrong, so it is a question unless the text leaves no doubt; each hint is a pair of its text and
+whether this is sure.
 """
 from __future__ import annotations
 
@@ -261,7 +261,7 @@ def unopened(diagnostic: Diagnostic) -> Hints:
 
 
 def exchanged_words(diagnostic: Diagnostic) -> Hints:
-    """A name before the word that declares it."""
+    """A name before its declaring word."""
     if diagnostic.text == "model" and diagnostic.before.strip() == "":
         words = TOKEN.findall(diagnostic.at())[:2]
         if len(words) == 2 and words[1] in DECLARING and re.fullmatch(r"\w+", words[0]):

@@ -182,7 +182,8 @@ def many_keys(diagnostic: Diagnostic) -> Hints:
         and count > 4
         and not {"(", ":"} & set(diagnostic.at().partition("}")[0])
     ):
-        yield "a key has at most four members: join two sets into one set of names, or use one model for each member", True
+        said = "join two sets into one set of names, or use one model for each member"
+        yield f"a key has at most four members: {said}", True
 
 
 def net_outside_node(diagnostic: Diagnostic) -> Hints:

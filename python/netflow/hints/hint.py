@@ -1,4 +1,4 @@
-"""What the modules of hints share: a hint is a text with whether it is sure, and a table says which errors a function
+"""What the modules of hints share: a hint is a text, sure or not, and a table says which errors a function
 has hints for."""
 from __future__ import annotations
 

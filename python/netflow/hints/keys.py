@@ -16,7 +16,7 @@ from ..types import Member
 from .diagnostic import Diagnostic
 from .hint import Hints, HintTable
 
-# Where a part of a key begins and ends, the title of the set that it is of, and the members of the set if they are
+# Where a part of a key begins and ends, the title of its set, and the members of the set if they are
 # known.
 Slice = Tuple[int, int, str, Optional[Set[Members]]]
 
@@ -40,7 +40,7 @@ class Sets:
             self.values.update({cell.name: cell.token.member() for cell in statement.cells if not cell.key})
 
     def number(self, expr: Expr) -> int | None:
-        """Returns the value of a plain expression; None if it is not plain."""
+        """Returns the value of a plain expression; None for another one."""
         if expr.op == "num" and expr.value.isdigit():
             return int(expr.value)
         if expr.op in ("+", "-"):
@@ -70,7 +70,7 @@ class Sets:
         return "", None
 
     def of_name(self, name: str) -> list[tuple[int, str, set[Members] | None]]:
-        """Returns for each item in the braces of a declaration how many parts it has, its title and its members."""
+        """Returns for each item in the braces of a declaration the number of its parts, its title and its members."""
         braces = self.decls[name].braces if name in self.decls else None
         result = []
         for item in (braces.args[:-1] if braces.value else braces.args) if braces else []:
@@ -87,7 +87,7 @@ class Sets:
 
 
 class Key:
-    """The key of an error, in the slices that the items of the declaration's braces give it."""
+    """The key of an error, in the slices by the items of the declaration's braces."""
 
     def __init__(self, diagnostic: Diagnostic) -> None:
         self.name, self.key = reference(diagnostic.detail)
@@ -197,7 +197,7 @@ def outside_one(diagnostic: Diagnostic, member: Member, title: str, texts: list[
 
 
 def heading_place(diagnostic: Diagnostic, member: str) -> Hints:
-    """The line of the misspelt member, if it is in another line than the error, as in a heading."""
+    """The line of the misspelt member, if another one than the error's, as in a heading."""
     rows = [token.row for token in tokens(diagnostic.texts.get("data", "")) if token.bare() == member]
     if rows and diagnostic.row not in rows and diagnostic.text == "data":
         yield f"it is in {diagnostic.rows_text(rows[:1])}", True

@@ -72,7 +72,7 @@ def further_errors(first: Diagnostic, options: Sequence[str] = ()) -> list[Diagn
 
 
 def name_of(error: Diagnostic) -> str:
-    """Returns the name of the set or parameter that an error is about, or its place if it names none."""
+    """Returns the name of the set or parameter that an error is about, or its place without a name."""
     return error.detail.partition("[")[0] or f"{error.row}:{error.column}"
 
 
@@ -124,13 +124,13 @@ class Places:
         return True
 
     def put(self, start: int, end: int, text: str) -> None:
-        """Writes a text in a place, and blanks in the rest of it; line ends stay."""
+        """Writes a text in a place, and blanks in the rest; line ends stay."""
         for here in range(start, end):
             self.letters[here] = "\n" if self.letters[here] == "\n" else text[here - start : here - start + 1] or " "
 
 
 def is_of(error: Diagnostic, cell: Cell) -> bool:
-    """Whether a cell has the name and key that an error names, if it names one."""
+    """Whether a cell has the name and key of an error, if any."""
     try:
         name, key = reference(error.detail)
     except Unreadable:

@@ -1,5 +1,5 @@
 """Whether a tuple is in a set expression of a model, by the text of the model and its data, and which part of the
-expression lacks it."""
+expression has no such tuple."""
 from __future__ import annotations
 
 import operator
@@ -54,7 +54,7 @@ class Memberships:
         return " ".join(self.model[expr.start : expr.end].split())
 
     def missing(self, expr: Expr, row: Key, env: Env) -> str:
-        """Returns why a tuple is not in a set, such as `SHOPS has no Ens`; an empty text if it is in the set."""
+        """Returns why a tuple is not in a set, such as `SHOPS has no Ens`; an empty text for a member."""
         if expr.op == "group":
             return self.missing(expr.args[0], row, env)
         if expr.op == "cross":
@@ -70,7 +70,7 @@ class Memberships:
         return "" if self.contains(expr, row, env) else f"{self.text(expr)} has no {row_text(row)}"
 
     def source(self, name: str) -> Expr | None:
-        """Returns the expression that gives a declared set or parameter its value; None if it has none."""
+        """Returns the expression that gives a declared set or parameter its value; None without one."""
         decl: Decl | None = self.shapes.decls.get(name)
         phrase = decl.phrase(":=") if decl else None
         return phrase.exprs[0] if phrase else None
@@ -185,7 +185,7 @@ class Memberships:
 
 
 def row_text(row: Key) -> str:
-    """Returns a tuple as data have it; a text has quotes only if it has the form of a number."""
+    """Returns a tuple as data have it; a text has quotes only in the form of a number."""
     parts = [
         shown(member) if isinstance(member, str) and re.fullmatch(r"-?\d+", member) else str(member) for member in row
     ]

@@ -116,7 +116,8 @@ def no_obj(diagnostic: Diagnostic) -> Hints:
         and diagnostic.word() in declared_as(diagnostic, "minimize") | declared_as(diagnostic, "maximize")
     ):
         phrase = re.match(r"(?:\[[^\]]*\]|[^,;])*", diagnostic.at())
-        yield f"is obj missing before {diagnostic.word()}? obj {phrase[0].strip() if phrase else diagnostic.word()}", True
+        meant = phrase[0].strip() if phrase else diagnostic.word()
+        yield f"is obj missing before {diagnostic.word()}? obj {meant}", True
 
 
 def no_to(diagnostic: Diagnostic) -> Hints:

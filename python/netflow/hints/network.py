@@ -78,7 +78,8 @@ def coefficient(diagnostic: Diagnostic) -> Hints:
     if number in ("1", "-1"):
         yield f"coeff {match[1]} {number}: write {'to' if number == '1' else 'from'} {match[1]}", True
     else:
-        yield "coeff N 1 is `to N`, and coeff N -1 is `from N`; another coefficient is a gain, which no network has", True
+        said = "another coefficient is a gain, which no network has"
+        yield f"coeff N 1 is `to N`, and coeff N -1 is `from N`; {said}", True
 
 
 def equals_after_objective(diagnostic: Diagnostic) -> Hints:

@@ -13,7 +13,7 @@ VALUE = re.compile(r"[+-]?[0-9.]+")
 
 
 def head_of(diagnostic: Diagnostic) -> list[str]:
-    """Returns the words of a `param` statement of the data before its `:=`, without commas; none if it has no `:=`."""
+    """Returns the words of a `param` statement of the data before its `:=`, without commas; none without `:=`."""
     words = [token.text for token in diagnostic.statement()] if diagnostic.text == "data" else []
     head = words[: words.index(":=")] if ":=" in words else []
     return (

@@ -36,7 +36,8 @@ def character(diagnostic: Diagnostic) -> Hints:
     elif mark and unicodedata.category(mark) == "Sc":
         yield f"write the number without its unit, {mark}", True
     elif mark and unicodedata.category(mark) == "Zs" and mark != " ":
-        yield f"the character is {name} (U+{ord(mark):04X}), a blank that looks like a plain one: write a plain one", True
+        said = f"the character is {name} (U+{ord(mark):04X}), a blank that looks like a plain one"
+        yield f"{said}: write a plain one", True
 
 
 def unit(diagnostic: Diagnostic) -> Hints:
@@ -54,7 +55,8 @@ def unit(diagnostic: Diagnostic) -> Hints:
         and re.match(r"\d{3}\b", diagnostic.at())
     ):
         digits = re.search(r":=\s*([\d\s]+)$", diagnostic.before)
-        yield f"{diagnostic.detail} has one value: is {''.join(digits[1].split())}{diagnostic.at()[:3]} meant? Digits are not grouped", True  # type: ignore[index]
+        meant = "".join(digits[1].split()) + diagnostic.at()[:3]  # type: ignore[index]
+        yield f"{diagnostic.detail} has one value: is {meant} meant? Digits are not grouped", True
     elif (
         diagnostic.number == "E31"
         and "[" not in diagnostic.detail
@@ -205,7 +207,8 @@ def missing_value(diagnostic: Diagnostic) -> Hints:
     best = max((found for found, _, _ in near), default=(0, 0))
     if near and diagnostic.instance is not None and diagnostic.instance.is_from_python():
         keys = [repr(cell.key[0] if len(cell.key) == 1 else cell.key) for found, cell, _ in near if found == best]
-        yield f"{name} has no value at {key[0] if len(key) == 1 else tuple(key)!r}; it has values at {few(keys, 3)}", True
+        lacking = f"{key[0] if len(key) == 1 else tuple(key)!r}"
+        yield f"{name} has no value at {lacking}; it has values at {few(keys, 3)}", True
         return
     listed = [
         f"{name}[{','.join(map(shown, cell.key))}] in {diagnostic.rows_text([row])}"
@@ -213,11 +216,8 @@ def missing_value(diagnostic: Diagnostic) -> Hints:
         if found == best
     ][:3]
     if near:
-        yield (
-            f"the data have no row of {diagnostic.detail};"
-            f" {'the nearest: ' + ', '.join(listed) if best[0] else f'{name} is in {diagnostic.rows_text([near[0][2]])}'}",
-            True,
-        )
+        place = f"the nearest: {', '.join(listed)}" if best[0] else f"{name} is in {diagnostic.rows_text([near[0][2]])}"
+        yield f"the data have no row of {diagnostic.detail}; {place}", True
 
 
 def nearness(key: Sequence[Member], wanted: Sequence[Member]) -> tuple[int, int]:
@@ -265,7 +265,7 @@ def crossed(diagnostic: Diagnostic) -> Hints:
 
 
 def bound_text(diagnostic: Diagnostic, world: Memberships, phrase: Phrase | None, env: dict[str, Member]) -> str:
-    """Returns a bound with its value and the line of the data that gives it, such as `van, is 40 in line 5`."""
+    """Returns a bound with its value and the line of the data that has the value, such as `van, is 40 in line 5`."""
     if phrase is None:
         raise Unknown
     expr = phrase.exprs[0]

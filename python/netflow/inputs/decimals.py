@@ -1,7 +1,7 @@
 """The first error of a model or its data besides their decimals.
 
-The program reports a decimal (E04) before it parses the text. Copies that have a whole numeral of the same length for
-each decimal show the error that comes after it, at its own position.
+The program reports a decimal (E04) before parsing. Copies that have a whole numeral of the same length for
+each decimal show the error that comes next, at its own position.
 """
 from __future__ import annotations
 
@@ -45,7 +45,7 @@ def is_decimal(problem: ProgramError) -> bool:
 
 
 def next_error(session: Session, kinds: re.Pattern[str] = CERTAIN) -> ProgramError | None:
-    """Returns the program's error for the files of a session besides their decimals; None if it reports none of these
+    """Returns the program's error for the files of a session besides their decimals; None without an error of these
     kinds."""
     copies = [session.write(whole_copy(read(path), kind)) for path, kind in zip(session.files, ("model", "data"))]
     try:

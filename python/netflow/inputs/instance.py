@@ -1,4 +1,4 @@
-"""A model with its data and options, as the program is asked: it scales decimals, joins data files and changes values
+"""A model with its data and options, as the program is asked: decimals are scaled, joins data files and changes values
 if needed."""
 from __future__ import annotations
 
@@ -238,7 +238,7 @@ class Instance:
         return self.changed.place(row - self.rows_of_data()) if self.changed is not None else ("", None, None)
 
     def written(self, row: int) -> str:
-        """Returns a change as Python writes it, or the option; an empty text if it has no value."""
+        """Returns a change as Python writes it, or the option; an empty text without a value."""
         name, key, value = self.value_at(row)
         if value is None or self.origins:
             return self.change_at(row) if self.origins else ""
@@ -246,7 +246,7 @@ class Instance:
         return f"{name}{key_text} = {str(value) if isinstance(value, Fraction) else repr(value)}"
 
     def network(self) -> tuple[Answer, Network]:
-        """Returns the answer of `solve`, and the network with its plan, or with the cut that shows that there is none."""
+        """Returns the answer of `solve`, and the network with its plan, or with a cut if there is none."""
         self.prepare()
         was_rewritten = self.is_rewritten
         with ThreadPoolExecutor(1) as calls:
@@ -270,8 +270,10 @@ class Instance:
         return answer, net
 
     def priced_network(self) -> Network:
-        """Returns the network with its plan and prices, or with a cut. The program reads the model once, and then solves the problem
-        that it is compiled to, since `solve` prints no prices."""
+        """Returns the network with its plan and prices, or with a cut.
+
+        The program reads the model once, and then solves the compiled problem: `solve` prints no prices.
+        """
         compiled = self.ask("compile").text
         with ThreadPoolExecutor(1) as calls:
             solving = calls.submit(call, ["min", "/dev/stdin"], compiled)

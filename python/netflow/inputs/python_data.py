@@ -37,7 +37,7 @@ def override(values: dict[str, Any], others: Mapping[str, Any]) -> None:
 
 class PythonData:
     """Sets and parameters by name; `sets` are lists of tuples, `params` dicts from keys to a Fraction or a text.
-    `origins` has for each line of the text what it says: a name, with the key of its value or the member, or None if
+    `origins` has for each line of the text its content: a name, with the key of its value or the member, or None if
     the line is a statement's first or last.
 
     A part of a key that is a text in the form of a number becomes that number, unless a set has the text as a member:
@@ -205,7 +205,7 @@ def rows_of(name: str, value: Any, size: int, texts: set[Member] | None, head: s
 
 
 def key_part(part: Member, texts: set[Member] | None) -> Member:
-    """Returns a part of a key as a member: a text as its number, as a sheet has it, unless it is in `texts`, or these
+    """Returns a part of a key as a member: a text as its number, as a sheet has it, except one of `texts`, or if these
     are None."""
     is_number = texts is not None and isinstance(part, str) and part not in texts and KEY_NUMBER.fullmatch(part)
     return int(part) if is_number else part
@@ -280,7 +280,7 @@ def frame_pairs(name: str, frame: Any, size: int) -> Iterable[Pair]:
     if list(frame.columns[:1]) == [UNNAMED]:
         frame = frame.set_index(UNNAMED)
     columns, index = list(frame.columns), frame.index
-    # The index has keys unless it only numbers the rows, as it does after a file is read or rows are chosen.
+    # The index has keys unless these only number the rows, as after a file is read or rows are chosen.
     has_keys = index.nlevels > 1 or index.name is not None or index.dtype.kind not in "iu"
     if name in columns:
         if size and (index.nlevels >= size if has_keys else len(columns) <= size):

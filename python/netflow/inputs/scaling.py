@@ -38,8 +38,8 @@ class Factors:
 
 
 class Scaler:
-    """Computes the factors of a model and the edits that scale it. `needed` has the factor that the data of a parameter
-    need."""
+    """Computes the factors of a model and the edits that scale the model. `needed` has the factor that the data of
+    a parameter need."""
 
     def __init__(
         self, decls: list[Decl], needed: dict[str, int], objective: str | None, add_bounds: bool = False
@@ -291,7 +291,7 @@ def is_infinite(expr: Expr) -> bool:
 
 
 def scaled_value(name: str, value: Fraction, factor: int) -> int:
-    """Returns the value times the factor; raises ScaleError if it is not whole or too large."""
+    """Returns the value times the factor; raises ScaleError for one that is not whole or too large."""
     found = value * factor
     if found.denominator != 1:
         raise ScaleError(f"param {name}: {value} times {factor} is not whole", name, factor)

@@ -8,8 +8,8 @@ from ..types import Member
 
 
 class Input:
-    """A model or data text: a file, or a text in memory. `name` is what the user calls it; `path` can be a copy of a
-    pipe."""
+    """A model or data text: a file, or a text in memory. `name` is the user's name for the text; `path` can be a
+    copy of a pipe."""
 
     def __init__(self, path: str | None = None, text: str | None = None, name: str | None = None) -> None:
         self.path, self.name, self.given = path, path if name is None else name, text
@@ -19,7 +19,7 @@ class Input:
 
 
 def unreadable(path: str) -> str:
-    """Returns why a file cannot be read; an empty text if it can be."""
+    """Returns why a file cannot be read; an empty text for a readable one."""
     try:
         with open(path, "rb") as file:
             file.read(1)

@@ -6,7 +6,7 @@ from .network import Network
 
 
 def mark_open_sides(net: Network, model: str) -> None:
-    """Marks the open sides of the nodes; leaves a network as it is if the model cannot be parsed."""
+    """Marks the open sides of the nodes; changes nothing if the model cannot be parsed."""
     try:
         sides = {
             decl.name: open_sides(decl.phrases[0].exprs[0])
@@ -31,7 +31,7 @@ def open_sides(condition: Expr) -> tuple[bool, bool]:
 
 
 def net_sign(side: Expr) -> int:
-    """Returns the sign with which the net inflow occurs in a side of a condition; 0 if it does not."""
+    """Returns the sign with which the net inflow occurs in a side of a condition; 0 otherwise."""
     if side.op in ("+", "-"):
         return net_sign(side.args[0]) or (net_sign(side.args[1]) if side.op == "+" else -net_sign(side.args[1]))
     if side.op == "sign":

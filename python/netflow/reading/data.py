@@ -1,6 +1,6 @@
 """Parses data texts into statements and cells, and writes statements.
 
-As with models, the program remains the judge: a text that this parser does not take is given to the program as it is.
+As with models, the program remains the judge: a text that this parser does not take goes to the program unchanged.
 """
 from __future__ import annotations
 
@@ -20,7 +20,7 @@ TOKEN = re.compile(
 )
 # A name that needs no quotes in a data text: no number, and none of the words that begin or end statements.
 PLAIN_NAME = re.compile(r"(?!(?:set|param|data|end|default)\Z)[A-Za-z_]\w*", re.A)
-# A text that is a number as a member: one that is written back as it is, so that `01067` and `+5` stay texts; not past
+# A text that is a number as a member: one that is written back unchanged, so that `01067` and `+5` stay texts; not past
 # 10^12.
 KEY_NUMBER = re.compile(r"-?[1-9][0-9]{0,11}|0")
 
@@ -183,7 +183,7 @@ def groups(tokens: list[Token], size: int) -> Iterator[list[Token]]:
 
 
 def member_text(member: Any) -> str:
-    """Returns a member as a data text has it: a number bare, a text with quotes if it needs them."""
+    """Returns a member as a data text has it: a number bare, a text with quotes if necessary."""
     if isinstance(member, bool) or not isinstance(member, (int, str)):
         number = getattr(member, "item", None)
         if number is not None and not isinstance(member, (bool, bytes)):

@@ -14,7 +14,7 @@ CLOSING = {"{": "}", "(": ")", "[": "]"}
 
 
 def braces_of(text: str, name: str) -> list[str]:
-    """Returns the words between the braces of a declaration of arcs, without a condition; none if it has no braces."""
+    """Returns the words between the braces of a declaration of arcs, without a condition; none without braces."""
     words = [token.text for token in tokens(text)]
     for here in range(len(words) - 3):
         if words[here] == "arc" and words[here + 1] == name and words[here + 2] == "{":
@@ -76,14 +76,14 @@ def headings(text: str, name: str, count: int) -> list[str]:
 
 
 def objective_of(text: str) -> str:
-    """Returns the name of the first objective that a model declares; an empty text if it declares none."""
+    """Returns the name of the first objective that a model declares; an empty text without one."""
     words = [token.text for token in tokens(text)]
     return next((name for word, name in zip(words, words[1:]) if word in ("minimize", "maximize")), "")
 
 
 def compared_texts(model: str, data: Iterable[str]) -> list[str]:
     """Returns what a reader may miss: a numeral in quotes that the model compares with something, and that no data text
-    has in quotes. It equals no number, and netflow takes it as it is."""
+    has in quotes. Such a text equals no number, and netflow accepts it."""
     compared, before = [], ""
     for token in tokens(model):
         if before in ("=", ">") and re.fullmatch(r"(['\"])-?\d+\1", token.text):
@@ -106,7 +106,7 @@ TITLE, WRAPPED = 100, 50
 
 
 def first_comment(text: str) -> str:
-    """Returns the first sentence of the comment that the model begins with; an empty text if it begins with none. A
+    """Returns the first sentence of the comment that the model begins with; an empty text without one. A
     sentence that is too long for a title is cut after a word."""
     sentence = SENTENCE.split(paragraph(comment_lines(text)))[0].rstrip(".:")
     cut = sentence[:TITLE]

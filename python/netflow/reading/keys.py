@@ -25,7 +25,7 @@ class Members(Dict[str, Member]):
         return member
 
     def key(self, text: str) -> list[Member] | None:
-        """Returns the members of a key as it is printed, texts without their quotes; None if it is no key."""
+        """Returns the members of a printed key, texts without their quotes; None for no key."""
         if not text:
             return []
         try:
@@ -36,12 +36,12 @@ class Members(Dict[str, Member]):
 
 
 def members(text: str) -> list[Member] | None:
-    """Returns the members of a key as it is printed; None if it is no key."""
+    """Returns the members of a printed key; None for no key."""
     return Members().key(text)
 
 
 def shown(member: Member) -> str:
-    """Returns a member as netflow prints it."""
+    """Returns a member in netflow's form."""
     return str(member) if isinstance(member, int) else "'" + member.replace("'", "''") + "'"
 
 

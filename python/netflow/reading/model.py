@@ -1,6 +1,6 @@
 """Parses the text of a model far enough to know its declarations, their keys, and the place of each expression.
 
-The program remains the judge of a model. A text that this parser does not take is given to the program as it is.
+The program remains the judge of a model. A text that this parser does not take goes to the program unchanged.
 """
 from __future__ import annotations
 

@@ -56,7 +56,7 @@ class Arc:
 
 @dataclasses.dataclass
 class Node:
-    """A node of the model: its net inflow is from `low` to `high`, and its arcs allow it from `fewest` to `greatest`.
+    """A node of the model: its net inflow is from `low` to `high`, and its arcs allow from `fewest` to `greatest`.
     If the model leaves a side open, the compiled model has what the arcs allow in its place; `is_low_open` and
     `is_high_open` say so if the text of the model is known. `worth` is the node's price: by how much one more required
     unit makes the value worse, at least.
@@ -80,8 +80,8 @@ class Node:
         return self.high < self.greatest
 
     def wish(self) -> str:
-        """Returns what the node needs or gives, in a few words; an empty text for a node that passes on what it
-        gets."""
+        """Returns what the node needs or gives, in a few words; an empty text for a node that only passes
+        on."""
         low, high = self.low, self.high
         if low == high:
             return f"needs {low}" if low > 0 else f"gives {-low}" if low < 0 else ""
@@ -105,7 +105,7 @@ def between(low: Number, high: Number) -> str:
 
 class Network:
     """Nodes and arcs with the model's own bounds and prices. `problem` is the problem's text without comments;
-    `declarations` are the names of a plan's declarations of arcs, each with whether it is a table; `factors` are those
+    `declarations` are the names of a plan's declarations of arcs, each a table or not; `factors` are those
     of a scaled model."""
 
     def __init__(self) -> None:
@@ -126,7 +126,7 @@ class Network:
         return lines_of(self.problem)
 
     def divide(self, factors: Factors) -> None:
-        """Brings the numbers of a scaled model back to those of the model; `problem` stays as it is."""
+        """Brings the numbers of a scaled model back to those of the model; `problem` does not change."""
         self.factors = factors
         if factors.is_plain():
             return

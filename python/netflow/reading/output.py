@@ -104,7 +104,7 @@ def place_arcs(net: Network, texts: list[str], offsets: list[int], drawn: list[l
 
 
 def place_nodes(net: Network, supplies: dict[int, int], rooms: Iterable[tuple[int, int]]) -> None:
-    """Sets the bounds of each node's net inflow: what the offsets bring minus the supply, and the range above it."""
+    """Sets the bounds of each node's net inflow: what the offsets bring minus the supply, and the range above."""
     for number, node in enumerate(net.nodes, 1):
         node.low -= supplies.get(number, 0)
         node.high = node.low
@@ -191,7 +191,7 @@ def read_cut(text: str, net: Network) -> tuple[str, set[int]]:
 
 
 def read_certificate(certificate: str, net: Network) -> None:
-    """Sets the value and the flows of a network from a certificate of the problem that it is compiled to."""
+    """Sets the value and the flows of a network from a certificate of the compiled problem."""
     cost, _, _ = certificate.partition("\n")
     if not cost.startswith("s "):
         raise Unreadable("a certificate was expected")
@@ -204,7 +204,7 @@ def read_certificate(certificate: str, net: Network) -> None:
 
 
 def read_cut_of_problem(text: str, net: Network) -> tuple[str, set[int]]:
-    """Returns the side and the node indices of a cut of the problem that a network is compiled to, as `read_cut` does."""
+    """Returns the side and the node indices of a cut of the compiled problem, as `read_cut` does."""
     first, *lines = lines_of(text)
     if first not in ("x over", "x under") or not all(line.startswith("m ") for line in lines):
         raise Unreadable("a cut was expected")
@@ -213,7 +213,7 @@ def read_cut_of_problem(text: str, net: Network) -> tuple[str, set[int]]:
 
 
 def from_inside(side: str, inside: set[int], net: Network) -> tuple[str, set[int]]:
-    """Returns a cut that does not contain the outside: the set itself, or its complement, which shows the same from its side."""
+    """Returns a cut without the outside: the set itself, or its complement, which shows the same from its side."""
     if len(net.nodes) not in inside:
         return side, inside
     return {"over": "under", "under": "over"}[side], set(range(len(net.nodes))) - inside
@@ -241,7 +241,7 @@ def read_prices(certificate: str, net: Network) -> None:
 
 
 def written(net: Network) -> str:
-    """Returns the plan as netflow prints it."""
+    """Returns the plan in netflow's form."""
     lines, declared = [f"{net.objective} = {net.value}"], net.declared()
     for name, is_table in net.declarations:
         arcs = declared.get(name, [])

@@ -17,14 +17,14 @@ from .layout import components
 from .placement import LABELLED, STUB, Placement, Point, ends_of
 from .style import DRAWING_STYLE
 
-# A Bezier curve: its ends, and the points that bend it between them.
+# A Bezier curve: its ends, and two points that bend the line.
 Curve = Tuple[Point, Point, Point, Point]
 Box = Tuple[float, float, float, float]
 
 # From this width on a drawing is tried from top to bottom.
 WIDE = 1400
-# From this height on the components of a drawing with so few layers become pictures of their own, which a page sets in
-# rows.
+# From this height on the components of a drawing with so few layers become pictures of their own, which a page sets
+# in rows.
 HIGH, FLAT = 700, 4
 # The room around a drawing.
 MARGIN = 12
@@ -49,7 +49,7 @@ def draw(
 
 
 def split(whole: Picture) -> list[Picture]:
-    """Returns a picture of each component of a picture; none if it is connected."""
+    """Returns a picture of each component of a picture; none for a single one."""
     groups = components(whole.nodes, whole.arcs)
     if len(groups) < 2:
         return []
@@ -70,7 +70,7 @@ def split(whole: Picture) -> list[Picture]:
 
 
 class Picture(Placement):
-    """A drawing of some arcs of a network, with its pictures of components if it is drawn in parts."""
+    """A drawing of some arcs of a network, and its pictures of components, if any."""
 
     parts: list[Picture] = []
 
@@ -105,7 +105,7 @@ class Picture(Placement):
 
     def arch(self, src: int, dst: int) -> list[Curve]:
         """Returns an arc within a layer, which bows out to the side; arcs one way bow after the layer, those back
-        before it."""
+        before."""
         side = 1 if self.v[src] < self.v[dst] else -1
         high = max(self.half(src), self.half(dst)) + 16 + abs(self.v[src] - self.v[dst]) * 0.22
         bow = self.u[src] + side * high
@@ -196,7 +196,7 @@ class Picture(Placement):
         text = self.number(arc)
         if not text:
             return made, ""
-        # In a large picture the numbers of the arcs of a place are shown when the pointer is on it.
+        # In a large picture the numbers of the arcs of a place are shown under the pointer.
         x, y = self.text_place(arc, text, curves) if self.is_small else along(curves[len(curves) // 2], 0.5)
         half = self.text_width(text) / 2
         self.reach.append((x - half, y - 8, x + half, y + 8))
@@ -241,7 +241,7 @@ class Picture(Placement):
         return "\n".join(part.sheet_svg(most, "" if here else defs) for here, part in enumerate(self.parts))
 
     def sheet_svg(self, most: Number, defs: str) -> str:
-        """Returns one picture, cut to what it shows; an arc that carries `most` has the thickest line."""
+        """Returns one picture, cut to its content; an arc that carries `most` has the thickest line."""
         self.boxes = [self.box(number) for number in self.nodes]
         self.reach = list(self.boxes)
         drawn = sorted(self.arcs, key=lambda arc: (id(arc) in self.across, magnitude(arc.flow)))

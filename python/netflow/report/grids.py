@@ -10,14 +10,14 @@ from .placement import grouped
 ROWS, COLUMNS, FILLED = 400, 60, 0.15
 # From so many letters on the headings of columns are upright in a narrow window, and in any.
 WORDY, LONG = 40, 110
-# The most pixels of a grid that a printed page takes when it is made smaller.
+# The most pixels of a grid that a printed page takes, made smaller.
 PRINTED = 1100
 NOTE = '<p class="print-note">The grid is on the page for the screen: it is too wide for print.</p>'
 
 
 def grid_html(arcs: list[Arc], titles: list[str], is_open: bool = True) -> str:
-    """Returns the grid of the flows; empty if the arcs have fewer than two keys or fill too little of it. Columns are
-    the last key, or the one before it if that gives fewer."""
+    """Returns the grid of the flows; empty if the arcs have fewer than two keys or fill too little. Columns are
+    the last key, or the last but one if that gives fewer."""
     if not arcs or len(arcs[0].key) < 2 or len(arcs) > ROWS * COLUMNS:
         return ""
     across = list(dict.fromkeys(arc.key[-1] for arc in arcs))

@@ -12,7 +12,7 @@ class Bend:
 
 
 def layers(nodes: list[int], arcs: Iterable[Arc]) -> dict[int, int]:
-    """Returns the layer of each node, from 0: by the longest path that leads to it, or by the shortest if the longest
+    """Returns the layer of each node, from 0: by the longest path to the node, or by the shortest if the longest
     would stretch the picture."""
     into, out = neighbours(nodes, arcs)
     order, back = walked(nodes, into, out)
@@ -27,7 +27,7 @@ def layers(nodes: list[int], arcs: Iterable[Arc]) -> dict[int, int]:
 def walked(
     nodes: list[int], into: dict[int, list[int]], out: dict[int, list[int]]
 ) -> tuple[list[int], set[tuple[int, int]]]:
-    """Returns the nodes in topological order, and the steps that close cycles and are left out of it."""
+    """Returns the nodes in topological order, and the steps that close cycles and are left out."""
     order: list[int] = []
     back: set[tuple[int, int]] = set()
     state: dict[int, int] = {}
@@ -68,7 +68,7 @@ def nearest(nodes: list[int], into: dict[int, list[int]], out: dict[int, list[in
 
 
 def pulled(found: dict[int, int], out: dict[int, list[int]], back: set[tuple[int, int]]) -> dict[int, int]:
-    """Moves a node that nothing leads to just before the first node that it leads to."""
+    """Moves a node that nothing leads to just before its first successor."""
     for node in found:
         if found[node] == 0:
             after = [found[there] for there in out[node] if (node, there) not in back]

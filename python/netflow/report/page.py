@@ -19,7 +19,7 @@ from .placement import grouped
 from .style import PAGE_STYLE, SCRIPT
 
 HIDDEN_FROM = 5_000
-# From this many rows on a table has a line to find some of them; it has at most so many totals.
+# From this many rows on a table has a line to find some of them; and the most totals.
 FOUND_FROM, TOTALS = 15, 200
 
 

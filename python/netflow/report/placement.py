@@ -62,11 +62,11 @@ class Placement:
         return LETTER * columns(text)
 
     def number(self, arc: Arc) -> str:
-        """Returns the text on an arc: what it carries, or across a cut what it can carry."""
+        """Returns the text on an arc: the flow, or across a cut the bounds."""
         return grouped(arc.flow) if arc.flow else f"{arc.lower}..{arc.most()}" if id(arc) in self.across else ""
 
     def label(self, number: int) -> list[str]:
-        """Returns the lines of a node: its name, and in a small picture what it needs or gives."""
+        """Returns the lines of a node: its name, and in a small picture its need or supply."""
         node = self.net.nodes[number]
         name, bracket, rest = node.text.partition("[")
         key = rest[:-1].replace("''", "\u2019").replace("'", "").replace(",", " ")

@@ -62,7 +62,7 @@ class Report:
         }
 
     def is_across(self, arc: Arc) -> bool:
-        """Whether the arc leads into one of the sets that are short, or out of it."""
+        """Whether the arc leads into one of the sets that are short, or out."""
         return any((arc.src in inside) != (arc.dst in inside) for inside in self.sets)
 
     def head(self) -> str:

@@ -31,7 +31,7 @@ class Cell:
         raise ProgramError(REJECTED, f"{self.place()}: {self.text!r} {why}\n")
 
     def member(self) -> str:
-        """Returns the cell as a member: a whole number as one, all else as a text, with quotes if it needs them."""
+        """Returns the cell as a member: a whole number as one, all else as a text, with quotes if necessary."""
         if not self.text:
             self.reject("is no member: the cell is empty")
         if PLAIN_NAME.fullmatch(self.text) or KEY_NUMBER.fullmatch(self.text):
@@ -41,7 +41,7 @@ class Cell:
         return "'" + self.text.replace("'", "''") + "'"
 
     def value(self, factor: int = 1, has_comma: bool = False) -> str:
-        """Returns the cell as a value: a point if it is empty, a number times the factor, or a text."""
+        """Returns the cell as a value: a point for an empty one, a number times the factor, or a text."""
         if not self.text:
             return "."
         if ERROR_VALUE.fullmatch(self.text):

@@ -55,7 +55,7 @@ def difference(value: Number, base: Number) -> str:
 
 
 def scenarios(arguments: argparse.Namespace, out: Any) -> int:
-    """Writes a row for the model as it is, and one for each case. A case with an error does not end the table; the
+    """Writes a row for the unchanged model, and one for each case. A case with an error does not end the table; the
     status is then 3."""
     cases = cases_of(arguments)
     if not cases:
@@ -92,8 +92,8 @@ def without_plan(net: Network) -> list[object]:
 
 
 def case_cells(base: Network, net: Network) -> list[object]:
-    """Returns the cells of a case: status, value, difference, how many arcs differ, and the reason if it has no
-    plan."""
+    """Returns the cells of a case: status, value, difference, how many arcs differ, and the reason without
+    a plan."""
     if net.cut is not None:
         return without_plan(net)
     if base.cut is not None:
@@ -106,7 +106,7 @@ def case_cells(base: Network, net: Network) -> list[object]:
 
 
 def diff(arguments: argparse.Namespace, out: Any) -> int:
-    """Writes the objective, and each arc whose flow differs between the model as it is and the case."""
+    """Writes the objective, and each arc whose flow differs between the unchanged model and the case."""
     if not arguments.case and not arguments.extra_data:
         raise ProgramError(USAGE, "netflow-sheet diff: give --case or --with\n")
     first = answer_of(arguments, [])

@@ -23,7 +23,7 @@ TIME = re.compile(rb"\d{4}-\d\d-\d\dT[\d:.]+Z")
 
 
 def openpyxl_for(path: str) -> Any:
-    """Returns the module openpyxl; raises ProgramError with what to install if it is missing."""
+    """Returns the module openpyxl; raises ProgramError with what to install without the module."""
     try:
         import openpyxl
     except ImportError:
@@ -50,7 +50,7 @@ def xlsx_rows(path: str, sheet: str) -> list[list[str]]:
 
 
 def cell_text(value: object) -> str:
-    """Returns the value of a cell as it would be typed; a date is its number."""
+    """Returns the value of a cell as typed; a date is its number."""
     if isinstance(value, (datetime.date, datetime.time, datetime.timedelta)):
         from openpyxl.utils.datetime import to_excel
 

@@ -126,7 +126,7 @@ def changes_of(words: Sequence[str]) -> dict[str, Any]:
 
 
 def change_of(word: str) -> tuple[str, Key, Value | int]:
-    """Returns the name, the key, () if it has none, and the value of a change."""
+    """Returns the name, the key, () without one, and the value of a change."""
     head, equals, value = word.partition("=")
     name, bracket, key = head.strip().partition("[")
     parts = tuple(member_of(part) for part in key_parts(key[:-1])) if key.endswith("]") else ()

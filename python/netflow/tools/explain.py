@@ -55,13 +55,13 @@ def width(text: str) -> int:
 
 
 def source_lines(diagnostic: Diagnostic) -> list[str]:
-    """Returns the line of the input, of a long one the part around the place, and the mark below it."""
+    """Returns the line of the input, of a long one the part around the place, and the mark below."""
     before, after = diagnostic.before, diagnostic.at()
     if len(before) > AROUND:
         before = ".. " + before[-AROUND:]
     if len(after) > 2 * AROUND:
         after = after[: 2 * AROUND] + " .."
-    # A tab stays one, so that the mark is below its place whatever the terminal makes of it.
+    # A tab stays one, so that the mark is below its place in any terminal.
     under = "".join(letter if letter == "\t" else " " * width(letter) for letter in before)
     return [f"    {before}{after}", *([f"    {under}^"] if diagnostic.column else [])]
 
