@@ -1,9 +1,9 @@
 """Models of AMPL's chapter on networks, in its notation: what node and arc models say runs with decimals and without
 bounds, and of the others the message names the word and its replacement."""
 import pytest
-from support import run, write
 
 import netflow
+from support import run, write
 
 CITIES = """set CITIES;
 set LINKS within (CITIES cross CITIES);

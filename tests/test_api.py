@@ -3,9 +3,9 @@ import pathlib
 import pickle
 
 import pytest
-from support import BREAD
 
 import netflow
+from support import BREAD
 
 MODEL, DATA, BUSY = BREAD / "bread.mod", BREAD / "bread.dat", BREAD / "busy.dat"
 # A model whose parameters have the names of options.

@@ -3,9 +3,9 @@ import json
 import pathlib
 
 import pytest
-from support import BREAD, read, write
 
 import netflow
+from support import BREAD, read, write
 
 MODEL, DATA, BUSY = (str(BREAD / name) for name in ("bread.mod", "bread.dat", "busy.dat"))
 COST = {
@@ -26,10 +26,10 @@ WHOLE = {
 FORMS = (
     ("a dict", COST),
     ("dicts in a dict", {i: {j: COST[i, j] for j in ("hill", "lake", "mill")} for i in ("north", "south")}),
-    ("tuples", [(*key, it) for key, it in COST.items()]),
-    ("rows", [{"from": i, "to": j, "cost": it} for (i, j), it in COST.items()]),
-    ("rows of texts", [{"from": i, "to": j, "cost": str(it)} for (i, j), it in COST.items()]),
-    ("a generator", ((*key, it) for key, it in COST.items())),
+    ("tuples", [(*key, price) for key, price in COST.items()]),
+    ("rows", [{"from": i, "to": j, "cost": price} for (i, j), price in COST.items()]),
+    ("rows of texts", [{"from": i, "to": j, "cost": str(price)} for (i, j), price in COST.items()]),
+    ("a generator", ((*key, price) for key, price in COST.items())),
 )
 
 
@@ -235,7 +235,9 @@ MISTAKES = (
 
 @pytest.mark.parametrize("data", [DATA, {**WHOLE, "cost": COST}], ids=["file", "dict"])
 @pytest.mark.parametrize(
-    "values, kind, parts", [(values, kind, parts) for values, kind, *parts in MISTAKES], ids=lambda it: str(it)[:40]
+    "values, kind, parts",
+    [(values, kind, parts) for values, kind, *parts in MISTAKES],
+    ids=lambda value: str(value)[:40],
 )
 def test_mistake(values, kind, parts, data):
     """Errors in data from Python name the parameter, with its key, and no line of a file that does not exist."""

@@ -4,10 +4,10 @@ import warnings
 from fractions import Fraction
 
 import pytest
-from support import BREAD, read
 
 import netflow
 from netflow.inputs.decimals import whole_copy
+from support import BREAD, read
 
 MODEL = """set P; set L within P cross P; param need {P} default 0; param room {L}; param price {L} default 1.5; param fee; param share;
 minimize Cost;
@@ -22,12 +22,12 @@ arc Out >= 0, <= 900, from At['a'], obj Cost 0.125;
 def plain(seed):
     """Returns data in hundredths and tenths: needs, room and prices by key, fee and share."""
     dice = random.Random(f"decimals {seed}")
-    needs = {it: Fraction(dice.randint(-30, 30), 10) for it in "abcd"}
+    needs = {name: Fraction(dice.randint(-30, 30), 10) for name in "abcd"}
     links = dice.sample([(i, j) for i in "abcd" for j in "abcd" if i != j], 9)
     return (
         needs,
-        {it: Fraction(dice.randint(0, 90), 10) for it in links},
-        {it: Fraction(dice.randint(0, 900), 100) for it in links},
+        {link: Fraction(dice.randint(0, 90), 10) for link in links},
+        {link: Fraction(dice.randint(0, 900), 100) for link in links},
         Fraction(dice.randint(0, 9), 10),
         Fraction(dice.randint(0, 99), 100),
     )
@@ -41,7 +41,7 @@ def data_text(seed):
     needs, rooms, prices, fee, share = plain(seed)
     rows = "\n".join(f"{i} {j} {text_of(rooms[i, j])} {text_of(prices[i, j])}" for i, j in rooms)
     return (
-        f"set P := a b c d;\nparam need := {' '.join(f'{it} {text_of(number)}' for it, number in needs.items())};\n"
+        f"set P := a b c d;\nparam need := {' '.join(f'{need} {text_of(number)}' for need, number in needs.items())};\n"
         f"param: L: room price :=\n{rows};\nparam fee := {text_of(fee)};\nparam share := {text_of(share)};\n"
     )
 
@@ -55,8 +55,8 @@ def by_graph(seed):
     flow = netflow.SimpleMinCostFlow()
     for i, j, room, cost in arcs:
         flow.add_arc_with_capacity_and_unit_cost(names.index(i), names.index(j), room, cost)
-    for it, need in needs.items():
-        flow.set_node_supply(names.index(it), -need)
+    for name, need in needs.items():
+        flow.set_node_supply(names.index(name), -need)
     flow.set_node_supply(4, sum(needs.values()))
     return flow.optimal_cost() if flow.solve() == flow.OPTIMAL else None
 
@@ -85,8 +85,8 @@ def python_data(seed):
         "P": list("abcd"),
         "need": needs,
         "L": list(rooms),
-        "room": {it: float(number) for it, number in rooms.items()},
-        "price": [(*it, text_of(number)) for it, number in prices.items()],
+        "room": {room: float(number) for room, number in rooms.items()},
+        "price": [(*price, text_of(number)) for price, number in prices.items()],
         "fee": fee,
         "share": float(share),
     }

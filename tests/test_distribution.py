@@ -3,9 +3,9 @@ plan by what it has to keep to."""
 from fractions import Fraction
 
 import pytest
-from support import TOP
 
 import netflow
+from support import TOP
 
 FOLDER = TOP / "examples" / "distribution"
 DEPOTS = "Basel Lyon Ulm".split()

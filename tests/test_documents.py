@@ -5,6 +5,7 @@ import subprocess
 import sys
 
 import pytest
+
 from support import BREAD, TOOLS, TOP, read, write
 
 BLOCK = re.compile(r"```\n((?:(?!```).*\n)*)```")

@@ -1,5 +1,6 @@
 """The examples and the inputs of scripts/check_examples, one test each, so that `pytest -k bread` runs one of them."""
 import pytest
+
 from lib.examples import folders, inputs, pages, rows, streams
 from support import TOP
 

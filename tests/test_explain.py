@@ -7,12 +7,12 @@ import subprocess
 import sys
 
 import pytest
+
 from cases import bread_mistakes, mistakes, planner_mistakes, port_mistakes
 from lib.examples import rows
-from support import BREAD, TOOLS, TOP, run, write
-
 from netflow.hints import diagnostic as diagnostics
 from netflow.tools import explain
+from support import BREAD, TOOLS, TOP, run, write
 
 
 def test_catalogue():
@@ -27,8 +27,8 @@ def test_catalogue():
             r"(?m)\bE\d\d\b",
             page
             + "".join(
-                (TOP / "docs" / "reference" / it).read_text(encoding="utf-8")
-                for it in ("language.md", "command-line.md")
+                (TOP / "docs" / "reference" / name).read_text(encoding="utf-8")
+                for name in ("language.md", "command-line.md")
             ),
         )
     )
@@ -116,19 +116,19 @@ def test_later_errors(tmp_path):
         data = data.replace(right, wrong)
     words = [model, write(tmp_path, "further.dat", data)]
     lines = run("netflow-explain", *words)[2].split("\n")
-    start = next((here for here, it in enumerate(lines) if it.endswith("in the data:")), len(lines))
-    assert lines[start : start + 1] and not any("hil:" in it for it in lines[start:]), f"further errors: {lines}"
+    start = next((here for here, line in enumerate(lines) if line.endswith("in the data:")), len(lines))
+    assert lines[start : start + 1] and not any("hil:" in line for line in lines[start:]), f"further errors: {lines}"
     said = " ".join(lines[start:])
-    for it in (
+    for part in (
         "E36 KindMismatch",
         "4O: is 40 meant?",
         "E33 OutsideSet wants['mil']: mil: is mill meant?",
         "E33 OutsideSet cost['soth','hill']",
     ):
-        assert it in said, f"further errors: no {it!r} in {said!r}"
+        assert part in said, f"further errors: no {part!r} in {said!r}"
     found = json.loads(run("netflow-explain", "solve", *words, "--json")[1])
     more = found.get("more", [])
-    assert (len(more), {it["code"] for it in more}) == (
+    assert (len(more), {error["code"] for error in more}) == (
         len(lines) - start - 2,
         {"E33", "E36"},
     ), "further errors as JSON"
@@ -180,11 +180,13 @@ def test_rewritten(tmp_path):
     decimals = write(
         tmp_path, "decimals.dat", (bread / "bread.dat").read_text(encoding="utf-8").replace("hill 30", "hill 30.5")
     )
-    assert (lambda it: (it[0], it[1].split("Drive")[0]))(run("netflow-explain", bread / "bread.mod", decimals)) == (
+    assert (lambda answer: (answer[0], answer[1].split("Drive")[0]))(
+        run("netflow-explain", bread / "bread.mod", decimals)
+    ) == (
         0,
         "Total = 442\n",
     ), "explain: decimals of a file"
-    assert (lambda it: (it[0], it[2].split("\n")[0]))(
+    assert (lambda answer: (answer[0], answer[2].split("\n")[0]))(
         run("netflow-explain", "solve", bread / "bread.mod", decimals)
     ) == (3, "E04 NotWhole data 4:21"), "explain solve: decimals of a file"
     missing = write(tmp_path, "missing.dat", decimals.read_text(encoding="utf-8").replace("van := 40;", "van := 40"))

@@ -2,10 +2,10 @@
 import io
 
 import pytest
-from test_data import COST, DATA, MODEL, WHOLE
 
 import netflow
 from netflow.inputs.python_data import PythonData
+from test_data import COST, DATA, MODEL, WHOLE
 
 SETS, KEYS = {"SHOPS": 1, "LINKS": 2}, {"cost": 2, "wants": 1, "van": 0, "trip": 3}
 WANTS, LINKS = {("hill",): 30, ("lake",): 45}, [("north", "hill"), ("south", "mill")]
@@ -22,7 +22,7 @@ def read(name, value):
 def test_costs():
     """Forms of a parameter with two keys, solved too."""
     grid = pandas.DataFrame([[4, 6, 9], [7, 5, 3]], index=["north", "south"], columns=["hill", "lake", "mill"])
-    rows = pandas.DataFrame([(*key, it) for key, it in COST.items()], columns=["from", "to", "cost"])
+    rows = pandas.DataFrame([(*key, price) for key, price in COST.items()], columns=["from", "to", "cost"])
     series = rows.set_index(["from", "to"])["cost"]
     forms = (
         ("a grid", grid),
@@ -42,8 +42,8 @@ def test_costs():
     for name, cost in forms:
         assert read("cost", cost) == COST, f"cost by {name}"
         assert netflow.solve(MODEL, cost=cost, **WHOLE).value == 440, f"the value by {name}"
-    assert {key: float(it) for key, it in read("cost", grid / 4).items()} == {
-        key: it / 4 for key, it in COST.items()
+    assert {key: float(price) for key, price in read("cost", grid / 4).items()} == {
+        key: price / 4 for key, price in COST.items()
     }, "decimals"
 
 
@@ -103,7 +103,7 @@ def test_sets():
 
 def test_rejected():
     """Tables that do not say what is a key and what is a value."""
-    rows = pandas.DataFrame([(*key, it) for key, it in COST.items()], columns=["from", "to", "price"])
+    rows = pandas.DataFrame([(*key, price) for key, price in COST.items()], columns=["from", "to", "price"])
     twice = pandas.Series([1, 2], index=["hill", "hill"])
     for name, value, said in (
         ("cost", rows, "no column 'cost'"),

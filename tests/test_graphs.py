@@ -17,7 +17,7 @@ def graph(nx, seed):
     dice, kind = random.Random(f"graph {seed}"), KINDS[seed % 4]
     unit = Fraction(1, 4) if kind == "quarters" else 1
     found = (nx.MultiDiGraph if seed % 2 else nx.DiGraph)()
-    names = [f"n{it}" if seed % 3 else it for it in range(dice.randint(2, 12))]
+    names = [f"n{index}" if seed % 3 else index for index in range(dice.randint(2, 12))]
     demands = [dice.randint(-6, 6) for _ in names]
     demands[-1] -= sum(demands)
     for name, demand in zip(names, demands):
@@ -54,7 +54,7 @@ def cost_of(G, flows):
         balance[u] -= flow
         balance[v] += flow
         cost += flow * data.get("weight", 0)
-    wrong = [node for node, it in balance.items() if it]
+    wrong = [node for node, amount in balance.items() if amount]
     return f"the balance of {wrong[0]} is {balance[wrong[0]]}" if wrong else cost
 
 

@@ -1,12 +1,12 @@
 """What is read of compiled texts, plans and cuts is the model that they are of."""
 import pytest
+
 from lib.examples import folders, rows
 from models.instance import reference
 from models.model import Model
-from support import TOP, run, solved, write
-
 from netflow.analysis import reasons as netflow_reasons
 from netflow.reading import output
+from support import TOP, run, solved, write
 
 
 def write_model(folder, seed):
@@ -51,12 +51,12 @@ def check_reasons(instance, net, text):
     one, two = map(int, text.splitlines()[1].split(" ")[1:])
     net.cut = output.read_cut(text, net)
     found = netflow_reasons.reasons(net)
-    assert sum(it.short() for it in found) >= abs(one - two), "less is short than the cut says"
+    assert sum(found_item.short() for found_item in found) >= abs(one - two), "less is short than the cut says"
     for reason in found:
         inside, sign = set(reason.nodes), 1 if reason.side == "under" else -1
-        sides = [instance.nodes[it].low if sign > 0 else instance.nodes[it].high for it in inside]
+        sides = [instance.nodes[number].low if sign > 0 else instance.nodes[number].high for number in inside]
         assert None not in sides, "a side of a node that is told is not given"
-        need = sum(sign * it for it in sides if it is not None)
+        need = sum(sign * side for side in sides if side is not None)
         for arc in instance.arcs:
             if (arc.src in inside) != (arc.dst in inside):
                 into = arc.dst in inside

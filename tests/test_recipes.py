@@ -6,9 +6,9 @@ import re
 import shutil
 
 import pytest
-from support import BREAD, TOP, read, run, write
 
 import netflow
+from support import BREAD, TOP, read, run, write
 
 BLOCK = re.compile(r"(?m)^```python\n(.*?)^```", re.S)
 PLAIN_BLOCK = re.compile(r"(?m)^```\n((?:(?!```).*\n)*)```$")

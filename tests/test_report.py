@@ -8,12 +8,12 @@ import shutil
 import subprocess
 
 import pytest
+
 from cases import mistakes
 from lib.examples import folders
-from support import TOP, run, solved, write
-
 from netflow.report.drawing import overlaps
 from netflow.report.placement import LETTER, grouped
+from support import TOP, run, solved, write
 
 
 class Page(html.parser.HTMLParser):
@@ -25,14 +25,14 @@ class Page(html.parser.HTMLParser):
         super().__init__()
         self.open, self.faults, self.count = [], [], {}
         self.feed(text)
-        self.faults += [f"{it} is not closed" for it in self.open]
+        self.faults += [f"{tag} is not closed" for tag in self.open]
 
     def handle_starttag(self, tag, attrs):
         self.count[tag] = self.count.get(tag, 0) + 1
         self.faults += [
-            f"{name}={it} leads elsewhere"
-            for name, it in attrs
-            if name in ("src", "href", "xlink:href", "action") and not str(it).startswith("#")
+            f"{name}={value} leads elsewhere"
+            for name, value in attrs
+            if name in ("src", "href", "xlink:href", "action") and not str(value).startswith("#")
         ]
         if tag not in self.VOID:
             self.open.append(tag)
@@ -50,18 +50,16 @@ def transport(depots, shops, is_short):
     dice = random.Random(f"{depots} {shops}")
     need = [dice.randint(5, 40) for _ in range(shops)]
     has = sum(need) // depots + (-2 if is_short else 12)
-    names = ["<b>&\"'", *(f"shop {it}" for it in range(1, shops))]
-    quoted = [mistakes.quoted(it) for it in names]
-    rows = "\n".join(f"d{it} " + " ".join(str(dice.randint(3, 60)) for _ in names) for it in range(depots))
+    names = ["<b>&\"'", *(f"shop {index}" for index in range(1, shops))]
+    quoted = [mistakes.quoted(name) for name in names]
+    rows = "\n".join(f"d{index} " + " ".join(str(dice.randint(3, 60)) for _ in names) for index in range(depots))
     model = """set D; set S; param wants {S}; param cost {D, S}; param has;
 minimize Total; node Depot {d in D}: net_out <= has; node Shop {s in S}: net_in = wants[s];
 arc Drive {d in D, s in S} >= 0, <= 40, from Depot[d], to Shop[s], obj Total cost[d,s];
 """
-    data = (
-        f"set D := {' '.join(f'd{it}' for it in range(depots))};\nset S := {' '.join(quoted)};\nparam has := {has};\n"
-    )
+    data = f"set D := {' '.join(f'd{index}' for index in range(depots))};\nset S := {' '.join(quoted)};\nparam has := {has};\n"
     data += (
-        f"param wants := {', '.join(f'{it} {number}' for it, number in zip(quoted, need))};\nparam cost:"
+        f"param wants := {', '.join(f'{name} {number}' for name, number in zip(quoted, need))};\nparam cost:"
         f" {' '.join(quoted)} :=\n{rows}\n;\n"
     )
     return model, data
@@ -82,7 +80,7 @@ def words_of(folder, name):
 
 
 def twice(names):
-    return sorted({it for it in names if names.count(it) > 1})
+    return sorted({name for name in names if names.count(name) > 1})
 
 
 def drawings(text):
@@ -93,8 +91,8 @@ def drawings(text):
 def overlapping(svg):
     """Pairs of nodes that are drawn one on the other."""
     boxes = [
-        tuple(map(float, it))
-        for it in re.findall(r'<rect x="([-\d.]+)" y="([-\d.]+)" width="([\d.]+)" height="([\d.]+)"', svg)
+        tuple(map(float, match))
+        for match in re.findall(r'<rect x="([-\d.]+)" y="([-\d.]+)" width="([\d.]+)" height="([\d.]+)"', svg)
     ]
     return [
         (a, b)
@@ -114,13 +112,15 @@ def test_page(tmp_path, name):
     assert page.faults == [], "tags"
     assert "url(" not in re.sub(r"url\(#\w+\)", "", text), "something is fetched"
     tables = re.findall(r"<section><h2>([^<]*)</h2>\n<p>(\d+) arcs?,.*?</section>", text, re.S)
-    assert {it: int(count) for it, count in tables} == {it: len(arcs) for it, arcs in net.declared().items()}, "arcs"
+    assert {name: int(count) for name, count in tables} == {
+        name: len(arcs) for name, arcs in net.declared().items()
+    }, "arcs"
     rows = sum(
         part.count("<tr") - 1
         for part in re.findall(r"<section><h2>[^<]*</h2>\n<p>\d+ arcs?,(.*?)(?:<details|</section>)", text, re.S)
     )
     assert rows == len(net.arcs), "rows"
-    assert [it for svg in drawings(text) for it in overlapping(svg)] == [], "nodes on one another"
+    assert [pair for svg in drawings(text) for pair in overlapping(svg)] == [], "nodes on one another"
     assert status == 0 or re.search(r'class="reason">[^<]* (short|too much)\.', text), "no reason"
     assert twice(re.findall(r'<g class="node [^"]*" id="(n\d+)"', text)) == [], "places drawn twice"
     drawn = run("netflow-report", *words, "--svg")[1].strip()
@@ -129,10 +129,10 @@ def test_page(tmp_path, name):
     if status == 0 and net.nodes:
         cells = cells_of(re.search(r"<h2>Places</h2>(.*?)</section>", text, re.S)[1])
         each = len(cells) // len(net.nodes)
-        inflows = [int(cells[it + 2]) - int(cells[it + 3]) for it in range(0, len(cells), each)]
-        assert inflows == [it.inflow for it in net.nodes], "inflow minus outflow"
+        inflows = [int(cells[index + 2]) - int(cells[index + 3]) for index in range(0, len(cells), each)]
+        assert inflows == [node.inflow for node in net.nodes], "inflow minus outflow"
     assert status or f"{net.objective} = {grouped(net.value)}<" in text, "no value"
-    assert [it for svg in drawings(text) for it in crowded(svg)] == [], "numbers on one another or on nodes"
+    assert [shown for svg in drawings(text) for shown in crowded(svg)] == [], "numbers on one another or on nodes"
     check_grids(net, text)
     check_totals(net, text)
 
@@ -142,7 +142,7 @@ def check_totals(net, text):
     found = re.search(r"<summary>totals</summary>(.*?)</details>", text, re.S)
     if found:
         declared = re.findall(r"<h2>([^<]*)</h2>", text[: found.start()])[-1]
-        flows = sum(it.flow for it in net.declared()[declared])
+        flows = sum(arc.flow for arc in net.declared()[declared])
         for table in re.findall(r"<tbody>(.*?)</tbody>", found[1], re.S):
             cells = [
                 data or shown
@@ -162,15 +162,15 @@ def crowded(svg):
     if 'class="large"' in svg:
         return []
     nodes = [
-        tuple(map(float, it))
-        for it in re.findall(r'<rect x="([-\d.]+)" y="([-\d.]+)" width="([\d.]+)" height="([\d.]+)"', svg)
+        tuple(map(float, match))
+        for match in re.findall(r'<rect x="([-\d.]+)" y="([-\d.]+)" width="([\d.]+)" height="([\d.]+)"', svg)
     ]
     boxes = [(x, y, x + wide, y + high) for x, y, wide, high in nodes]
     numbers = []
     for x, y, shown in re.findall(r'<g class="arc number [^"]*"><text x="([-\d]+)" y="([-\d]+)">([^<]*)</text>', svg):
         half = LETTER * len(shown) / 2 - 1
         numbers.append((float(x) - half, float(y) - 10, float(x) + half, float(y) + 1, shown))
-    found = [it[4] for it in numbers if any(overlaps(it, box) for box in boxes)]
+    found = [number[4] for number in numbers if any(overlaps(number, box) for box in boxes)]
     return found + [one[4] for here, one in enumerate(numbers) for two in numbers[:here] if overlaps(one, two)]
 
 
@@ -181,9 +181,9 @@ def check_grids(net, text):
     ):
         if "<tfoot>" not in part:
             continue
-        flows = sum(it.flow for it in net.declared()[title])
+        flows = sum(arc.flow for arc in net.declared()[title])
         body, foot = part.split("<tfoot>")
-        cells = [float(it) for it in re.findall(r'<td class="(?:full|zero)?" data-n="([^"]*)"', body)]
+        cells = [float(match) for match in re.findall(r'<td class="(?:full|zero)?" data-n="([^"]*)"', body)]
         assert sum(cells) == flows, f"the grid of {title}"
         last = re.findall(r"<td>([^<]*)</td>", foot)[-1]
         assert last == grouped(flows), f"the total of {title}'s grid"

@@ -7,12 +7,12 @@ import sys
 import zipfile
 
 import pytest
-from support import BREAD, TOOLS, run, solved, write
-from test_report import transport
 
 import netflow
 from netflow.reading import keys
 from netflow.sheets import files, workbooks
+from support import BREAD, TOOLS, run, solved, write
+from test_report import transport
 
 
 def transport_words(folder):
@@ -25,18 +25,18 @@ def test_sheet(tmp_path):
     """A plan's numbers by a reader of values; a model whose data come from sheets; cells that are rejected."""
     words, data = transport_words(tmp_path)
     net = solved(*words)[0]
-    flows = [[*map(str, it.key), str(it.flow)] for it in net.arcs]
+    flows = [[*map(str, arc.key), str(arc.flow)] for arc in net.arcs]
     table = rows_of(run("netflow-sheet", "plan", *words)[1])
-    assert [it[:4] for it in table[1:-2]] == [["Drive", *it] for it in flows], "sheet: one table"
+    assert [row[:4] for row in table[1:-2]] == [["Drive", *flow] for flow in flows], "sheet: one table"
     assert table[-2:] == [[], [net.objective, str(net.value)]], "sheet: the value below it"
     assert table[0] == ["arc", "key 1", "key 2", "flow", "lower", "upper", "price", "from", "to"], "sheet: its head"
     only = rows_of(run("netflow-sheet", "plan", *words, "--only", "Drive")[1])
-    assert (only[0][:3], [it[:3] for it in only[1:]]) == (["D", "S", "flow"], flows), "sheet: one declaration"
+    assert (only[0][:3], [row[:3] for row in only[1:]]) == (["D", "S", "flow"], flows), "sheet: one declaration"
     used = rows_of(run("netflow-sheet", "plan", *words, "--only", "Drive", "--used")[1])
-    assert [it[:3] for it in used[1:]] == [it for it in flows if it[2] != "0"], "sheet: arcs in use"
+    assert [row[:3] for row in used[1:]] == [flow for flow in flows if flow[2] != "0"], "sheet: arcs in use"
     head, *body = rows_of(run("netflow-sheet", "plan", *words, "--grid")[1])[2:]
-    found = {(row[0], to): it for row in body for to, it in zip(head[1:], row[1:])}
-    assert found == {tuple(it.key): str(it.flow) for it in net.arcs}, "sheet: grid"
+    found = {(row[0], to): cell for row in body for to, cell in zip(head[1:], row[1:])}
+    assert found == {tuple(arc.key): str(arc.flow) for arc in net.arcs}, "sheet: grid"
     check_data(tmp_path, net, words, next(line for line in data.splitlines() if line.startswith("param has")))
 
 
@@ -225,9 +225,9 @@ def test_scenarios(tmp_path):
     needs = base.value
     has = int(re.search(r"param has := (\d+);", data)[1])
     values = {}
-    for it in (has + 3, has, 1):
-        changed = write(tmp_path, "c.dat", data.replace(f"param has := {has};", f"param has := {it};"))
-        values[it] = run("netflow", "solve", words[0], changed)
+    for stock in (has + 3, has, 1):
+        changed = write(tmp_path, "c.dat", data.replace(f"param has := {has};", f"param has := {stock};"))
+        values[stock] = run("netflow", "solve", words[0], changed)
     table = rows_of(
         run("netflow-sheet", "scenarios", *words, "--vary", f"has={has + 3},{has},1", "--case", f"has={has}")[1]
     )
@@ -251,9 +251,9 @@ def test_scenarios(tmp_path):
         "netflow-sheet: flows are multiples of 0.1, since has has decimals;"
     ), f"sheet: a stock with decimals: {half[2]!r}"
     first = base.arcs[0]
-    case = f"cost[{','.join(keys.shown(it) for it in first.key)}]={first.price + 50}"
+    case = f"cost[{','.join(keys.shown(member) for member in first.key)}]={first.price + 50}"
     rows = rows_of(run("netflow-sheet", "diff", *words, "--case", case)[1])
-    before = {tuple(it.key): it.flow for it in base.arcs}
+    before = {tuple(arc.key): arc.flow for arc in base.arcs}
     assert rows and rows[1][0] == base.objective, "diff: no row of the objective"
     for row in rows[2:]:
         assert (row[3], int(row[5])) == (str(before[tuple(row[1:3])]), int(row[4]) - int(row[3])), f"diff: {row}"
@@ -261,15 +261,17 @@ def test_scenarios(tmp_path):
 
 def check_data(folder, net, words, rest):
     """The model with data from sheets, by each mark between cells, compiles to the same text."""
-    prices = {tuple(it.key): it.price for it in net.arcs}
+    prices = {tuple(arc.key): arc.price for arc in net.arcs}
     depots, shops = (list(dict.fromkeys(key[place] for key in prices)) for place in (0, 1))
-    wants = {it.text: it.low for it in net.nodes if it.low > 0}
+    wants = {node.text: node.low for node in net.nodes if node.low > 0}
     for mark, turned in ((",", False), (";", True), ("\t", False)):
         down, across = (shops, depots) if turned else (depots, shops)
-        grid = [[it, *(prices[(other, it) if turned else (it, other)] for other in across)] for it in down]
+        grid = [
+            [member, *(prices[(other, member) if turned else (member, other)] for other in across)] for member in down
+        ]
         sheets = {
-            "d": [[it] for it in depots],
-            "wants": [["shop", "wants"], *([it, wants[f"Shop[{keys.shown(it)}]"]] for it in shops)],
+            "d": [[depot] for depot in depots],
+            "wants": [["shop", "wants"], *([shop, wants[f"Shop[{keys.shown(shop)}]"]] for shop in shops)],
             "cost": [["", *across], *grid],
         }
         paths = {name: write(folder, f"{name}.csv", sheet_text(lines, mark)) for name, lines in sheets.items()}
@@ -278,7 +280,7 @@ def check_data(folder, net, words, rest):
             ["list", paths["wants"], "--set", "S"],
             ["grid", "cost", paths["cost"], *["--turned"] * turned],
         )
-        made = "".join(run("netflow-sheet", *it)[1] for it in calls)
+        made = "".join(run("netflow-sheet", *call)[1] for call in calls)
         other = words[0], write(folder, "made.dat", f"{made}{rest}\n")
         assert run("netflow", "compile", *other) == run("netflow", "compile", *words), f"sheet: data by {mark!r}"
 

@@ -18,10 +18,10 @@ def test_simple_min_cost_flow():
         (4, 2, 5, 3),
     ]
     flow = netflow.SimpleMinCostFlow(certify=True)
-    numbers = [flow.add_arc_with_capacity_and_unit_cost(*it) for it in arcs]
+    numbers = [flow.add_arc_with_capacity_and_unit_cost(*arc) for arc in arcs]
     flow.set_nodes_supplies(range(5), [20, 0, 0, -5, -15])
     assert (flow.solve(), flow.optimal_cost()) == (flow.OPTIMAL, 150), "status and cost"
-    assert sum(flow.flow(it) * flow.unit_cost(it) for it in numbers) == 150, "cost of the flows"
+    assert sum(flow.flow(number) * flow.unit_cost(number) for number in numbers) == 150, "cost of the flows"
     assert (flow.num_nodes(), flow.num_arcs(), flow.tail(0), flow.head(0), flow.capacity(0), flow.supply(0)) == (
         5,
         9,

@@ -42,7 +42,7 @@ def test_points(tmp_path):
         status, out, errors = run(*words, model, pointed)
         shown = (out + errors).replace("&#x27;", "'")
         assert (
-            status == 2 and all(it in shown for it in said) and shown.count(POINT) == 3
+            status == 2 and all(line in shown for line in said) and shown.count(POINT) == 3
         ), f"{words}: grouped digits: {status} {shown[-900:]!r}"
     whole = bread(tmp_path, "whole.dat", ("van := 40", "van := 1.000"))
     line = f"van is 1.000 in line 5: is 1000 meant? {POINT}"

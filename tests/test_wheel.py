@@ -7,10 +7,10 @@ import venv
 import zipfile
 
 import pytest
-from lib.version import version
-from support import BREAD, BUILT, TOP
 
 import netflow
+from lib.version import version
+from support import BREAD, BUILT, TOP
 
 TRIAL = """import netflow
 plan = netflow.solve("bread.mod", "bread.dat", van=45)

@@ -4,12 +4,12 @@ import math
 import random
 
 import pytest
-from support import run, write
 
 from netflow.analysis import changes as netflow_changes
 from netflow.analysis import reasons as netflow_reasons
 from netflow.analysis import sensitivity
 from netflow.reading import keys, output
+from support import run, write
 
 PLAIN = """set P; set L within P cross P; param low {P}; param high {P}; param least {L}; param most {L}; param price {L};
 minimize Cost;
@@ -25,9 +25,9 @@ class Plain:
     def __init__(self, seed):
         dice, places = random.Random(f"plain {seed}"), "abcdef"
         self.nodes = {}
-        for it in places:
+        for place in places:
             low = dice.randint(-6, 5)
-            self.nodes[it] = [low, low + dice.choice((0, 0, 2, 6))]
+            self.nodes[place] = [low, low + dice.choice((0, 0, 2, 6))]
         self.arcs = {}
         for pair in dice.sample([(i, j) for i in places for j in places if i != j], 14):
             least = dice.choice((0, 0, 0, 1, -3))
@@ -35,7 +35,7 @@ class Plain:
 
     def solve(self, folder):
         """The model's words, and its answer."""
-        rows = "".join(f"{it} {low} {high}\n" for it, (low, high) in self.nodes.items())
+        rows = "".join(f"{node} {low} {high}\n" for node, (low, high) in self.nodes.items())
         ways = "".join(f"{i} {j} {' '.join(map(str, numbers))}\n" for (i, j), numbers in self.arcs.items())
         text = (
             f"set P := {' '.join(self.nodes)};\nparam: low high :=\n{rows};\nparam: L: least most price :=\n{ways};\n"
@@ -78,24 +78,30 @@ def test_least_changes(tmp_path, seed):
     assert (
         netflow_reasons.cut_besides(net, found) is None
     ), f"plain {seed}: sets that are short besides those that are listed"
-    assert len({(it.side, *it.nodes) for it in found}) == len(found), f"plain {seed}: sets that are listed twice"
-    short = max(it.short() for it in found)
+    assert len({(found_item.side, *found_item.nodes) for found_item in found}) == len(
+        found
+    ), f"plain {seed}: sets that are listed twice"
+    short = max(found_item.short() for found_item in found)
     assert (
         f"{short} short" in said[1] or f"{short} too much" in said[1]
     ), f"plain {seed}: {short} is not reported as short"
     least = netflow_changes.least_changes(net)
     assert (
-        sum(it.amount != min_total(least) for it in least.single) == 0
+        sum(change.amount != min_total(least) for change in least.single) == 0
     ), f"plain {seed}: changes at one place are no least changes"
-    for what, changes in [*least.kinds.items(), *(("at one place", [it]) for it in least.single)]:
-        assert changes is None or sum(it.amount for it in changes) >= short, f"plain {seed}: {what}: less than is short"
+    for what, changes in [*least.kinds.items(), *(("at one place", [change]) for change in least.single)]:
+        assert (
+            changes is None or sum(change.amount for change in changes) >= short
+        ), f"plain {seed}: {what}: less than is short"
         other = Plain(seed)
-        if changes and all([other.take(it) for it in changes]):
-            assert other.solve(tmp_path)[1][0] == 0, f"plain {seed}: {what}: with {[it.sentence() for it in changes]}"
+        if changes and all([other.take(change) for change in changes]):
+            assert (
+                other.solve(tmp_path)[1][0] == 0
+            ), f"plain {seed}: {what}: with {[change.sentence() for change in changes]}"
 
 
 def min_total(least):
-    return min((sum(it.amount for it in changes) for changes in least.kinds.values() if changes), default=None)
+    return min((sum(change.amount for change in changes) for changes in least.kinds.values() if changes), default=None)
 
 
 def value(answer):
@@ -140,7 +146,7 @@ def check_range(folder, seed, net, number, marginal):
     values = []
     for count in (units, units + 1):
         other, key = Plain(seed), keys.reference(node.text)[1][0]
-        other.nodes[key] = [it + count for it in other.nodes[key]]
+        other.nodes[key] = [node + count for node in other.nodes[key]]
         values.append(value(other.solve(folder)[1]))
     assert values[0] == net.value + units * cost, f"plain {seed}: {node.text}, {units} more"
     assert (

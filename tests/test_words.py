@@ -6,9 +6,9 @@ import pathlib
 import re
 
 import pytest
-from support import TOOLS, TOP, run, write
 
 from netflow.reading.headings import first_comment
+from support import TOOLS, TOP, run, write
 
 
 def script(path):
@@ -26,18 +26,18 @@ def test_words():
     """Each tool and each of its options is in the manual page and in the completions, and is installed."""
     manual = (TOP / "share" / "netflow-companions.1").read_text(encoding="utf-8").replace("\\-", "-")
     completions = [
-        (TOP / "share" / "completions" / it).read_text(encoding="utf-8")
-        for it in ("netflow.bash", "netflow.fish", "_netflow-companions")
+        (TOP / "share" / "completions" / name).read_text(encoding="utf-8")
+        for name in ("netflow.bash", "netflow.fish", "_netflow-companions")
     ]
     installed = re.search(r"for companion in (.*); do", (TOP / "scripts" / "install").read_text(encoding="utf-8"))[
         1
     ].split()
-    names = sorted(it.name for it in TOOLS.iterdir() if it.name.startswith("netflow-"))
-    assert sorted(f"netflow-{it}" for it in installed) == names, "what scripts/install installs"
+    names = sorted(path.name for path in TOOLS.iterdir() if path.name.startswith("netflow-"))
+    assert sorted(f"netflow-{name}" for name in installed) == names, "what scripts/install installs"
     for name in names:
         usage = run(name, "--help")[1].partition("\n\n")[0]
         assert f".B {name}" in manual and all(
-            name in it for it in completions
+            name in completion for completion in completions
         ), f"{name}: not in the manual page or a completion"
         for option in set(re.findall(r"--[a-z]+", usage)):
             told = [
@@ -55,7 +55,7 @@ def test_editors():
     grammar = json.loads(
         (TOP / "share" / "editors" / "vscode" / "syntaxes" / "netflow.tmLanguage.json").read_text(encoding="utf-8")
     )
-    patterns = [re.compile(it["match"]) for it in grammar["patterns"] if "match" in it]
+    patterns = [re.compile(pattern["match"]) for pattern in grammar["patterns"] if "match" in pattern]
     page = (TOP / "docs" / "reference" / "language.md").read_text(encoding="utf-8")
     words = re.search(r"(?m)^```\n(and arc .*?)^```", page, re.S)
     assert words, "docs/reference/language.md has no list of reserved words"

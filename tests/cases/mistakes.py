@@ -61,8 +61,8 @@ class Mistake:
 
 
 MISTAKES = [
-    Mistake(*it)
-    for it in (
+    Mistake(*fields)
+    for fields in (
         (
             "no ; in the model",
             "model",

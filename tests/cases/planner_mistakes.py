@@ -18,7 +18,7 @@ def workbook():
     with zipfile.ZipFile(made, "w", zipfile.ZIP_DEFLATED) as book:
         book.writestr(
             "[Content_Types].xml",
-            "<Types>" + "".join(f"<Override PartName='/xl/{it * it}.xml'/>" for it in range(99)) + "</Types>",
+            "<Types>" + "".join(f"<Override PartName='/xl/{index * index}.xml'/>" for index in range(99)) + "</Types>",
         )
     return made.getvalue()
 
