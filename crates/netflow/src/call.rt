@@ -5,10 +5,12 @@ ghost use Rattle.std.specs.Option.{option_copied};
 ghost use Rattle.std.specs.Prelude.{◌≡◌, string_bytes, option_map, ℕ, List, Option, false, ⊤, IfSome};
 
 use crate::words::{Action, Words};
+use either::{Either, Left, Right};
 use net_driver::Options;
 use net_io::{OfRead, Source};
 use std::fs;
 use std::fs::Files;
+use std::io::Input;
 
 /// A call with the paths of its files.
 pub enum Call<'w> {
@@ -79,21 +81,29 @@ pub trait InputFiles {
         ensures unread { IfSome result (λ file. Self.Input.failed file ≡ false) };
 }
 
-/// The files of a runtime.
+/// The path of standard input.
+const STANDARD_INPUT: &str = "/dev/stdin";
+
+/// The files of a runtime, with its standard input at `/dev/stdin`.
 #[derive(Drop)]
 pub struct RuntimeFiles<'r, R> {
     pub runtime: &'r R,
 }
 
-impl<R: Files> InputFiles for RuntimeFiles<'_, R> {
-    type Input = OfRead<R::File>;
+impl<R: Files + Input> InputFiles for RuntimeFiles<'_, R> {
+    type Input = OfRead<Either<R::File, R::Reader>>;
 
     // std's contracts do not say which bytes a file has, so opening it can give any file.
     ghost opens = { λ _ _ _. ⊤ };
 
-    fn open(&self, path: &str) -> Option<OfRead<R::File>> {
+    fn open(&self, path: &str) -> Option<OfRead<Either<R::File, R::Reader>>> {
+        // A process can read a socket or another user's pipe as its standard input, but the system
+        // does not let it open them by this path.
+        if path == STANDARD_INPUT {
+            return Some(OfRead::new(Right(self.runtime.reader())));
+        }
         match fs::open(self.runtime, path) {
-            Ok(file) => Some(OfRead::new(file)),
+            Ok(file) => Some(OfRead::new(Left(file))),
             Err(_) => None,
         }
     }
