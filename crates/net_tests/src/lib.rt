@@ -30,6 +30,8 @@ mod shapes;
 #[cfg(test)]
 mod solvers;
 #[cfg(test)]
+mod statements;
+#[cfg(test)]
 mod steps;
 #[cfg(test)]
 mod texts;

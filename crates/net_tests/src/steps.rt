@@ -1,12 +1,11 @@
-//! The calls that read a model and its data one after the other: tokens, trees, statements.
+//! The calls that read a model: tokens and trees. Also the tokens of data.
 
 use crate::comparison::expect;
 use net_base::{Fault, Span};
-use net_data::{Cells, Given, Statement, Tables, parse_data};
-use net_lex::{Token, Word, Words, lex_data, lex_model};
+use net_lex::{Token, Words, lex_data, lex_model};
 use net_model::{free_model, parse_model};
 use net_sets::HashKey;
-use net_tree::{Body, Decl, Model, Phrase, span_of};
+use net_tree::{Body, Braces, Decl, Model, Phrase, braces_span, condition_span, span_of};
 use std::alloc::{AllocError, Global};
 use std::test::Fail;
 
@@ -143,12 +142,42 @@ fn phrases_of<'d, 's>(declaration: &'d Decl<'s>) -> &'d [Phrase<'s>] {
     }
 }
 
-/// The word and the name of a declaration, its phrases, and the bytes of their expressions.
+fn braces_of<'d, 's>(declaration: &'d Decl<'s>) -> Option<&'d Braces<'s>> {
+    match declaration {
+        Decl::Param(_, _, braces, _, _) => braces.as_ref(),
+        Decl::Check(_, braces, _, _, _) => braces.as_ref(),
+        Decl::Node(_, _, braces, _, _) => braces.as_ref(),
+        Decl::Arc(_, _, braces, _, _) => braces.as_ref(),
+        _ => None,
+    }
+}
+
+/// The bytes of the condition of a check or a node, or of the expression of an objective.
+fn condition_of(declaration: &Decl<'_>) -> Option<Span> {
+    match declaration {
+        Decl::Check(_, _, _, condition, _) => Some(span_of(condition)),
+        Decl::Node(_, _, _, condition, _) => condition_span(condition),
+        Decl::Objective(_, _, Some(part), _) => Some(span_of(&part.value)),
+        _ => None,
+    }
+}
+
+/// A word, and the bytes of a part of a declaration, if it has this part.
+fn part_shown(alloc: Global, word: &str, part: Option<Span>) -> Result<String, AllocError> {
+    match part {
+        Some(Span { start, end }) => format!(in alloc; " {word} {start}..{end}"),
+        None => Ok(String::new(alloc)),
+    }
+}
+
+/// The word and the name of a declaration, its phrases, and the bytes of its braces and expressions.
 fn declaration_shown(alloc: Global, declaration: &Decl<'_>) -> Result<String, AllocError> {
     let (word, name) = words_of(declaration);
     let (word, name) = (word.text.as_str(), name.text.as_str());
+    let braces = part_shown(alloc, "over", braces_of(declaration).map(braces_span))?;
     let phrases = phrases_shown(alloc, phrases_of(declaration))?;
-    format!(in alloc; "{word} {name}{phrases};")
+    let condition = part_shown(alloc, "is", condition_of(declaration))?;
+    format!(in alloc; "{word} {name}{braces}{phrases}{condition};")
 }
 
 fn model_shown(alloc: Global, model: &Model<'_>) -> Result<String, AllocError> {
@@ -181,8 +210,10 @@ fn declarations_of(alloc: Global, model: &[u8]) -> Result<String, AllocError> {
 /// Models, with their declarations or the error.
 const MODELS: &[(&str, &str)] = &[
     (
-        "set S := {3,1}; param p {S} >= 0, integer; check: 1 = 1; minimize C; node N {S}; arc F >= 0, <= 1+2, to N[3], obj C 5;",
-        "set S := 9..14;param p >= 31..32 integer;check :;minimize C;node N;arc F >= 90..91 <= 96..99 to 104..108 obj C 116..117;",
+        "set S := {3,1}; param p {S} >= 0, integer; check {i in S}: p[i] = 1; minimize C; maximize D: 2 * 3; \
+node N {S}: 1 <= net_in <= 4; node M; arc F {S} >= 0, <= 1+2, to N[3], obj C 5;",
+        "set S := 9..14;param p over 24..27 >= 31..32 integer;check : over 49..57 is 59..67;minimize C;maximize D is 93..98;\
+node N over 107..110 is 112..128;node M;arc F over 144..147 >= 151..152 <= 157..160 to 165..169 obj C 177..178;",
     ),
     (
         "minimize C; node A",
@@ -198,89 +229,6 @@ const MODELS: &[(&str, &str)] = &[
 fn models_have_declarations(rt: HostRuntime) -> Result<(), Fail> {
     for (model, wanted) in MODELS {
         expect(model, declarations_of(rt.alloc(), model.as_bytes()), wanted)?;
-    }
-    Ok(())
-}
-
-fn cells_shown(alloc: Global, cells: &[Word<'_, '_>]) -> Result<String, AllocError> {
-    let mut out = String::new(alloc);
-    for cell in cells {
-        out.push_str(" ")?;
-        out.push_str(cell.text().as_str())?;
-    }
-    Ok(out)
-}
-
-fn given_shown(alloc: Global, given: &Option<Given<'_, '_>>) -> Result<String, AllocError> {
-    match given {
-        Some(given) => cells_shown(alloc, given.cells.as_slice()),
-        None => String::from_str(alloc, " nothing"),
-    }
-}
-
-/// The cells of a set's first item.
-fn item_shown(alloc: Global, first: &Option<Cells<'_, '_>>) -> Result<String, AllocError> {
-    match first {
-        Some(cells) => {
-            let mut words = Vec::new(alloc);
-            cells.push_to(&mut words)?;
-            cells_shown(alloc, words.as_slice())
-        }
-        None => String::from_str(alloc, " nothing"),
-    }
-}
-
-fn statement_shown(alloc: Global, statement: &Statement<'_, '_>) -> Result<String, AllocError> {
-    let (name, cells) = match statement {
-        Statement::Set(it) => (it.name.text(), item_shown(alloc, &it.items.first())?),
-        Statement::List(it) => (it.name.text(), given_shown(alloc, &it.given)?),
-        Statement::Table(it) => (it.name.text(), cells_shown(alloc, it.cells.as_slice())?),
-        Statement::Columns(it) => (it.colon.text(), cells_shown(alloc, it.cells.as_slice())?),
-    };
-    let name = name.as_str();
-    format!(in alloc; "{name}{cells};")
-}
-
-fn tables_shown(alloc: Global, tables: &Tables<'_, '_>) -> Result<String, AllocError> {
-    let mut out = String::new(alloc);
-    for statement in tables.statements.as_slice() {
-        out.push_str(statement_shown(alloc, statement)?.as_str())?;
-    }
-    Ok(out)
-}
-
-fn statements_in(alloc: Global, tokens: &Words<'_, '_>) -> Result<String, AllocError> {
-    match parse_data(alloc, tokens) {
-        Ok(tables) => tables_shown(alloc, &tables),
-        Err(fault) => line_of(alloc, &fault),
-    }
-}
-
-fn statements_of(alloc: Global, data: &[u8]) -> Result<String, AllocError> {
-    match lex_data(alloc, data) {
-        Ok(tokens) => statements_in(alloc, &tokens.words()),
-        Err(fault) => line_of(alloc, &fault),
-    }
-}
-
-/// Data, with their statements or the error. Of a set the first item is shown, of a parameter all cells.
-const DATA: &[(&str, &str)] = &[
-    (
-        "data; set L := (a,b) (b,a); param p default 0 := a 5; param q; param c: x y := r 1 2; param: L: u v := a b 3 4; end;",
-        "L a b;p a 5;q nothing;c r 1 2;: a b 3 4;",
-    ),
-    ("set S 1;", "E20 Syntax in the data, bytes 6..7"),
-    (
-        "param c: x y := r 1 2 s 3;",
-        "E21 RowWidth in the data, bytes 24..25",
-    ),
-    ("param: := ;", "E22 TableWidth in the data, bytes 7..9"),
-];
-
-#[test]
-fn data_have_statements(rt: HostRuntime) -> Result<(), Fail> {
-    for (data, wanted) in DATA {
-        expect(data, statements_of(rt.alloc(), data.as_bytes()), wanted)?;
     }
     Ok(())
 }

@@ -3,7 +3,9 @@
 ghost use Rattle.std.specs.Prelude.{◌≡◌, ◌≤◌, false};
 
 use crate::ends::Filling;
-use crate::texts::{CERTIFICATE, COMPILED, DATA, MODEL, PLAN, PROBLEM};
+use crate::texts::{
+    CERTIFICATE, CITIES, CITIES_COMPILED, CITIES_DATA, DATA, NEGATIVE, NEGATIVE_PLAN, PROBLEM,
+};
 use net_driver::{Fault, run_check, run_compile, run_min, run_solve};
 use net_io::{MemorySink, MemorySource, OfWrite, Sink};
 use std::alloc::{AllocError, Global};
@@ -62,7 +64,8 @@ impl Trial {
 /// Returns the two inputs of a run.
 pub fn texts_of(run: Run) -> (&'static [u8], &'static [u8]) {
     match run {
-        Run::Compile | Run::Solve => (MODEL, DATA),
+        Run::Compile => (CITIES, CITIES_DATA),
+        Run::Solve => (NEGATIVE, DATA),
         Run::Check => (PROBLEM.as_bytes(), CERTIFICATE.as_bytes()),
         Run::Min => (PROBLEM.as_bytes(), b""),
     }
@@ -71,8 +74,8 @@ pub fn texts_of(run: Run) -> (&'static [u8], &'static [u8]) {
 /// Returns the expected output for these inputs.
 pub fn answer_of(run: Run) -> &'static str {
     match run {
-        Run::Compile => COMPILED,
-        Run::Solve => PLAN,
+        Run::Compile => CITIES_COMPILED,
+        Run::Solve => NEGATIVE_PLAN,
         Run::Check => "yes\n",
         Run::Min => CERTIFICATE,
     }
