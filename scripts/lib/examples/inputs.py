@@ -8,15 +8,24 @@ from lib.examples.rows import row_answer
 
 
 def check_texts(cases, complaints, seconds=None):
-    """Compares the answers of `compile` to models with data, given as bytes, in the form of a row's answer, within a time."""
+    """Compares the answers of `compile` to models with data, given as bytes, within a time: in the form of a row's answer; or the
+    whole output, if that is given as bytes."""
     with tempfile.TemporaryDirectory() as folder:
         model, data = pathlib.Path(folder) / "text.mod", pathlib.Path(folder) / "text.dat"
         for name, model_text, data_text, wanted in cases:
             model.write_bytes(model_text)
             data.write_bytes(data_text)
-            found = row_answer(wanted, *run(["compile", model, data], seconds))
-            if found != wanted:
-                complaints.append(f"{name}: wanted {wanted}, got {found[:200]}")
+            given = run(["compile", model, data], seconds)
+            found = given if isinstance(wanted, bytes) else row_answer(wanted, *given)
+            if found != ((0, wanted, b"") if isinstance(wanted, bytes) else wanted):
+                complaints.append(f"{name}: wanted {wanted[:200]}, got {str(found)[:200]}")
+
+
+def problem_text(constant, nodes, arcs, lines):
+    """Returns what `compile` writes of an objective to minimize, with these names of nodes and of arcs from 1 up, without offsets."""
+    text = [f"c constant {constant}", "c sign 1", *(f"c node {number} {name}" for number, name in enumerate(nodes, 1))]
+    text += [f"c arc {number} 0 {name}" for number, name in enumerate(arcs, 1)]
+    return "".join(f"{line}\n" for line in [*text, *lines]).encode()
 
 
 def check_odd_bytes(complaints):
@@ -39,17 +48,20 @@ def check_odd_bytes(complaints):
 def check_lengths(complaints):
     """Tokens and files of the greatest length, and one byte longer; that a string is open is reported before its length."""
     model, three = b"param p; minimize V: p;", b"minimize V: 3;"
-    one_arc = (TOP / "examples" / "one_arc" / "one_arc.mod").read_bytes()
+    one_arc, written = ((TOP / "examples" / "one_arc" / name).read_bytes() for name in ("one_arc.mod", "compile.txt"))
+    node, arc, cost = (it * 255 for it in ("n", "_", "C"))
+    named = f"minimize {cost}; node {node}: net_in = 1; arc {arc} >= 0, <= 2, to {node}, obj {cost} 5;".encode()
     cases = [
-        ("a long name", b"minimize %s: 3;" % (b"a" * 255), b"", "3"),
+        ("a long name", b"minimize %s: 3;" % (b"a" * 255), b"", problem_text(3, [], [], ["p min 1 0"])),
+        ("three long names", named, b"", problem_text(0, [node], [arc], ["p min 2 1", "n 1 -1", "n 2 1", "a 2 1 0 2 5"])),
         ("too long a name", b"minimize %s: 3;" % (b"a" * 256), b"", "E07 TextTooLong model 1:10"),
         ("a long numeral", model, b"param p := %s7;" % (b"0" * 254), "7"),
         ("too long a numeral", model, b"param p := %s7;" % (b"0" * 255), "E07 TextTooLong data 1:12"),
         ("too long a string", model, b"'" * 256, "E07 TextTooLong data 1:1"),
         ("a long string that is open", model, b"'" * 257, "E02 OpenString data 1:1"),
-        ("a long model", three.ljust(2**20), b"", "3"),
+        ("a long model", three.ljust(2**20), b"", problem_text(3, [], [], ["p min 1 0"])),
         ("too long a model", three.ljust(2**20 + 1), b"", "E07 TextTooLong model 1:1"),
-        ("a network with blanks up to the limit", one_arc.ljust(2**20), b"", "A B"),
+        ("a network with blanks up to the limit", one_arc.ljust(2**20), b"", written),
         ("a network with a blank more", one_arc.ljust(2**20 + 1), b"", "E07 TextTooLong model 1:1"),
         ("data longer than a model", three, b" " * (2**20 + 1), "3"),
         ("too long data", three, b" " * (2**24 + 1), "E07 TextTooLong data 1:1"),
@@ -150,10 +162,12 @@ def check_items(complaints):
 def check_more_limits(complaints):
     """Both sides of the limits on nodes, arcs, keys and components of a model, and on nodes of a problem."""
     head = b"minimize V: 3; node A; "
+    nodes, arcs = ([f"{name}[{i}]" for i in range(1, count + 1)] for name, count in (("N", 10_000), ("X", 100_000)))
     cases = [
-        ("as many nodes as there may be", b"minimize V: 3; node N {i in 1..10000};", "3"),
+        ("as many nodes as there may be", b"minimize V: 3; node N {i in 1..10000};", problem_text(3, nodes, [], ["p min 10001 0"])),
         ("a node more", b"minimize V: 3; node N {i in 1..10001};", "E59 TooManyNodes model 1:21 N"),
-        ("as many arcs as there may be", head + b"arc X {i in 1..100000} >= 0, <= 1, from A;", "3"),
+        ("as many arcs as there may be", head + b"arc X {i in 1..100000} >= 0, <= 1, from A;",
+         problem_text(3, ["A"], arcs, ["p min 2 100000"] + ["a 1 2 0 1 0"] * 100_000)),
         ("an arc more", head + b"arc X {i in 1..100001} >= 0, <= 1, from A;", "E60 TooManyArcs model 1:28 X"),
         ("as many keys as there may be", b"minimize V: 3; param p {i in 1..1000, j in 1..1000} default 0;", "3"),
         ("a row of keys more", b"minimize V: 3; param p {i in 1..1001, j in 1..1000} default 0;", "E40 TooMany model 1:24"),

@@ -35,10 +35,21 @@ def rows_of(path):
     yield row
 
 
+def whole(answer):
+    """Returns what the program does to give an answer, an error line or the text of an output: status, standard output and error."""
+    line = f"{answer}\n".encode()
+    if re.match(r"E\d\d ", answer):
+        return 4 if answer.startswith("E9") else 3, b"", line
+    return 2 if answer.startswith("infeasible\n") else 0, line, b""
+
+
 def row_answer(wanted, status, text, stderr):
-    """Returns the answer of `compile` in the form of a row's answer."""
-    if status:
-        return stderr.decode(errors="replace").rstrip("\n")
+    """Returns the answer of `compile` in the form of a row's answer; all of what the program did, if that is no answer."""
+    line = stderr.decode(errors="replace").rstrip("\n")
+    if (status, text, stderr) == whole(line) and line.startswith("E"):
+        return line
+    if status or stderr or not text.endswith(b"\n"):
+        return f"status {status}, {text[:200]!r}, {stderr[:200]!r}"
     lines = text.decode().splitlines()
     if wanted.lstrip("-").isdigit():
         return lines[0].removeprefix("c constant ")
@@ -53,10 +64,9 @@ def check_row(row, words, complaints):
             complaints.append(f"{row.place}: wanted {row.text('=')}, got {found}")
     for sign, call in (("+", "compile"), ("~", "solve")):
         if row.lines[sign]:
-            _, text, stderr = run([call, *words])
-            found = (stderr or text).decode(errors="replace").rstrip("\n")
-            if found not in row.text(sign).split("\n\n"):
-                complaints.append(f"{row.place}: {call}: wanted {row.text(sign)}, got {found}")
+            given, answers = run([call, *words]), row.text(sign).split("\n\n")
+            wanted = next((it for it in answers if whole(it) == given), answers[0])
+            compare(f"{row.place}: {call}", whole(wanted), given, complaints)
 
 
 def check_rows(complaints):

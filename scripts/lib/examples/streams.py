@@ -1,7 +1,9 @@
 """Files and streams that fail or never end, outputs that take no more, limits of files, prefixes, and the command line."""
+import os
 import pathlib
 import resource
 import signal
+import socket
 import subprocess
 import sys
 import tempfile
@@ -9,8 +11,8 @@ import tempfile
 from faultlines import TEXTS, complaint
 from lib.command import TOP
 from lib.examples.program import PROGRAM, compare, rejected, run
+from lib.examples.rows import rows_of
 from lib.version import version
-
 
 
 def check_limits(complaints):
@@ -67,6 +69,8 @@ def check_ends(complaints):
         (["min", TOP], "E90 ReadFault problem", 4),
         (["check", TOP, right], "E90 ReadFault problem", 4),
         (["check", problem, TOP], "E90 ReadFault certificate", 4),
+        # Both files are read before the first is checked.
+        (["compile", "/dev/zero", TOP], "E90 ReadFault data", 4),
     ]
     for words, line, status in cases:
         compare(" ".join(map(str, words)), rejected(line, status), run(words), complaints)
@@ -100,6 +104,29 @@ def check_endless(complaints):
         compare(f"{words[0]}, without an end", rejected(line, 3), (done.returncode, done.stdout, done.stderr), complaints)
 
 
+def check_standard_input(complaints):
+    """Standard input by its path: a pipe, a file that was read in part, a socket, which no path opens, and one that is closed."""
+    folder = TOP / "examples" / "one_arc"
+    model, wanted = (folder / "one_arc.mod").read_bytes(), (0, (folder / "compile.txt").read_bytes(), b"")
+    words = [str(PROGRAM), "compile", "/dev/stdin", "/dev/null"]
+    done = subprocess.run(words, input=model, capture_output=True)
+    compare("a pipe", wanted, (done.returncode, done.stdout, done.stderr), complaints)
+    with tempfile.TemporaryFile() as file:
+        file.write(b"set S;\n" + model)
+        file.flush()
+        os.lseek(file.fileno(), 7, os.SEEK_SET)
+        done = subprocess.run(words, stdin=file, capture_output=True)
+    compare("a file that was read in part", wanted, (done.returncode, done.stdout, done.stderr), complaints)
+    ours, theirs = socket.socketpair()
+    with ours, theirs:
+        ours.sendall(model)
+        ours.shutdown(socket.SHUT_WR)
+        done = subprocess.run(words, stdin=theirs, capture_output=True)
+    compare("a socket", wanted, (done.returncode, done.stdout, done.stderr), complaints)
+    done = subprocess.run(["sh", "-c", 'exec "$@" <&-', "sh", *words], capture_output=True)
+    compare("a closed standard input", rejected("E90 ReadFault model", 4), (done.returncode, done.stdout, done.stderr), complaints)
+
+
 def check_long_lines(complaints):
     """Problems of 64 MiB in one line, or nearly: they are answered in less memory than their length."""
     size = 2**26
@@ -126,19 +153,28 @@ def check_long_lines(complaints):
             compare(f"a long line of a problem: {name}", wanted, (done.returncode, done.stdout, done.stderr), complaints)
 
 
+def whole_answers(*first_lines):
+    """Yields the model and the data of the first rows of models.txt whose models begin with these lines, each as one text."""
+    rows = list(rows_of(TOP / "examples" / "rows" / "models.txt"))
+    for line in first_lines:
+        row = next(it for it in rows if it.lines["+"] and it.text(">").startswith(line))
+        yield row.text(">").encode(), row.text("|").encode()
+
+
 def check_prefixes(complaints):
     """Every prefix of some inputs is answered, or rejected at a position in it or at its end."""
-    top = TOP / "examples"
-    cases = [("compile", [top / name / f"{name}.mod", top / name / f"{name}.dat"]) for name in ("cities", "max_flow")]
-    cases.append(("check", [top / "eight_cities" / "problem.min", top / "eight_cities" / "glpk.sol"]))
+    problem = TOP / "examples" / "eight_cities"
+    cases = [("check", (problem / "problem.min").read_bytes(), (problem / "glpk.sol").read_bytes())]
+    one_arc = (TOP / "examples" / "negative_lower_bound" / "negative_lower_bound.mod").read_bytes()
+    cases += [("compile", *it) for it in whole_answers("set CITIES;", "set INTER;")] + [("solve", one_arc, b"")]
     with tempfile.TemporaryDirectory() as folder:
-        prefix = pathlib.Path(folder) / "prefix"
-        for call, paths in cases:
-            for which, path in enumerate(paths):
-                whole = path.read_bytes()
+        paths = [pathlib.Path(folder) / it for it in ("first", "second")]
+        for call, *texts in cases:
+            for which, whole in enumerate(texts):
                 for end in range(len(whole) + 1):
-                    prefix.write_bytes(whole[:end])
-                    given = [prefix if it == path else it for it in paths]
-                    wrong = complaint(*run([call, *given]), dict(zip(TEXTS[call], (it.read_bytes() for it in given))))
+                    given = [whole[:end] if at == which else text for at, text in enumerate(texts)]
+                    for path, text in zip(paths, given):
+                        path.write_bytes(text)
+                    wrong = complaint(*run([call, *paths]), dict(zip(TEXTS[call], given)))
                     if wrong:
-                        complaints.append(f"{call}: the first {end} bytes of {path.name}: {wrong}")
+                        complaints.append(f"{call}: the first {end} bytes of {whole[:20]!r}..: {wrong}")
