@@ -6,7 +6,7 @@ answer.
 """
 from __future__ import annotations
 
-__version__ = "0.9.0"
+__version__ = "0.10.0"
 
 from .errors import DataError, Infeasible, ModelError, NetflowError, ProgramError, ScaleError, Unbounded, Unreadable
 from .exact import Exact

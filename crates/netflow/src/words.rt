@@ -58,7 +58,7 @@ impl From<AllocError> for WordsFault {
 }
 
 /// The version that `--version` prints, the same as in CHANGELOG.md.
-const VERSION: &str = "0.9.0";
+const VERSION: &str = "0.10.0";
 
 const ABOUT: &str = "Minimum-cost flow: solves and compiles AMPL network models, solves DIMACS
 problems, and checks certificates";
