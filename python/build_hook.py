@@ -1,7 +1,8 @@
 """Adds the built program to the wheel, with the platform that it runs on.
 
 The program is that of the checkout, or the one that the variable NETFLOW_PROGRAM names. NETFLOW_NOTICES can name a file
-with the notices of the libraries that are linked into it, and NETFLOW_VERSION the version. An editable installation uses the program of the checkout.
+with the notices of the libraries that are linked into it, and NETFLOW_VERSION the version. An editable installation uses
+the program of the checkout.
 """
 from __future__ import annotations
 
@@ -19,7 +20,7 @@ Run scripts/build at the top of the checkout first, which builds and proves it, 
 
 
 def version_of_wheel() -> str:
-    """Returns the version of the package or, of a commit after that release, the one that the variable NETFLOW_VERSION gives."""
+    """Returns the version of the package, or the one that NETFLOW_VERSION gives for a commit after that release."""
     text = (PACKAGE / "netflow" / "__init__.py").read_text(encoding="utf-8")
     found = re.search(r'(?m)^__version__ = "(.*)"$', text)
     assert found is not None
