@@ -1,8 +1,8 @@
 """Adds the built program to the wheel, with the platform that it runs on.
 
-The program is that of the checkout, or the one that the variable NETFLOW_PROGRAM names. NETFLOW_NOTICES can name a file
-with the notices of the libraries that are linked into it, and NETFLOW_VERSION the version. An editable installation uses
-the program of the checkout.
+The program is that of the checkout, or the one that the variable NETFLOW_PROGRAM names. NETFLOW_NOTICES can name a
+file with the notices of the libraries that are linked into it, and NETFLOW_VERSION the version. An editable
+installation uses the program of the checkout.
 """
 from __future__ import annotations
 
