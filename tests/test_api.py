@@ -47,7 +47,7 @@ def test_key_of_one_index_is_the_member():
 
 def test_parameter_named_like_an_option():
     """A dict of data gives it; the keyword is the option, and the error says where the parameter is given."""
-    assert netflow.solve(NAMED, VALUES).value == 0
+    assert netflow.solve(NAMED, VALUES).value == 3
     for name, value in (("scale", {"a": 1, "b": 2}), ("bounds", 3), ("objective", "C")):
         rest = {other: given for other, given in VALUES.items() if other != name}
         with pytest.raises(netflow.DataError) as caught:
@@ -56,7 +56,7 @@ def test_parameter_named_like_an_option():
     with pytest.raises(netflow.DataError, match="data={'data': ..}"):
         netflow.solve(NAMED, data=5)
     # With the parameter in the data the keyword is the option.
-    assert netflow.solve(NAMED, VALUES, scale={"bounds": 10}, bounds=True, objective="C").value == 0
+    assert netflow.solve(NAMED, VALUES, scale={"bounds": 10}, bounds=True, objective="C").value == 3
 
 
 def test_options_of_a_wrong_type():

@@ -179,11 +179,17 @@ def zipped(path):
         '<sst xmlns="http://schemas.openxmlformats.org/spreadsheetml/2006/main"><si><t>k</t></si><si><t>a</t></si><si><r><t>b</t></r></si>'
         "<si><r><t>Wi</t></r><r><t>en</t></r></si></sst>"
     )
-    made = path.with_name("shared.xlsx")
-    with zipfile.ZipFile(path) as old, zipfile.ZipFile(made, "w") as new:
+    import openpyxl
+
+    plain, made = path.with_name("plain.xlsx"), path.with_name("shared.xlsx")
+    book = openpyxl.Workbook()
+    book.active["A1"] = "a text"
+    book.save(plain)
+    with zipfile.ZipFile(plain) as old, zipfile.ZipFile(made, "w") as new:
+        replaced = {"xl/worksheets/sheet1.xml": sheet, "xl/sharedStrings.xml": shared}
+        assert replaced.keys() <= set(old.namelist())
         for name in old.namelist():
-            new.writestr(name, sheet if name.endswith("sheet1.xml") else old.read(name))
-        new.writestr("xl/sharedStrings.xml", shared)
+            new.writestr(name, replaced.get(name) or old.read(name))
     return made
 
 

@@ -197,7 +197,7 @@ def read_certificate(certificate: str, net: Network) -> None:
         raise Unreadable("a certificate was expected")
     net.value = net.constant + net.sign * numbers([cost[2:]])[0]
     first = beginning(certificate, "f ")
-    flows = columns(certificate[first : beginning(certificate, "v ", first)], "f", 2)[1][: len(net.arcs)]
+    flows = columns(certificate[first : beginning(certificate, "v ", first)], "f", 3)[2][: len(net.arcs)]
     if len(flows) < len(net.arcs):
         raise Unreadable("the certificate has fewer flows than the model has arcs")
     take_flows(net, net.arcs, list(map(operator.add, flows, net.offsets)))
