@@ -179,17 +179,17 @@ def zipped(path):
         '<sst xmlns="http://schemas.openxmlformats.org/spreadsheetml/2006/main"><si><t>k</t></si><si><t>a</t></si><si><r><t>b</t></r></si>'
         "<si><r><t>Wi</t></r><r><t>en</t></r></si></sst>"
     )
-    import openpyxl
-
-    plain, made = path.with_name("plain.xlsx"), path.with_name("shared.xlsx")
-    book = openpyxl.Workbook()
-    book.active["A1"] = "a text"
-    book.save(plain)
-    with zipfile.ZipFile(plain) as old, zipfile.ZipFile(made, "w") as new:
-        replaced = {"xl/worksheets/sheet1.xml": sheet, "xl/sharedStrings.xml": shared}
-        assert replaced.keys() <= set(old.namelist())
+    kind = "application/vnd.openxmlformats-officedocument.spreadsheetml.sharedStrings+xml"
+    override = f'<Override PartName="/xl/sharedStrings.xml" ContentType="{kind}"/></Types>'
+    made = path.with_name("shared.xlsx")
+    with zipfile.ZipFile(path) as old, zipfile.ZipFile(made, "w") as new:
         for name in old.namelist():
-            new.writestr(name, replaced.get(name) or old.read(name))
+            text = sheet if name.endswith("sheet1.xml") else old.read(name).decode("utf-8")
+            if name == "[Content_Types].xml" and "sharedStrings" not in text:
+                text = text.replace("</Types>", override)
+            if name != "xl/sharedStrings.xml":
+                new.writestr(name, text)
+        new.writestr("xl/sharedStrings.xml", shared)
     return made
 
 
