@@ -31,6 +31,20 @@ def test_random_model(tmp_path, seed):
         check_reasons(instance, net, text)
 
 
+def test_certificate_has_the_plan_of_solve(tmp_path, seed):
+    """`compile` and `min` give the plan, or the cut, that `solve` gives for the model."""
+    words = write_model(tmp_path, seed + 1)[1]
+    net, status, text = solved(*words)
+    compiled = run("netflow", "compile", *words)[1]
+    other, certificate = output.read_compiled(compiled), run("netflow", "min", "/dev/stdin", text=compiled)[1]
+    if status == 0:
+        output.read_certificate(certificate, other)
+        assert other.value == net.value
+        assert [arc.flow for arc in other.arcs] == [arc.flow for arc in net.arcs]
+    else:
+        assert output.read_cut_of_problem(certificate, other) == output.read_cut(text, net)
+
+
 def test_some_random_models_have_no_plan(tmp_path):
     statuses = [run("netflow", "solve", *write_model(tmp_path, seed)[1])[0] for seed in range(1, 61)]
     assert statuses.count(2) > 3
