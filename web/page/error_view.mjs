@@ -1,0 +1,30 @@
+// The error of an input: at its line, with the explanation of the list of errors.
+import { button, element } from './dom.mjs';
+import { firstToken, lineAt } from './bytes.mjs';
+
+// The most letters of a long line that are shown before and after the error.
+const AROUND = 60;
+
+/** Returns the element of an error: what it is, the line with the error marked, and what the code means. */
+export function errorView(error, line, bytes, explanations, goThere) {
+  const box = element('div', { class: 'error' }, element('p', { class: 'headline' }, line));
+  if (!error) return box;
+  if (error.input === 'model' || error.input === 'data') {
+    box.append(element('p', { class: 'place' }, `In the ${error.input}, line ${error.row}:`), markedLine(bytes, error), button('Go to the line', goThere));
+  }
+  const explanation = explanations[error.code];
+  if (explanation) {
+    const holder = element('div', { class: 'explanation' });
+    // The text was made of docs/reference/errors.md when the page was built.
+    holder.innerHTML = explanation;
+    box.append(element('h3', {}, `What ${error.code} means`), holder);
+  }
+  return box;
+}
+
+function markedLine(bytes, { row, column }) {
+  const { before, line } = lineAt(bytes, row, column), rest = line.slice(before.length), token = firstToken(rest);
+  const start = before.length > AROUND ? `…${before.slice(-AROUND)}` : before, after = rest.slice(token.length);
+  const mark = element('mark', {}, token || '\u00a0');
+  return element('pre', { class: 'source', tabindex: 0, 'aria-label': `Line ${row}` }, start, mark, after.length > AROUND ? `${after.slice(0, AROUND)}…` : after);
+}

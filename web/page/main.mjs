@@ -1,0 +1,205 @@
+// The page: model and data in, the plan or the reason why there is none out.
+import { button, byId, element, save, section } from './dom.mjs';
+import { decoded, encoded, fromBase64 } from './bytes.mjs';
+import { readCut, readError, readPlan, readPotentials } from './answer_text.mjs';
+import { Calls, Stopped } from './calls.mjs';
+import { readCompiled, sidedCut } from './network.mjs';
+import { reasonsOf } from './reasons.mjs';
+import { wordsOf } from './headings.mjs';
+import { Editor } from './editor.mjs';
+import { acceptFiles } from './files.mjs';
+import { askForStatement } from './table_dialog.mjs';
+import { errorView } from './error_view.mjs';
+import { declarationSections, declarationsOf, nodeSection, planHead } from './plan_view.mjs';
+import { drawingSection } from './drawing_view.mjs';
+import { cutHead, marksOf, reasonSections } from './cut_view.mjs';
+import { answerPage, cutCsv, planCsv } from './saving.mjs';
+import { keepWork } from './keeping.mjs';
+
+const PARTS = JSON.parse(byId('parts').textContent);
+const calls = new Calls(byId('worker').textContent, fromBase64(byId('module').textContent.trim()));
+const answer = byId('answer');
+// Up to so many arcs the problem is solved once more for its potentials, which show which full arcs would carry more.
+const PRICED = 20_000;
+
+let changed = () => {};
+const editors = { model: new Editor('model', () => edited()), data: new Editor('data', () => edited()) };
+let running = 0, replaced = null;
+
+function edited() {
+  answer.classList.add('stale');
+  listObjectives();
+  changed();
+}
+
+function say(text, kind = '', more = null) {
+  byId('status').className = kind;
+  byId('status').replaceChildren(text, more ?? '');
+}
+
+/** Offers the names of the model's objectives. */
+function listObjectives() {
+  const names = [...editors.model.area.value.matchAll(/\b(?:minimize|maximize)\s+([A-Za-z_]\w*)/g)].map(it => it[1]);
+  byId('objectives').replaceChildren(...names.map(it => element('option', { value: it })));
+  byId('objective-label').hidden = names.length < 2 && !byId('objective').value;
+}
+
+// ---- answers
+
+/** Shows the bar to save the answer as files. */
+function saveBar(reply, found) {
+  const name = found.plan ? 'plan' : 'no_plan', csv = () => (found.plan ? planCsv(found.plan, found.network) : cutCsv(found.network, found.reasons));
+  const more = found.network ? [button('Save as CSV', () => save(`${name}.csv`, csv(), 'text/csv')),
+    button('Save as page', () => save(`${name}.html`, answerPage(found, byId('style').textContent), 'text/html'))] : [];
+  return element('p', { class: 'tools saving' }, button('Save as text', () => save(`${name}.txt`, reply.text, 'text/plain')), ...more);
+}
+
+async function showPlan(reply, inputs, isCurrent) {
+  const plan = readPlan(decoded(reply.text)), words = wordsOf(decoded(inputs[1]));
+  answer.replaceChildren(planHead(plan), saveBar(reply, { plan }), ...declarationSections(declarationsOf(plan, null, words), null));
+  const network = await compiledNetwork(inputs);
+  if (!network || !isCurrent()) return;
+  network.setFlows(plan.declarations.flatMap(it => it.arcs.map(arc => arc.flow)));
+  if (network.arcs.length <= PRICED) {
+    const certificate = await calls.call('netflow_min', [encoded(network.problem)]);
+    if (certificate.status === 0) network.setPotentials(readPotentials(decoded(certificate.text)));
+  }
+  if (!isCurrent()) return;
+  const declarations = declarationsOf(plan, network, words);
+  answer.replaceChildren(planHead(plan, network), saveBar(reply, { plan, network, declarations }), drawingSection(network),
+    ...declarationSections(declarations, network), nodeSection(network));
+}
+
+async function showCut(reply, inputs, isCurrent) {
+  const cut = readCut(decoded(reply.text));
+  const nodes = section('The nodes', element('ul', { class: 'nodes' }, ...cut.nodes.map(it => element('li', {}, it))));
+  answer.replaceChildren(cutHead(cut), saveBar(reply, {}), nodes);
+  const network = await compiledNetwork(inputs);
+  if (!network || !isCurrent()) return;
+  const problem = encoded(network.problem);
+  const check = async certificate => (await calls.call('netflow_check', [problem, encoded(certificate)])).status === 0;
+  const reasons = await reasonsOf(network, sidedCut(network, cut), check);
+  if (!isCurrent()) return;
+  const marks = marksOf(network, reasons);
+  answer.replaceChildren(cutHead(cut), saveBar(reply, { network, reasons, marks }), ...reasonSections(network, reasons), drawingSection(network, marks));
+}
+
+async function compiledNetwork([objective, model, data]) {
+  const reply = await calls.call('netflow_compile', [objective, false, model, data]);
+  return reply.status === 0 ? readCompiled(decoded(reply.text)) : null;
+}
+
+function showError(reply, inputs) {
+  const line = decoded(reply.text).trim(), error = readError(line), editor = editors[error?.input];
+  const goThere = () => editor.showError(error.row, error.column);
+  answer.replaceChildren(errorView(error, line, error?.input === 'data' ? inputs[2] : inputs[1], PARTS.errors, goThere));
+  say(error ? `Error in the ${error.input}, line ${error.row}` : 'The input was rejected', 'bad');
+  if (editor) goThere();
+}
+
+const FAILURES = {
+  5: 'There is not enough memory for this model in the browser. The netflow program can take more.',
+  70: 'The browser ended the call. Reload the page; if it happens again, use the netflow program.',
+};
+
+// ---- solving
+
+function setRunning(isRunning) {
+  byId('solve').disabled = isRunning;
+  byId('stop').disabled = !isRunning;
+  answer.setAttribute('aria-busy', isRunning);
+}
+
+/** Shows the seconds while a solve runs; returns the function that ends it. */
+function showProgress() {
+  const start = performance.now(), clock = setInterval(() => {
+    byId('seconds').textContent = `${Math.round((performance.now() - start) / 1000)} s`;
+  }, 1000);
+  return () => {
+    clearInterval(clock);
+    byId('seconds').textContent = '';
+  };
+}
+
+async function solve() {
+  if (byId('solve').disabled) return;
+  const inputs = [encoded(byId('objective').value.trim()), editors.model.bytes(), editors.data.bytes()], number = ++running;
+  if (!inputs[1].length) return say('Write a model, open one, or choose an example.');
+  for (const it of Object.values(editors)) it.clearError();
+  setRunning(true);
+  say('Solving');
+  const endProgress = showProgress();
+  try {
+    const reply = await calls.call('netflow_solve', inputs);
+    const time = reply.milliseconds < 1000 ? `${Math.round(reply.milliseconds)} ms` : `${(reply.milliseconds / 1000).toFixed(1)} s`;
+    answer.classList.remove('stale');
+    if (reply.status === 0) say(`Optimal plan, in ${time}`, 'good');
+    else if (reply.status === 2) say(`No plan exists (found in ${time})`, 'bad');
+    else if (reply.status !== 3) {
+      answer.replaceChildren();
+      say(FAILURES[reply.status] ?? decoded(reply.text), 'bad');
+    }
+    const isCurrent = () => running === number;
+    if (reply.status === 3) showError(reply, inputs);
+    else if (reply.status === 0) await showPlan(reply, inputs, isCurrent);
+    else if (reply.status === 2) await showCut(reply, inputs, isCurrent);
+  } catch (error) {
+    say(error instanceof Stopped ? 'Stopped. No answer was found so far.' : String(error.message), 'bad');
+    if (!(error instanceof Stopped)) throw error;
+  } finally {
+    endProgress();
+    setRunning(false);
+  }
+}
+
+// ---- inputs
+
+function showInputs({ model, data = '', objective = '' }) {
+  editors.model.show(encoded(model));
+  editors.data.show(encoded(data));
+  byId('objective').value = objective;
+  listObjectives();
+}
+
+const currentInputs = () => ({ model: editors.model.area.value, data: editors.data.area.value, objective: byId('objective').value });
+
+/** Shows an example; the text that it replaces can be brought back. */
+function showExample(name) {
+  const old = currentInputs(), isOwn = (old.model || old.data) && !Object.values(PARTS.examples).some(it => it.model === old.model && it.data === old.data);
+  replaced = isOwn ? old : replaced;
+  showInputs(PARTS.examples[name]);
+  answer.replaceChildren();
+  const back = isOwn ? button('Bring back my text', () => { showInputs(replaced); say(''); }) : null;
+  say(`${PARTS.examples[name].title} Press Solve.`, '', back);
+  byId('solve').focus();
+}
+
+async function takeTable(name, bytes) {
+  try {
+    const statement = await askForStatement(name, bytes);
+    if (statement) editors.data.append(statement);
+  } catch (error) {
+    say(`${name}: ${error.message}`, 'bad');
+  }
+}
+
+function start() {
+  for (const [name, { title }] of Object.entries(PARTS.examples)) byId('example').append(element('option', { value: name, title }, name.replaceAll('_', ' ')));
+  byId('example').addEventListener('change', event => event.target.value && showExample(event.target.value));
+  byId('solve').addEventListener('click', solve);
+  byId('stop').addEventListener('click', () => calls.stop());
+  byId('objective').addEventListener('input', () => edited());
+  addEventListener('keydown', event => {
+    if (event.key !== 'Enter' || !(event.ctrlKey || event.metaKey)) return;
+    event.preventDefault();
+    solve();
+  });
+  acceptFiles({ editors, takeTable, say });
+  changed = keepWork(currentInputs, showInputs, text => say(text, 'bad'));
+  listObjectives();
+  calls.ready.then(() => { document.body.dataset.ready = 'true'; }, error => say(`This browser cannot run netflow: ${error.message}`, 'bad'));
+  // For scripts, such as the tests: the calls of the module, from bytes to a status and bytes.
+  window.netflow = { call: (name, inputs) => calls.call(name, inputs), Calls, workerSource: byId('worker').textContent, ready: calls.ready };
+}
+
+start();
