@@ -76,9 +76,19 @@ def build_library(kit, out):
         words = [kit.prover.RT.rtlib.RATTLE, "build", *crate.words(["--jobs", "2"]), "--incremental", "out/incremental",
                  "--toolchain", tools, "--backend", "llvm", "-o", library]
         run(words, cwd=crate.folder)
+    complete_library(kit, library)
     if not module.exists():
         raise Failed("the toolchain passed no LLVM module to its clang: it builds libraries in another way than this script knows")
     return library, module
+
+
+def complete_library(kit, library):
+    """Adds the heap over malloc to the library, which then needs the C library alone."""
+    with tempfile.TemporaryDirectory() as room:
+        memory = pathlib.Path(room) / "memory.o"
+        flags = ("--target=x86_64-unknown-linux-gnu", "--no-default-config", "-O2", "-fPIC", "-ffreestanding", "-Wall", "-Wextra", "-Werror")
+        run([kit.clang, *flags, "-c", TOP / "web" / "native" / "memory.c", "-o", memory])
+        run([kit.folder / "toolchain" / "bin" / "llvm-ar", "rD", library, memory])
 
 
 def keeping_toolchain(kit, room, module):

@@ -84,8 +84,10 @@ async function showCut(reply, inputs, isCurrent) {
   answer.replaceChildren(cutHead(cut), saveBar(reply, { network, reasons, marks }), ...reasonSections(network, reasons), drawingSection(network, marks));
 }
 
-async function compiledNetwork([objective, model, data]) {
-  const reply = await calls.call('netflow_compile', [objective, false, model, data]);
+const callWith = (name, [objective, model, data]) => calls.call(name, [objective, false, model, data]);
+
+async function compiledNetwork(inputs) {
+  const reply = await callWith('netflow_compile', inputs);
   return reply.status === 0 ? readCompiled(decoded(reply.text)) : null;
 }
 
@@ -130,7 +132,7 @@ async function solve() {
   say('Solving');
   const endProgress = showProgress();
   try {
-    const reply = await calls.call('netflow_solve', inputs);
+    const reply = await callWith('netflow_solve', inputs);
     const time = reply.milliseconds < 1000 ? `${Math.round(reply.milliseconds)} ms` : `${(reply.milliseconds / 1000).toFixed(1)} s`;
     answer.classList.remove('stale');
     if (reply.status === 0) say(`Optimal plan, in ${time}`, 'good');

@@ -1,0 +1,252 @@
+"""The page as a person uses it: typing, opening, dropping, solving, a mistake, no plan, stop, tables, saving, the keyboard alone."""
+import pathlib
+import re
+
+TOP = pathlib.Path(__file__).resolve().parent.parent.parent
+STATE = """
+const at = id => document.getElementById(id);
+const end = Date.now() + 60000;
+while (at('solve').disabled && Date.now() < end) await new Promise(done => setTimeout(done, 20));
+return { status: at('status').textContent, answer: at('answer').innerText, focus: document.activeElement?.id ?? '',
+    model: at('model').value, data: at('data').value,
+    selected: at('model').value.slice(at('model').selectionStart, at('model').selectionEnd), bad: document.querySelector('.numbers .bad')?.textContent ?? '' };
+"""
+DROP = """
+const files = new DataTransfer();
+for (const [name, text] of args[1]) files.items.add(new File([text], name));
+document.getElementById(args[0]).dispatchEvent(new DragEvent('drop', { dataTransfer: files, bubbles: true, cancelable: true }));
+await new Promise(done => setTimeout(done, 300));
+"""
+# The labels, roles and names that a screen reader needs, and contrasts, by the rules of WCAG 2.2 that a script can check.
+ACCESS = """
+const found = [], visible = it => it.getClientRects().length && getComputedStyle(it).visibility !== 'hidden';
+for (const it of document.querySelectorAll('button, input, select, textarea, [tabindex="0"], summary')) {
+  if (!visible(it)) continue;
+  const name = it.getAttribute('aria-label') || it.textContent.trim() || [...(it.labels ?? [])].map(label => label.textContent.trim()).join('') || it.querySelector?.('title')?.textContent;
+  if (!name) found.push(`no name: ${it.outerHTML.slice(0, 80)}`);
+}
+const ids = [...document.querySelectorAll('[id]')].map(it => it.id);
+for (const id of ids) if (ids.indexOf(id) !== ids.lastIndexOf(id)) found.push(`the id ${id} twice`);
+for (const it of document.querySelectorAll('[aria-describedby], [aria-labelledby]')) {
+  for (const id of (it.getAttribute('aria-describedby') ?? it.getAttribute('aria-labelledby')).split(' ')) if (!document.getElementById(id)) found.push(`no element ${id}`);
+}
+for (const it of document.querySelectorAll('th')) if (!it.getAttribute('scope')) found.push(`a heading without scope: ${it.textContent}`);
+if (!document.documentElement.lang) found.push('no language');
+if (document.querySelectorAll('h1').length !== 1) found.push('not one h1');
+const levels = [...document.querySelectorAll('h1, h2, h3, h4')].filter(visible).map(it => Number(it.tagName[1]));
+const channel = value => { const part = value / 255; return part <= 0.04045 ? part / 12.92 : ((part + 0.055) / 1.055) ** 2.4; };
+const light = ([r, g, b]) => 0.2126 * channel(r) + 0.7152 * channel(g) + 0.0722 * channel(b);
+const colour = text => (text.match(/[\\d.]+/g) ?? []).map(Number);
+const backOf = it => { for (let at = it; at; at = at.parentElement) { const back = colour(getComputedStyle(at).backgroundColor); if (back.length === 3 || back[3] > 0.99) return back; } return [255, 255, 255]; };
+for (const it of document.querySelectorAll('body *')) {
+  if (!visible(it) || it.closest('svg') || it.disabled || it.closest('.stale') || ![...it.childNodes].some(child => child.nodeType === 3 && child.textContent.trim())) continue;
+  const style = getComputedStyle(it), [one, two] = [light(colour(style.color)), light(backOf(it))], ratio = (Math.max(one, two) + 0.05) / (Math.min(one, two) + 0.05);
+  if (ratio < (parseFloat(style.fontSize) >= 24 ? 3 : 4.5)) found.push(`contrast ${ratio.toFixed(2)}: ${it.tagName} ${it.className} ${it.textContent.trim().slice(0, 40)}`);
+}
+if (document.documentElement.scrollWidth > innerWidth + 1) found.push(`the page is ${document.documentElement.scrollWidth} wide in a window of ${innerWidth}`);
+return found;
+"""
+SAVED = """
+const made = [], create = page.URL.createObjectURL, click = page.HTMLAnchorElement.prototype.click;
+const blobs = [];
+page.URL.createObjectURL = blob => { blobs.push(blob); return create.call(page.URL, blob); };
+page.HTMLAnchorElement.prototype.click = function () { made.push(this.download); };
+for (const it of [...document.querySelectorAll('.saving button')]) it.click();
+page.URL.createObjectURL = create;
+page.HTMLAnchorElement.prototype.click = click;
+const texts = [];
+for (const it of blobs) texts.push(await it.text());
+return made.map((name, here) => [name, texts[here]]);
+"""
+
+
+def ship_model():
+    """Returns the model of README.md."""
+    return re.search(r"cat ship.mod\n(.*?)\$ ", (TOP / "README.md").read_text(encoding="utf-8"), re.S)[1]
+
+
+class Person:
+    """A person at the page in a browser; keeps what is not as it should be."""
+
+    def __init__(self, browser, by_program, shots=None):
+        self.browser, self.by_program, self.shots, self.complaints, self.steps = browser, by_program, shots, [], 0
+
+    def see(self):
+        return self.browser.run(STATE)
+
+    def expect(self, what, is_so, seen=""):
+        self.steps += 1
+        if not is_so:
+            self.complaints.append(f"{what}: {str(seen)[:400]}")
+
+    def shot(self, name):
+        if self.shots:
+            self.browser.shot(self.shots / f"{name}.png", True)
+
+    def focus(self, name):
+        self.browser.run("document.getElementById(args[0]).focus(); document.getElementById(args[0]).select?.();", name)
+
+    def type(self, name, text):
+        """Replaces the text of an editor as a person does: selects all, and writes."""
+        self.focus(name)
+        if text:
+            self.browser.write(text)
+        else:
+            self.browser.run("const it = document.getElementById(args[0]); it.value = ''; it.dispatchEvent(new Event('input'));", name)
+
+    def solve(self):
+        """Presses Ctrl+Enter, and waits for the answer."""
+        self.browser.press("Enter", control=True)
+        return self.see()
+
+    def click(self, selector):
+        self.browser.run("document.querySelector(args[0]).click();", selector)
+
+    def use(self):
+        for step in (self.own_model, self.mistake, self.no_plan, self.files, self.table_file, self.examples, self.tables, self.saves, self.stops, self.keeps, self.keyboard, self.looks):
+            step()
+        return self.complaints
+
+    def own_model(self):
+        self.type("model", ship_model())
+        seen = self.solve()
+        self.expect("a model of one's own", "Cost = 120" in seen["answer"] and seen["status"].startswith("Optimal plan"), seen)
+        self.expect("the plan has its grid and its nodes", "Grid" in seen["answer"] and "Plant['Linz']" in seen["answer"], seen)
+        self.expect("the network is drawn", self.browser.run("return document.querySelectorAll('.picture .arc path').length;") == 4)
+        self.shot("plan")
+
+    def mistake(self):
+        self.type("model", ship_model().replace("to Shop[s]", "to Shops[s]"))
+        seen = self.solve()
+        self.expect("a mistake at its line", seen["status"] == "Error in the model, line 5" and seen["bad"] == "5" and seen["selected"] == "Shops", seen)
+        self.expect("the explanation", "E12 Undeclared" in seen["answer"] and "case matters" in seen["answer"] and seen["focus"] == "model", seen)
+        self.type("model", ship_model())
+        self.type("data", "param nothing := " + " " * 300 + "3;")
+        seen = self.solve()
+        self.expect("a mistake in the data", seen["status"].startswith("Error in the data, line 1") and seen["focus"] == "data", seen)
+        self.shot("mistake")
+        self.type("data", "")
+
+    def no_plan(self):
+        self.type("model", ship_model().replace("orders := 40", "orders := 95"))
+        seen = self.solve()
+        self.expect("no plan", "No plan exists" in seen["answer"] and "Shop['Wien']: 95 needed, 90 can come at most: 5 short" in seen["answer"], seen)
+        self.expect("the arcs that limit it", "Ship['Linz','Wien'] from Plant['Linz'], which carries 0 to 45" in seen["answer"], seen)
+        self.shot("no_plan")
+
+    def files(self):
+        bread = TOP / "examples" / "bread"
+        texts = [(name, (bread / name).read_text(encoding="utf-8")) for name in ("bread.dat", "bread.mod")]
+        self.browser.run(DROP, "model-box", texts)
+        seen = self.see()
+        self.expect("dropped files go by their names", seen["model"] == texts[1][1] and seen["data"] == texts[0][1])
+        self.click("#solve")
+        self.expect("the answer of dropped files", "Total = 440" in self.see()["answer"])
+
+    def table_file(self):
+        """The costs of the bread as a table, in place of the statement of the data."""
+        bread = TOP / "examples" / "bread"
+        data = (bread / "bread.dat").read_text(encoding="utf-8")
+        rest = re.sub(r"(?s)param cost.*?;\n?", "", data)
+        self.type("data", rest)
+        self.browser.run(DROP, "data-box", [("cost.csv", (bread / "costs.csv").read_text(encoding="utf-8"))])
+        shown = self.browser.run("return [document.getElementById('table-dialog').open, document.getElementById('table-preview').textContent];")
+        self.expect("the dialog for a table", shown[0] and shown[1].startswith("param cost: hill lake mill :="), shown)
+        self.click("#table-add")
+        self.browser.run("await new Promise(done => setTimeout(done, 200));")
+        self.focus("data")
+        seen = self.solve()
+        self.expect("a table as data", "Total = 440" in seen["answer"] and "param cost: hill lake mill :=" in seen["data"], seen)
+
+    def examples(self):
+        self.browser.run("const it = document.getElementById('example'); it.value = 'cities'; it.dispatchEvent(new Event('change'));")
+        self.expect("an example", "set LINKS" in self.see()["model"])
+        self.click("#status button")
+        self.expect("one's own text comes back", "param cost: hill lake mill :=" in self.see()["data"])
+        for name in self.browser.run("return [...document.getElementById('example').options].map(it => it.value).filter(Boolean);"):
+            self.browser.run("const it = document.getElementById('example'); it.value = args[0]; it.dispatchEvent(new Event('change')); document.getElementById('solve').click();", name)
+            seen = self.see()
+            self.expect(f"the example {name}", seen["status"].startswith(("Optimal plan", "No plan exists")), seen)
+
+    def tables(self):
+        """A plan with many rows: all are there, a heading sorts, words find."""
+        model = "minimize C; node A; node B; arc X {i in 1..3000} >= 0, <= i, from A, to B, obj C 1; arc Y {i in 1..2, j in 1..2} >= i * j, <= 9, from B, to A, obj C j;"
+        self.type("data", "")
+        self.type("model", model)
+        seen = self.solve()
+        self.expect("3,000 arcs", "3004 arcs" in seen["answer"], seen)
+        rows = self.browser.run("""
+            const view = document.querySelector('.table .view'), head = view.querySelectorAll('th button'), found = new Set();
+            head[0].click();
+            head[0].click();
+            const first = view.querySelector('tbody tr:not([hidden]) td').textContent;
+            for (let at = 0; at <= view.scrollHeight; at += 300) {
+              view.scrollTop = at;
+              view.dispatchEvent(new Event('scroll'));
+              for (const row of view.querySelectorAll('tbody tr[aria-rowindex]')) found.add(row.cells[0].textContent);
+            }
+            const find = document.querySelector('.table input[type=search]');
+            find.value = '2987';
+            find.dispatchEvent(new Event('input'));
+            return [first, found.size, document.querySelector('.table .tools .dim').textContent];""")
+        self.expect("sort, all rows, find", rows == ["3000", 3000, "1 of 3000 rows"], rows)
+
+    def saves(self):
+        model = ship_model()
+        self.type("model", model)
+        self.solve()
+        saved = dict(self.browser.run(SAVED))
+        status, text = self.by_program("solve", [b"", False, model.encode(), b""])
+        self.expect("the text is the program's", (0, saved.get("plan.txt")) == (status, text.decode()), saved.get("plan.txt"))
+        self.expect("the CSV", saved.get("plan.csv", "").startswith("arc,key 1,key 2,flow,lower,upper,price,from,to\nShip,Linz,Wien,0,0,45,3,"), saved.get("plan.csv"))
+        self.expect("the page", "Cost = 120" in saved.get("plan.html", "") and "<svg" in saved.get("plan.html", ""), saved.keys())
+
+    def stops(self):
+        """A solve of some seconds is stopped; the next one works."""
+        arcs = "arc X {i in 1..120, j in 1..120: i <> j} >= 0, <= 999, from N[i], to N[j], obj C ((i * 7919 + j * 104729) mod 9973);"
+        self.type("model", f"minimize C; node N {{i in 1..120}}: net_in = (if i = 1 then -5000 else if i = 120 then 5000 else 0); {arcs}" + "check {i in 1..99000}: sum {j in 1..40} j mod 7 > 0;")
+        self.focus("model")
+        self.browser.press("Enter", control=True)
+        state = self.browser.run("return [document.getElementById('solve').disabled, document.getElementById('stop').disabled];")
+        self.click("#stop")
+        seen = self.see()
+        self.expect("stop", state == [True, False] and seen["status"].startswith("Stopped"), (state, seen["status"]))
+        self.type("model", ship_model())
+        self.expect("the solve after a stop", "Cost = 120" in self.solve()["answer"])
+
+    def keeps(self):
+        """Work is kept only if the box is ticked."""
+        before = self.browser.run("return localStorage.length;")
+        self.click("#keep")
+        kept = self.browser.run("return localStorage.getItem('netflow');")
+        self.click("#keep")
+        after = self.browser.run("return localStorage.length;")
+        self.expect("the work is kept if it is asked for", before == 0 and kept and "Plant" in kept and after == 0, (before, kept, after))
+
+    def keyboard(self):
+        """From the model, Tab reaches Solve, and Enter presses it."""
+        self.focus("model")
+        reached = []
+        for _ in range(12):
+            self.browser.press("Tab")
+            reached.append(self.browser.run("return document.activeElement.id;"))
+            if reached[-1] == "solve":
+                break
+        self.expect("Tab reaches Solve", reached[-1] == "solve" and "data" in reached, reached)
+        self.browser.press("Enter")
+        self.expect("Enter on Solve", "Cost = 120" in self.see()["answer"])
+
+    def looks(self):
+        """Names, contrasts and widths, in light and dark, at 1,200 and 400 pixels."""
+        for width in (1200, 400):
+            self.browser.resize(width, 900)
+            for is_dark in (False, True) if hasattr(self.browser, "set_dark") else (False,):
+                if hasattr(self.browser, "set_dark"):
+                    self.browser.set_dark(is_dark)
+                for title, model in (("plan", ship_model()), ("no_plan", ship_model().replace(":= 40", ":= 95")), ("mistake", "node ;")):
+                    self.type("model", model)
+                    self.solve()
+                    found = self.browser.run(ACCESS)
+                    self.expect(f"{title}, {width} pixels, {'dark' if is_dark else 'light'}", not found, found)
+                    self.shot(f"{title}_{width}_{'dark' if is_dark else 'light'}")
+        self.browser.resize(1200, 900)
