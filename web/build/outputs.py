@@ -72,9 +72,9 @@ def write(name, data):
     part.replace(OUT / name)
 
 
-def write_page(version):
+def write_page(version, notices):
     """Writes the page, the program for node and the files for C; the modules and the library are there."""
-    write(PAGE, page.page((OUT / WASM32).read_bytes(), version).encode("utf-8"))
+    write(PAGE, page.page((OUT / WASM32).read_bytes(), version, notices).encode("utf-8"))
     write(NODE, node_program(version).encode("utf-8"))
     (OUT / NODE).chmod(0o755)
     for name in (HEADER, EXAMPLE):

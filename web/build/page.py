@@ -8,6 +8,7 @@ import hashlib
 import json
 import pathlib
 import re
+from html import escape
 
 from build.markdown import rendered
 
@@ -92,8 +93,8 @@ def closed(text):
     return text
 
 
-def page(wasm, version):
-    """Returns the page with the module."""
+def page(wasm, version, notices):
+    """Returns the page with the module and the notices of the libraries that are linked into it."""
     style = closed(drawing_style() + (PAGE / "style.css").read_text(encoding="utf-8"))
     script, worker = closed(script_of("main")), closed(script_of("worker"))
     # Only this script and this style run. No directive allows a request: default-src 'none' forbids all of them.
@@ -103,6 +104,6 @@ def page(wasm, version):
     if not guide:
         raise Wrong("docs/guide/browser.md has no part for the page")
     values = {"POLICY": policy, "STYLE": style, "SCRIPT": script, "WORKER": worker, "MODULE": base64.b64encode(wasm).decode("ascii"), "PARTS": parts,
-              "HELP": rendered(guide), "VERSION": version, "SUM": hashlib.sha256(wasm).hexdigest()}
+              "HELP": rendered(guide), "NOTICES": escape(notices), "VERSION": version, "SUM": hashlib.sha256(wasm).hexdigest()}
     text = (PAGE / "page.html").read_text(encoding="utf-8")
     return re.sub(r"@([A-Z]+)@", lambda found: values[found[1]], text)

@@ -1,6 +1,6 @@
 // Why there is no plan, in the names of the model: the sets of nodes that need more than can come, or have more than can leave.
 import { sum } from './numbers.mjs';
-import { Cuts, cutCertificate } from './network.mjs';
+import { Cuts, cutCertificate } from './cuts.mjs';
 
 const needed = reason => sum(reason.asks.map(it => it.amount));
 const given = reason => sum(reason.helps.map(it => it.amount));

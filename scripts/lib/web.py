@@ -1,0 +1,19 @@
+"""The part of a release that runs in a browser, in node and from C: the files that scripts/web makes."""
+import shutil
+import subprocess
+import sys
+
+from lib.command import TOP
+
+sys.path.insert(1, str(TOP / "web"))
+from build import outputs  # noqa: E402
+
+# The second module is for comparison, and is not shipped.
+SHIPPED = [it for it in outputs.FILES if it != outputs.WASM64]
+
+
+def write(folder):
+    """Copies the files into the folder, and returns their paths. Files that are missing or old are built first."""
+    if outputs.complaint() and subprocess.run([TOP / "scripts" / "web"], stdout=subprocess.DEVNULL).returncode:
+        raise SystemExit("release: scripts/web failed")
+    return [shutil.copyfile(outputs.OUT / name, folder / name) for name in SHIPPED]
