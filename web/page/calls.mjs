@@ -42,10 +42,13 @@ export class Calls {
     this.waiting.clear();
   }
 
-  /** Calls an export with byte arrays and booleans; resolves to its status, its text as bytes, and its time in milliseconds. */
-  async call(name, inputs) {
+  /**
+   * Calls an export with byte arrays and booleans; resolves to its status, its text as bytes, and its time in milliseconds. `room` is
+   * the first memory for the text, in bytes.
+   */
+  async call(name, inputs, room = undefined) {
     await this.ready;
-    return this.post({ name, inputs });
+    return this.post({ name, inputs, room });
   }
 
   /** Ends all calls, which reject with Stopped, and prepares for the next. */

@@ -201,7 +201,7 @@ function start() {
   listObjectives();
   calls.ready.then(() => { document.body.dataset.ready = 'true'; }, error => say(`This browser cannot run netflow: ${error.message}`, 'bad'));
   // For scripts, such as the tests: the calls of the module, from bytes to a status and bytes.
-  window.netflow = { call: (name, inputs) => calls.call(name, inputs), Calls, workerSource: byId('worker').textContent, ready: calls.ready };
+  window.netflow = { call: (...words) => calls.call(...words), Calls, workerSource: byId('worker').textContent, ready: calls.ready };
 }
 
 start();

@@ -2,6 +2,8 @@
 
 /** The exit status of a call for which there is no memory. */
 export const OUT_OF_MEMORY = 5;
+/** The memory for the text of a call, in bytes: most texts fit, and a text that does not fit is computed twice. */
+const ROOM = 2 ** 22;
 
 /** An instance of the module, whose memory keeps what its calls left there. */
 export class Instance {
@@ -27,7 +29,7 @@ export class Instance {
    * Calls an export such as `netflow_solve` with byte arrays and booleans; returns its status and its text as bytes.
    * `room` is the size of the first memory for the text. A text that does not fit is asked for again.
    */
-  call(name, inputs, room = 1 << 20) {
+  call(name, inputs, room = ROOM) {
     const nothing = { status: OUT_OF_MEMORY, text: new Uint8Array(0) };
     const words = [];
     for (const input of inputs) {

@@ -5,9 +5,9 @@ import { Instance } from './netflow_module.mjs';
 const BROKEN = 70;
 let compiled;
 
-function answer(name, inputs) {
+function answer({ name, inputs, room }) {
   const instance = new Instance(compiled);
-  return { ...instance.call(name, inputs), memory: instance.memory.buffer.byteLength };
+  return { ...instance.call(name, inputs, room), memory: instance.memory.buffer.byteLength };
 }
 
 self.onmessage = async ({ data }) => {
@@ -18,7 +18,7 @@ self.onmessage = async ({ data }) => {
       compiled = await WebAssembly.compile(data.wasm);
       reply = { isReady: true };
     } else {
-      reply = answer(data.name, data.inputs);
+      reply = answer(data);
     }
   } catch (error) {
     reply = { status: BROKEN, text: new TextEncoder().encode(String(error)), message: String(error) };

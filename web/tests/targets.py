@@ -26,9 +26,9 @@ class Node:
         self.process.stdin.flush()
         return json.loads(self.process.stdout.readline())
 
-    def call(self, command, inputs, pages=0):
-        """Calls the module; `pages` is the most memory that it gets, in pages of 64 KiB, if it is not 0."""
-        small = {"module": pages, "bytes": base64.b64encode(with_memory(pages)).decode("ascii")} if pages else {}
+    def call(self, command, inputs, spare=None):
+        """Calls the module; `spare` is the most memory by which it can grow, in pages of 64 KiB."""
+        small = {} if spare is None else {"module": spare + 1, "bytes": base64.b64encode(with_memory(spare)).decode("ascii")}
         status, text = self.ask({"name": f"netflow_{command}", "inputs": packed(inputs), **small})
         return status, base64.b64decode(text)
 
@@ -43,7 +43,7 @@ CALL = """
 const bytes = text => page.Uint8Array.from(atob(text), letter => letter.charCodeAt(0));
 const inputs = page.Array.from(args[1], it => typeof it === 'boolean' ? it : bytes(it));
 const calls = args[2] ? new page.netflow.Calls(page.netflow.workerSource, bytes(args[2])) : page.netflow;
-const reply = await calls.call(args[0], inputs);
+const reply = await calls.call(args[0], inputs, args[2] ? 4096 : undefined);
 let text = '';
 for (let at = 0; at < reply.text.length; at += 32768) text += String.fromCharCode(...reply.text.subarray(at, at + 32768));
 if (args[2]) calls.worker.terminate();
@@ -59,8 +59,8 @@ class Page:
         self.browser.open(page.as_uri())
         assert self.browser.run(BEGIN) == "true", f"{kind}: the page is not ready"
 
-    def call(self, command, inputs, pages=0):
-        small = base64.b64encode(with_memory(pages)).decode("ascii") if pages else ""
+    def call(self, command, inputs, spare=None):
+        small = "" if spare is None else base64.b64encode(with_memory(spare)).decode("ascii")
         status, text, self.milliseconds = self.browser.run(CALL, f"netflow_{command}", packed(inputs), small)
         return status, base64.b64decode(text)
 
@@ -86,8 +86,8 @@ def encoded_number(value):
             return found
 
 
-def with_memory(pages, wasm=outputs.OUT / outputs.WASM32):
-    """Returns the module with another limit on its memory. Its memory section has the flag 1, the first size, and the limit."""
+def with_memory(spare, wasm=outputs.OUT / outputs.WASM32):
+    """Returns the module whose memory can grow by so many pages. Its memory section has the flag 1, the first size, and the limit."""
     raw = wasm.read_bytes()
     at, found = 8, raw[:8]
     while at < len(raw):
@@ -97,7 +97,7 @@ def with_memory(pages, wasm=outputs.OUT / outputs.WASM32):
         if kind == 5:
             assert body[:2] == b"\x01\x01", "the module has another memory section than this test knows"
             first, _ = number_at(body, 2)
-            body = b"\x01\x01" + encoded_number(first) + encoded_number(max(first, pages))
+            body = b"\x01\x01" + encoded_number(first) + encoded_number(first + spare)
             found += bytes([5]) + encoded_number(len(body)) + body
         else:
             found += raw[start:at + size]
