@@ -1,5 +1,7 @@
 // Opening and dropping files: models, data, and tables.
 import { byId } from './dom.mjs';
+import { decoded, encoded } from './bytes.mjs';
+import { TOKEN } from './headings.mjs';
 
 const BYTE_ORDER_MARK = [0xef, 0xbb, 0xbf];
 
@@ -14,6 +16,20 @@ const isTable = file => /\.(csv|tsv)$/i.test(file.name);
 /** Returns where a file goes: by its name, else to where it was dropped. */
 const homeOf = (file, name) => (/\.dat$/i.test(file.name) ? 'data' : /\.mod$/i.test(file.name) ? 'model' : name);
 
+/** Returns the model and the data of a text with both, in which `data;` stands between them; null if it has no `data;`. */
+export function splitModel(text) {
+  const [one, two] = [{ word: ';' }, { word: ';' }];
+  for (const { 0: word, index } of text.matchAll(TOKEN)) {
+    if (word.startsWith('#') || word.startsWith('/*')) continue;
+    if (word === ';' && two.word === 'data' && one.word === ';') {
+      return { model: text.slice(0, two.index), data: text.slice(index + 1).replace(/\bend\s*;\s*$/, '').trimStart() };
+    }
+    Object.assign(one, two);
+    Object.assign(two, { word, index });
+  }
+  return null;
+}
+
 /** Takes files: several data files are joined in their order, and tables are passed on one by one. */
 export async function takeFiles(files, name, { editors, takeTable, say }) {
   const found = { model: [], data: [] };
@@ -22,6 +38,11 @@ export async function takeFiles(files, name, { editors, takeTable, say }) {
     if (!isTable(file)) found[homeOf(file, name)].push(await bytesOf(file));
   }
   for (const [home, parts] of Object.entries(found)) if (parts.length) editors[home].show(await joined(parts));
+  const both = found.model.length && !found.data.length ? splitModel(decoded(editors.model.bytes())) : null;
+  if (both) {
+    editors.model.show(encoded(both.model));
+    editors.data.show(encoded(both.data));
+  }
   for (const file of files) if (isTable(file)) await takeTable(file.name, await bytesOf(file));
 }
 

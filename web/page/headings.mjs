@@ -1,6 +1,6 @@
 // What the parts of a key are called, by the words of the model. The twin of `headings` in python/netflow/words.py.
 
-const TOKEN = /#[^\n]*|\/\*[^]*?\*\/|'(?:[^'\n]|'')*'|"(?:[^"\n]|"")*"|:=|[\p{L}\p{N}_.+-]+|\S/gu;
+export const TOKEN = /#[^\n]*|\/\*[^]*?\*\/|'(?:[^'\n]|'')*'|"(?:[^"\n]|"")*"|:=|[\p{L}\p{N}_.+-]+|\S/gu;
 const NAME = /^[A-Za-z_][\p{L}\p{N}_]*$/u;
 const OPENING = '{([', CLOSING = '})]';
 

@@ -8,11 +8,11 @@ import { Table } from './table.mjs';
 /** Returns the columns and rows of the arcs of a declaration. Before the network is known, they have only keys and flows. */
 export function arcTable(arcs, titles, network) {
   const has = pick => network && arcs.some(pick), hasLeast = has(it => it.lower), hasPrice = has(it => it.price);
-  const text = titles.map(title => ({ title, kind: 'text' })), number = title => ({ title, kind: 'number' });
-  const columns = [...text, ...(network ? [{ title: 'from', kind: 'text' }, { title: 'to', kind: 'text' }] : []), { title: 'flow', kind: 'number flow' },
-    ...(hasLeast ? [number('least')] : []), ...(network ? [number('most')] : []), ...(hasPrice ? [number('price'), number('flow × price')] : [])];
-  const cellsOf = it => [...it.key, ...(network ? [network.end(it.src), network.end(it.dst)] : []), it.flow,
-    ...(hasLeast ? [it.lower] : []), ...(network ? [it.upper] : []), ...(hasPrice ? [it.price, it.flow * it.price] : [])];
+  const text = title => ({ title, kind: 'text' }), number = title => ({ title, kind: 'number' });
+  const columns = [...titles.map(text), { title: 'flow', kind: 'number flow' }, ...(hasLeast ? [number('least')] : []), ...(network ? [number('most')] : []),
+    ...(hasPrice ? [number('price'), number('flow × price')] : []), ...(network ? [text('from'), text('to')] : [])];
+  const cellsOf = it => [...it.key, it.flow, ...(hasLeast ? [it.lower] : []), ...(network ? [it.upper] : []),
+    ...(hasPrice ? [it.price, it.flow * it.price] : []), ...(network ? [network.end(it.src), network.end(it.dst)] : [])];
   const rows = arcs.map(it => ({ cells: cellsOf(it), kind: it.isTight?.() ? 'full' : it.flow ? '' : 'zero', isUsed: it.flow !== 0n }));
   return { columns, rows };
 }

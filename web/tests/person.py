@@ -142,6 +142,9 @@ class Person:
         self.expect("dropped files go by their names", seen["model"] == texts[1][1] and seen["data"] == texts[0][1])
         self.click("#solve")
         self.expect("the answer of dropped files", "Total = 440" in self.see()["answer"])
+        self.browser.run(DROP, "data-box", [("both.mod", f"{texts[1][1]}\ndata; # the numbers\n{texts[0][1]}end;\n")])
+        seen = self.see()
+        self.expect("a file with a model and its data", seen["model"].strip() == texts[1][1].strip() and seen["data"].endswith(texts[0][1]), seen)
 
     def table_file(self):
         """The costs of the bread as a table, in place of the statement of the data."""
