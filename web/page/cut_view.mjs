@@ -14,7 +14,8 @@ export function cutHead(cut) {
   const who = plural(nodes.length, 'node');
   const said = side === 'under' && supply <= 0n && limit <= 0n
     ? `${who} ${nodes.length === 1 ? 'needs' : 'need'} ${grouped(-supply)}, and no more than ${grouped(-limit)} can come.`
-    : side === 'over' && supply >= 0n && limit >= 0n ? `${who} ${nodes.length === 1 ? 'has' : 'have'} ${grouped(supply)}, and no more than ${grouped(limit)} can leave.`
+    : side === 'over' && supply >= 0n && limit >= 0n
+      ? `${who} ${nodes.length === 1 ? 'has' : 'have'} ${grouped(supply)}, and no more than ${grouped(limit)} can leave.`
       : `What ${nodes.length === 1 ? 'this node needs or has' : 'these nodes need or have'} does not fit what their arcs can carry.`;
   box.append(element('p', {}, said));
   return box;

@@ -8,7 +8,10 @@ import { Picture, STUB, stubKey } from './picture.mjs';
 const WIDE = 1400, HIGH = 700, FLAT = 4, MARGIN = 12;
 const KINDS = ['idle', 'used', 'full', 'across'];
 
-export const escaped = text => String(text).replaceAll('&', '&amp;').replaceAll('<', '&lt;').replaceAll('>', '&gt;').replaceAll('"', '&quot;').replaceAll("'", '&#x27;');
+const ENTITIES = { '&': '&amp;', '<': '&lt;', '>': '&gt;', '"': '&quot;', "'": '&#x27;' };
+
+/** Returns a text for HTML and SVG. */
+export const escaped = text => String(text).replace(/[&<>"']/g, letter => ENTITIES[letter]);
 
 /** Returns a number without digits after the point; halves are rounded to the even neighbour. */
 function rounded(number) {
@@ -149,11 +152,14 @@ class Drawing extends Picture {
     const path = `M${spot(curves[0][0])}${curves.map(([, b, c, d]) => `C${spot(b)} ${spot(c)} ${spot(d)}`).join('')}`;
     const width = flow ? 1.2 + (most > 1 ? 4.8 : 0.8) * Math.sqrt(flow / most) : kind === 'across' ? 2.5 : 1.2;
     const ends = [...new Set([arc.src, arc.dst])].filter(it => it !== null).sort((one, two) => one - two).map(it => `n${it}`).join(' ');
-    const said = `${arc.text}: ${this.network.end(arc.src)} to ${this.network.end(arc.dst)}, ${arc.flow} of ${arc.lower} to ${arc.upper}, price ${arc.price}`;
-    const drawn = `<g class="arc ${kind} ${ends}"><title>${escaped(said)}</title><path d="${path}" stroke-width="${width.toFixed(1)}" marker-end="url(#${kind})"/></g>`;
+    const between = `${this.network.end(arc.src)} to ${this.network.end(arc.dst)}`;
+    const said = `${arc.text}: ${between}, ${arc.flow} of ${arc.lower} to ${arc.upper}, price ${arc.price}`;
+    const line = `<path d="${path}" stroke-width="${width.toFixed(1)}" marker-end="url(#${kind})"/>`;
+    const drawn = `<g class="arc ${kind} ${ends}"><title>${escaped(said)}</title>${line}</g>`;
     const text = this.number(arc);
     if (!text) return [drawn, ''];
-    const [x, y] = this.isSmall ? this.textPlace(arc, text, curves) : along(curves[Math.floor(curves.length / 2)], 0.5), half = this.textWidth(text) / 2;
+    const half = this.textWidth(text) / 2;
+    const [x, y] = this.isSmall ? this.textPlace(arc, text, curves) : along(curves[Math.floor(curves.length / 2)], 0.5);
     this.reach.push([x - half, y - 8, x + half, y + 8]);
     return [drawn, `<g class="arc number ${ends}"><text x="${rounded(x)}" y="${rounded(y + 4)}">${text}</text></g>`];
   }

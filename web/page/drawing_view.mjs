@@ -11,7 +11,8 @@ const LEGEND = [['used', 'carries something'], ['full', 'full, and more would he
 export function drawnArcs(network, hasPlan, marked, across) {
   const { arcs } = network;
   if (arcs.length <= WHOLE) return arcs;
-  if (hasPlan) return arcs.filter(it => it.flow).sort((one, two) => across.has(two) - across.has(one) || compared(absolute(two.flow), absolute(one.flow))).slice(0, MOST);
+  const isBefore = (one, two) => across.has(two) - across.has(one) || compared(absolute(two.flow), absolute(one.flow));
+  if (hasPlan) return arcs.filter(it => it.flow).sort(isBefore).slice(0, MOST);
   return [...arcs.filter(it => across.has(it)), ...arcs.filter(it => marked.has(it.src) && marked.has(it.dst))].slice(0, MOST);
 }
 
@@ -24,12 +25,13 @@ export function drawingText(network, { hasPlan = true, marked = new Set(), acros
 /** Returns the section of the drawing. */
 export function drawingSection(network, how) {
   const { text, count } = drawingText(network, how), hasPlan = how?.hasPlan ?? true;
-  if (!count) return section('Drawing', element('p', {}, hasPlan ? 'No arc carries anything, so none is drawn.' : 'No arc leads to or from these nodes, so none is drawn.'));
+  const nothing = hasPlan ? 'No arc carries anything, so none is drawn.' : 'No arc leads to or from these nodes, so none is drawn.';
+  if (!count) return section('Drawing', element('p', {}, nothing));
   const box = element('div', { class: 'picture', tabindex: 0, role: 'region', 'aria-label': 'Drawing of the network' });
   box.innerHTML = text;
-  const keys = LEGEND.filter(([kind]) => text.includes(`class="arc ${kind} `)).map(([kind, means]) => element('span', {}, element('i', { class: kind }), !hasPlan && kind === 'idle' ? 'another arc' : means));
-  const left = network.arcs.length - count, what = hasPlan ? 'those that carry something' : 'those of the nodes that are short';
-  const note = left ? element('span', {}, `${grouped(count)} of ${counted(network.arcs.length, 'arc')} are drawn: ${what}${count === MOST ? `, the ${hasPlan ? 'largest' : 'first'} ${MOST}` : ''}. The tables have all.`) : '';
+  const meaningOf = ([kind, means]) => (!hasPlan && kind === 'idle' ? 'another arc' : means);
+  const keys = LEGEND.filter(([kind]) => text.includes(`class="arc ${kind} `)).map(it => element('span', {}, element('i', { class: it[0] }), meaningOf(it)));
+  const note = count < network.arcs.length ? element('span', {}, partNote(count, network.arcs.length, hasPlan)) : '';
   const scale = scaler(box);
   const tools = element('span', { class: 'tools' }, button('Larger', () => scale(1.25)), button('Smaller', () => scale(0.8)), button('Fit', () => scale(0)));
   connect(box);
@@ -40,6 +42,13 @@ export function drawingSection(network, how) {
     scale(0, 0.45);
   }).observe(box);
   return section('Drawing', element('p', { class: 'key' }, ...keys, note, tools), box);
+}
+
+/** Returns what a drawing says if it does not show all arcs. */
+function partNote(count, all, hasPlan) {
+  const what = hasPlan ? 'those that carry something' : 'those of the nodes that are short';
+  const most = count === MOST ? `, the ${hasPlan ? 'largest' : 'first'} ${MOST}` : '';
+  return `${grouped(count)} of ${counted(all, 'arc')} are drawn: ${what}${most}. The tables have all.`;
 }
 
 /** Returns the function that makes the pictures of a box larger by a factor, or with 0 as wide as the box. */

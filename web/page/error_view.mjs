@@ -26,5 +26,6 @@ function markedLine(bytes, { row, column }) {
   const { before, line } = lineAt(bytes, row, column), rest = line.slice(before.length), token = firstToken(rest);
   const start = before.length > AROUND ? `…${before.slice(-AROUND)}` : before, after = rest.slice(token.length);
   const mark = element('mark', {}, token || '\u00a0');
-  return element('pre', { class: 'source', tabindex: 0, 'aria-label': `Line ${row}` }, start, mark, after.length > AROUND ? `${after.slice(0, AROUND)}…` : after);
+  const end = after.length > AROUND ? `${after.slice(0, AROUND)}…` : after;
+  return element('pre', { class: 'source', tabindex: 0, 'aria-label': `Line ${row}` }, start, mark, end);
 }

@@ -36,7 +36,8 @@ export function gridElement(name, titles, arcs) {
 }
 
 function gridTable({ columns, rows }, titles) {
-  const heads = [...titles.slice(0, -1).map(it => element('th', { scope: 'col' }, it)), ...[...columns, 'total'].map(it => element('th', { scope: 'col', class: 'number' }, it))];
+  const head = kind => it => element('th', { scope: 'col', class: kind }, it);
+  const heads = [...titles.slice(0, -1).map(head(null)), ...[...columns, 'total'].map(head('number'))];
   const flowOf = (row, column) => sum((row.cells.get(column) ?? []).map(it => it.flow));
   const lines = rows.map(row => {
     const total = sum(columns.map(it => flowOf(row, it)));

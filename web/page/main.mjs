@@ -167,7 +167,8 @@ const currentInputs = () => ({ model: editors.model.area.value, data: editors.da
 
 /** Shows an example; the text that it replaces can be brought back. */
 function showExample(name) {
-  const old = currentInputs(), isOwn = (old.model || old.data) && !Object.values(PARTS.examples).some(it => it.model === old.model && it.data === old.data);
+  const old = currentInputs(), isShown = it => it.model === old.model && it.data === old.data;
+  const isOwn = (old.model || old.data) && !Object.values(PARTS.examples).some(isShown);
   replaced = isOwn ? old : replaced;
   showInputs(PARTS.examples[name]);
   answer.replaceChildren();

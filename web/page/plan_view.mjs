@@ -29,7 +29,8 @@ export function declarationsOf(plan, network, words) {
 /** Returns the heading of a plan: the value, and what is proved of it. */
 export function planHead(plan, network) {
   const best = !network ? '' : network.sign > 0n ? 'No plan costs less: this is proved.' : 'No plan is worth more: this is proved.';
-  const used = network ? `${counted(network.nodes.length, 'node')}, ${counted(network.arcs.length, 'arc')}, ${grouped(network.arcs.filter(it => it.flow).length)} in use.` : '';
+  const inUse = network?.arcs.filter(it => it.flow).length;
+  const used = network ? `${counted(network.nodes.length, 'node')}, ${counted(network.arcs.length, 'arc')}, ${grouped(inUse)} in use.` : '';
   return element('div', {}, element('p', { class: 'value' }, `${plan.objective} = ${grouped(plan.value)}`), element('p', {}, `${best} ${used}`));
 }
 
@@ -56,7 +57,8 @@ export function nodeSection(network) {
     if (to !== null) came[to] += amount;
     if (from !== null) went[from] += amount;
   }
-  const columns = [{ title: 'node', kind: 'text' }, { title: 'needs or gives', kind: 'text' }, { title: 'inflow', kind: 'number' }, { title: 'outflow', kind: 'number' }];
+  const titles = { node: 'text', 'needs or gives': 'text', inflow: 'number', outflow: 'number' };
+  const columns = Object.entries(titles).map(([title, kind]) => ({ title, kind }));
   const rows = network.nodes.map((node, here) => ({ cells: [node.text, node.wish(), came[here], went[here]], kind: '', isUsed: true }));
   return section('Nodes', new Table('Nodes', columns, rows).element);
 }

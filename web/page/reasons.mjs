@@ -8,11 +8,12 @@ const given = reason => sum(reason.helps.map(it => it.amount));
 /** Returns the titles of a reason's lists and the sentence if nothing helps. */
 export function titlesOf(reason) {
   const isUnder = reason.side === 'under', amount = it => `${it} in all`;
+  const [said, meant] = isUnder ? ['net_in', 'net_out'] : ['net_out', 'net_in'];
   return {
     asks: `${isUnder ? 'Needed' : 'There, at least'}: ${amount(needed(reason))}`,
     helps: `${isUnder ? 'Can come, at most' : 'Room, at most'}: ${amount(given(reason))}`,
     none: isUnder ? 'No arc leads in, and nothing else helps.' : 'No arc leads out, and nothing else helps.',
-    idle: `These arcs lead ${isUnder ? 'out' : 'in'}${reason.helps.length ? '' : `. Is one reversed? Or is ${isUnder ? 'net_out' : 'net_in'} meant instead of ${isUnder ? 'net_in' : 'net_out'}?`}`,
+    idle: `These arcs lead ${isUnder ? 'out' : 'in'}${reason.helps.length ? '' : `. Is one reversed? Or is ${meant} meant instead of ${said}?`}`,
   };
 }
 

@@ -6,6 +6,7 @@ import { headline, titlesOf } from './reasons.mjs';
 import { grouped } from './numbers.mjs';
 
 const HEADINGS = ['flow', 'lower', 'upper', 'price', 'from', 'to'];
+const PARTS_OF_REASONS = { asks: 'needed', helps: 'possible', idle: 'other arc' };
 
 const csvCell = it => (/[",\r\n]/.test(it) ? `"${String(it).replaceAll('"', '""')}"` : String(it));
 
@@ -26,13 +27,17 @@ export function cutCsv(network, reasons) {
   const rows = [['reason', 'part', 'amount', 'what']];
   reasons.forEach((reason, here) => {
     rows.push([here + 1, 'summary', '', headline(network, reason)]);
-    for (const part of ['asks', 'helps', 'idle']) for (const it of reason[part]) rows.push([here + 1, { asks: 'needed', helps: 'possible', idle: 'other arc' }[part], it.amount, it.text]);
+    for (const [part, name] of Object.entries(PARTS_OF_REASONS)) for (const it of reason[part]) rows.push([here + 1, name, it.amount, it.text]);
   });
   return rows.map(row => `${row.map(csvCell).join(',')}\n`).join('');
 }
 
-const htmlTable = (columns, rows) => `<table><thead><tr>${columns.map(it => `<th scope="col">${escaped(it.title)}</th>`).join('')}</tr></thead><tbody>\n${
-  rows.map(row => `<tr class="${row.kind}">${row.cells.map((it, here) => `<td class="${columns[here].kind}">${escaped(typeof it === 'bigint' ? grouped(it) : it)}</td>`).join('')}</tr>`).join('\n')}\n</tbody></table>`;
+function htmlTable(columns, rows) {
+  const head = columns.map(it => `<th scope="col">${escaped(it.title)}</th>`).join('');
+  const cell = (it, here) => `<td class="${columns[here].kind}">${escaped(typeof it === 'bigint' ? grouped(it) : it)}</td>`;
+  const lines = rows.map(row => `<tr class="${row.kind}">${row.cells.map(cell).join('')}</tr>`);
+  return `<table><thead><tr>${head}</tr></thead><tbody>\n${lines.join('\n')}\n</tbody></table>`;
+}
 
 function planParts(plan, network, declarations) {
   const tables = declarations.map(({ name, arcs, titles }) => {

@@ -5,6 +5,7 @@ const PLAIN_NAME = /^(?!(?:set|param|data|end|default)$)[A-Za-z_]\w*$/;
 const KEY_NUMBER = /^(?:-?[1-9][0-9]{0,11}|0)$/;
 const NUMERAL = /^([+-]?)(?:(\d+)(?:\.(\d*))?|\.(\d+))(?:[eE]([+-]?\d{1,4}))?$/;
 const LIKE_NUMBER = /^[+\-\u2212]?[0-9][0-9.,'\u2019\u00a0\u202f ]*(?:[eE][+-]?[0-9]+)?%?$/;
+const ERROR_VALUE = /^#(?:N\/A|REF!|DIV\/0!|VALUE!|NAME\?|NUM!|NULL!)$/;
 const LARGEST = 10n ** 12n;
 
 /** What is wrong with a cell or a table. */
@@ -76,7 +77,7 @@ function member(cell) {
 /** Returns a cell as a value: a point if it is empty, a number times the factor, or a text. */
 function value(cell, { factor = 1n, hasComma = false }) {
   if (!cell.text) return '.';
-  if (/^#(?:N\/A|REF!|DIV\/0!|VALUE!|NAME\?|NUM!|NULL!)$/.test(cell.text)) reject(cell, 'is an error value of the spreadsheet. Write the number, or leave the cell empty.');
+  if (ERROR_VALUE.test(cell.text)) reject(cell, 'is an error value of the spreadsheet. Write the number, or leave the cell empty.');
   const text = hasComma && /^[+-]?\d*,\d+$/.test(cell.text) ? cell.text.replace(',', '.') : cell.text, numeral = NUMERAL.exec(text);
   if (numeral) return number(cell, numeral, text, factor);
   if (LIKE_NUMBER.test(cell.text)) reject(cell, 'is no number in plain digits. Take marks and units out of it, or choose decimal commas.');
@@ -98,7 +99,8 @@ const parameterName = cell => (PLAIN_NAME.test(cell.text) ? cell.text : reject(c
 export function gridStatement(rows, { name, isTurned = false, ...how }) {
   const columns = rows[0].slice(1).map(member);
   if (!columns.length) reject(rows[0][0], 'has no column to its right.');
-  const lines = rows.slice(1).map(row => filled(row, rows[0].length)).map(row => [member(row[0]), ...row.slice(1).map(it => value(it, how))].join(' '));
+  const lineOf = row => [member(row[0]), ...row.slice(1).map(it => value(it, how))].join(' ');
+  const lines = rows.slice(1).map(row => lineOf(filled(row, rows[0].length)));
   return [`param ${name}${isTurned ? ' (tr)' : ''}: ${columns.join(' ')} :=`, ...lines, ';'].join('\n');
 }
 
@@ -106,7 +108,8 @@ export function gridStatement(rows, { name, isTurned = false, ...how }) {
 export function listStatement(rows, { keys = 1, set = '', ...how }) {
   const names = rows[0].slice(keys).map(parameterName);
   if (!names.length) reject(rows[0][0], `is in the first row, which needs at least ${keys + 1} titles: the keys, then the parameters.`);
-  const lines = rows.slice(1).map(row => filled(row, rows[0].length)).map(row => [...row.slice(0, keys).map(member), ...row.slice(keys).map(it => value(it, how))].join(' '));
+  const lineOf = row => [...row.slice(0, keys).map(member), ...row.slice(keys).map(it => value(it, how))].join(' ');
+  const lines = rows.slice(1).map(row => lineOf(filled(row, rows[0].length)));
   return [`param: ${set ? `${set}: ` : ''}${names.join(' ')} :=`, ...lines, ';'].join('\n');
 }
 

@@ -41,7 +41,8 @@ export class Table {
     if (this.rows.length < 12 && !usedText) return '';
     this.words = element('input', { type: 'search', 'aria-label': `Find in ${this.title}`, placeholder: 'Find', oninput: () => this.find() });
     this.used = usedText ? element('input', { type: 'checkbox', onchange: () => this.find() }) : null;
-    return element('p', { class: 'tools' }, this.rows.length < 12 ? '' : this.words, this.used ? element('label', {}, this.used, ` ${usedText}`) : '', this.count);
+    const used = this.used ? element('label', {}, this.used, ` ${usedText}`) : '';
+    return element('p', { class: 'tools' }, this.rows.length < 12 ? '' : this.words, used, this.count);
   }
 
   sort(here) {
@@ -59,8 +60,10 @@ export class Table {
   /** Shows the rows that contain every word of the search. */
   find() {
     const words = (this.words?.value ?? '').toLowerCase().split(' ').filter(Boolean), isUsedOnly = this.used?.checked;
-    this.shown = words.length || isUsedOnly ? this.rows.filter(row => (!isUsedOnly || row.isUsed) && words.every(it => this.textOf(row).includes(it))) : this.rows;
-    this.count.textContent = this.shown.length < this.rows.length ? `${grouped(this.shown.length)} of ${counted(this.rows.length, 'row')}` : counted(this.rows.length, 'row');
+    const isFound = row => (!isUsedOnly || row.isUsed) && words.every(it => this.textOf(row).includes(it));
+    this.shown = words.length || isUsedOnly ? this.rows.filter(isFound) : this.rows;
+    const left = this.shown.length < this.rows.length ? `${grouped(this.shown.length)} of ` : '';
+    this.count.textContent = left + counted(this.rows.length, 'row');
     this.view.scrollTop = 0;
     this.fill(true);
   }

@@ -25,7 +25,8 @@ function statementOf(rows) {
   if (kind !== 'list' && !isName(name)) throw new SheetError(`Write the name of the ${kind === 'set' ? 'set' : 'parameter'} in the model.`);
   if (kind === 'list' && set && !isName(set)) throw new SheetError(`'${set}' is no name of a set.`);
   if (kind === 'grid') return gridStatement(rows, { name, isTurned: field('turned').checked, ...how });
-  return kind === 'list' ? listStatement(rows, { keys: Number(field('keys').value), set, ...how }) : setStatement(rows, { name, hasHeading: field('heading').checked });
+  if (kind === 'list') return listStatement(rows, { keys: Number(field('keys').value), set, ...how });
+  return setStatement(rows, { name, hasHeading: field('heading').checked });
 }
 
 const FIRST_LINES = 12;
