@@ -18,3 +18,4 @@ pub mod OneAnswer
 pub mod Meaning
 pub mod MeaningLaws
 pub mod LineNames
+pub mod SolvedOutcomes

@@ -9,6 +9,7 @@ ghost use Rattle.net_driver.specs.IsSolved.{IsSolved, text_of};
 ghost use Rattle.net_driver.specs.IsBuilt.{IsBuilt};
 ghost use Rattle.net_driver.specs.CompiledNetwork.{written};
 ghost use Rattle.net_driver.specs.Meaning.{IsSolution};
+ghost use Rattle.net_driver.specs.SolvedOutcomes.{IsOutcomeFor};
 ghost use Rattle.net_driver.specs.Made.{SizesAgree};
 ghost use Rattle.net_expr.specs.Worlds.{Name};
 ghost use Rattle.net_driver.specs.Outcomes.{IsOutcomeOf, IsDisplayOf, IsCutOf};
@@ -92,6 +93,24 @@ pub fn solve_model_with<'s>(
     let outcome = solve_network(alloc, &network)?;
     let compiled = with_text(alloc, network)?;
     Ok(Answer { compiled, outcome })
+}
+
+/// Solves a model with its data and options, and builds only the outcome, whose text is what
+/// [`crate::run_solve_with`] writes. Returns the same errors as [`crate::compile_with`].
+pub fn solve_outcome_with(
+    alloc: Global,
+    options: &Options<'_>,
+    model: &[u8],
+    data: &[u8],
+) -> Result<Outcome, Fault>
+    ensures value { IfOk result (IsOutcomeFor options.now.lean (option_copied options.now.objective) model.now «data».now) }
+    ensures rejected { IfErr result (IsRejection (option_copied options.now.objective) model.now «data».now) }
+{
+    let found = read_network(alloc, model, data, options.objective);
+    let named = reported(alloc, model, data, found)?;
+    let network = compile_network(alloc, options.lean, named)?;
+    let outcome = solve_network(alloc, &network)?;
+    Ok(outcome)
 }
 
 /// Solves a compiled model, for which no text is needed. Fails only if memory runs out.

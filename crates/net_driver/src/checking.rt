@@ -93,7 +93,7 @@ fn reason_word(reason: Reason) -> &'static [u8]
 
 /// Formats the line of a verdict: `yes`, or `no` with the reason and the number of its arc or node.
 /// Fails only if memory runs out.
-pub(crate) fn verdict_line(alloc: Global, verdict: Verdict) -> Result<Vec<u8>, AllocError>
+pub fn verdict_line(alloc: Global, verdict: Verdict) -> Result<Vec<u8>, AllocError>
     ensures { IfOk result (λ text. text.items ≡ verdict_line verdict) }
 {
     let mut text = Vec::new(alloc);

@@ -14,8 +14,8 @@ mod problem_source;
 mod reporting;
 mod solve_run;
 
-pub use answer::{Answer, Outcome, solve_model, solve_model_with};
-pub use checking::check_bytes;
+pub use answer::{Answer, Outcome, solve_model, solve_model_with, solve_outcome_with};
+pub use checking::{check_bytes, verdict_line};
 pub use compile_run::{run_compile, run_compile_with};
 pub use compiled::{Compiled, Options, Text, compile, compile_with};
 pub use driver_fault::{Fault, LineRejection, Rejection, TextName};
