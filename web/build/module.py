@@ -38,7 +38,7 @@ def run(words, **how):
     """Runs a command; raises Failed with what it printed if it fails."""
     ran = subprocess.run(list(map(str, words)), stdin=subprocess.DEVNULL, stdout=subprocess.PIPE, stderr=subprocess.STDOUT, **how)
     if ran.returncode:
-        raise Failed(f"{words[0]} failed with status {ran.returncode}:\n{ran.stdout.decode(errors='replace')[-3000:]}")
+        raise Failed(f"{words[0]} failed with status {ran.returncode}:\n{ran.stdout.decode(errors='replace')[-12000:]}")
     return ran.stdout
 
 

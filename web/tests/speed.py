@@ -21,6 +21,7 @@ return page.performance.now() - start;
 WHOLE = """
 const at = id => document.getElementById(id);
 for (const [name, text] of Object.entries(args[0])) { at(name).value = text; at(name).dispatchEvent(new Event('input')); }
+at('answer').replaceChildren();
 const start = page.performance.now();
 at('solve').click();
 while (!document.querySelector('#answer .value')) await new Promise(done => page.requestAnimationFrame(done));
