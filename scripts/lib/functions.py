@@ -11,7 +11,7 @@ import pathlib
 import re
 import shutil
 
-FUNCTION = re.compile(r"(?m)^( *)(?:pub(?:\([^)]*\))?\s+)?(?:final\s+)?(const\s+)?fn (\w+)")
+FUNCTION = re.compile(r"(?m)^( *)(?:pub(?:\([^)]*\))?\s+)?(?:final\s+)?(const\s+)?(?:extern \S+ )?fn (\w+)")
 IMPL = re.compile(r"(?m)^impl(?:<[^{]*?>)?\s+(?:([\w:]+)(?:<[^{]*?>)?\s+for\s+)?(\w+)[^{]*\{\n")
 CYCLE = re.compile(r"(?m)^ *#\[cycle\((\w+)\)\]\n")
 STUB = "unreachable!()"
