@@ -105,7 +105,7 @@ def check_endless(complaints):
 
 
 def check_standard_input(complaints):
-    """Standard input by its path: a pipe, a file that was read in part, a socket, which no path opens, and one that is closed."""
+    """Standard input by its path: a pipe, a file that was read in part, a socket, which no path opens, and one that is closed, which the runtime reads as an empty text."""
     folder = TOP / "examples" / "one_arc"
     model, wanted = (folder / "one_arc.mod").read_bytes(), (0, (folder / "compile.txt").read_bytes(), b"")
     words = [str(PROGRAM), "compile", "/dev/stdin", "/dev/null"]
@@ -124,7 +124,7 @@ def check_standard_input(complaints):
         done = subprocess.run(words, stdin=theirs, capture_output=True)
     compare("a socket", wanted, (done.returncode, done.stdout, done.stderr), complaints)
     done = subprocess.run(["sh", "-c", 'exec "$@" <&-', "sh", *words], capture_output=True)
-    compare("a closed standard input", rejected("E90 ReadFault model", 4), (done.returncode, done.stdout, done.stderr), complaints)
+    compare("a closed standard input, which is empty", rejected("E56 NoObjective model 1:1", 3), (done.returncode, done.stdout, done.stderr), complaints)
 
 
 def check_long_lines(complaints):
