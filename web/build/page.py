@@ -75,10 +75,10 @@ def examples():
 
 def drawing_style():
     """Returns the style of drawings, which is that of netflow-report."""
-    text = (TOP / "python" / "netflow" / "style.py").read_text(encoding="utf-8")
+    text = (TOP / "python" / "netflow" / "report" / "style.py").read_text(encoding="utf-8")
     found = re.search(r'(?s)^DRAWING_STYLE = """(.*?)"""', text, re.M)
     if not found:
-        raise Wrong("python/netflow/style.py has no DRAWING_STYLE")
+        raise Wrong("python/netflow/report/style.py has no DRAWING_STYLE")
     return found[1]
 
 

@@ -1,5 +1,5 @@
 // Sets of nodes that are short: they need more than can come, or have more than can leave. The twin of `Cuts` in
-// python/netflow/reasons.py.
+// python/netflow/analysis/reasons.py.
 import { compared, sum } from './numbers.mjs';
 
 /** A part of a reason: an amount, and what it is of; `arc` is the arc if it is one. */

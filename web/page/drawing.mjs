@@ -1,5 +1,5 @@
 // Draws a network as SVG: nodes in layers, arcs as curves, the flow of an arc next to its arrow head. The twin of the second half of
-// python/netflow/draw.py: a test compares the drawings.
+// python/netflow/report/drawing.py: a test compares the drawings.
 import { absolute } from './numbers.mjs';
 import { components } from './layout.mjs';
 import { Picture, STUB, stubKey } from './picture.mjs';

@@ -1,4 +1,4 @@
-// What the parts of a key are called, by the words of the model. The twin of `headings` in python/netflow/words.py.
+// What the parts of a key are called, by the words of the model. The twin of `headings` in python/netflow/reading/headings.py.
 
 export const TOKEN = /#[^\n]*|\/\*[^]*?\*\/|'(?:[^'\n]|'')*'|"(?:[^"\n]|"")*"|:=|[\p{L}\p{N}_.+-]+|\S/gu;
 const NAME = /^[A-Za-z_][\p{L}\p{N}_]*$/u;

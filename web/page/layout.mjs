@@ -1,4 +1,4 @@
-// Layers, orders and positions for the drawing of a network. The twin of python/netflow/layout.py: a test compares the drawings.
+// Layers, orders and positions for the drawing of a network. The twin of python/netflow/report/layout.py: a test compares the drawings.
 
 /** A point in a layer that a long arc passes. */
 export class Bend {}

@@ -1,4 +1,4 @@
-// The sizes and positions of a drawing. The twin of the first half of python/netflow/draw.py: a test compares the drawings.
+// The sizes and positions of a drawing. The twin of the first half of python/netflow/report/drawing.py: a test compares the drawings.
 import { grouped } from './numbers.mjs';
 import { Bend, apart, hasCycle, layers, listAt, mean } from './layout.mjs';
 

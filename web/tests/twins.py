@@ -51,7 +51,8 @@ def drawn_models():
 
 
 def compare_drawings(twin, complaints):
-    from netflow import draw, texts
+    from netflow.reading import output as texts
+    from netflow.report import drawing
     count = 0
     for model, data in drawn_models():
         (status, compiled), (solved, answer) = (cases.by_program(it, [b"", False, model, data]) for it in ("compile", "solve"))
@@ -69,7 +70,7 @@ def compare_drawings(twin, complaints):
         is_alone = len(arcs) == len(net.arcs)
         if not arcs:
             continue
-        wanted = draw.draw(net, [net.arcs[at] for at in arcs], frozenset(cut), {id(net.arcs[at]) for at in across}, is_alone).svg(False)
+        wanted = drawing.draw(net, [net.arcs[at] for at in arcs], frozenset(cut), {id(net.arcs[at]) for at in across}, is_alone).svg(False)
         found = twin.ask(kind="draw", compiled=compiled.decode(), plan=plan, worths=[it.worth for it in net.arcs], arcs=arcs, marked=cut, across=across, alone=is_alone)
         count += 1
         if found != re.sub(r' style="--wide:\d+px"', "", wanted):
@@ -78,7 +79,7 @@ def compare_drawings(twin, complaints):
 
 
 def compare_headings(twin, complaints):
-    from netflow.words import headings
+    from netflow.reading.headings import headings
     count = 0
     for model, _ in cases.kept_models():
         text = model.decode()
@@ -110,8 +111,8 @@ TABLES = (
 
 
 def compare_tables(twin, complaints):
-    from netflow import sheet
     from netflow.errors import ProgramError
+    from netflow.tools import sheet
     for kind, text, options, words in TABLES:
         with tempfile.NamedTemporaryFile("w", suffix=".csv", encoding="utf-8", newline="") as file:
             file.write(text)
