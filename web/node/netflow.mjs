@@ -59,12 +59,14 @@ export function parsed(words) {
   return found;
 }
 
-/** Reads a file up to one byte more than the limit; returns null if it cannot be read. */
+const STANDARD_INPUT = '/dev/stdin';
+
+/** Reads a file, or standard input as it is, up to one byte more than the limit; returns null if it cannot be read. */
 function readUpTo(file, limit) {
   const parts = [];
   let size = 0, descriptor;
   try {
-    descriptor = fs.openSync(file, 'r');
+    descriptor = file === STANDARD_INPUT ? 0 : fs.openSync(file, 'r');
     while (size <= limit) {
       const part = Buffer.allocUnsafe(Math.min(65536 * 4, limit + 1 - size)), count = fs.readSync(descriptor, part);
       if (!count) break;
@@ -75,7 +77,7 @@ function readUpTo(file, limit) {
   } catch {
     return null;
   } finally {
-    if (descriptor !== undefined) fs.closeSync(descriptor);
+    if (descriptor) fs.closeSync(descriptor);
   }
 }
 

@@ -50,6 +50,9 @@ def call_of(words):
         word = rest.pop(0)
         if word == "--objective" and rest:
             objective = rest.pop(0)
+            if not objective:
+                # For the module no name means the only objective; for the command line it is a name that no objective has.
+                return None
         elif word == "--lean":
             is_lean = True
         elif word.startswith("-"):
