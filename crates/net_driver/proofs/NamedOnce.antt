@@ -9,17 +9,17 @@ use Rattle.net_lex.specs.declared.token.Token.{Token}
 use Rattle.net_tree.specs.Items.{single_name, sides}
 use Rattle.net_tree.specs.Role.{role_of}
 use Rattle.net_tree.specs.Tree.{Tree, tuple, Links, none, link, Braces, empty, filled, Body, plain, valued, priced, Phrase, Declaration, set, param, check, node, arc, objective}
-use Rattle.net_resolve.specs.declared.meaning.Meaning.{Meaning}
-use Rattle.net_resolve.specs.declared.meaning.Meaning.TheVariants as meanings
-use Rattle.net_resolve.specs.declared.meaning.Need.{Need}
-use Rattle.net_resolve.specs.declared.meaning.Need.TheVariants as needs
-use Rattle.net_resolve.specs.Dummies.{with_bare, with_component, with_components, with_left, with_sides, with_item, with_items, with_indexing}
-use Rattle.net_resolve.specs.Meanings.{error_code_of}
-use Rattle.net_resolve.specs.Names.{body_fault, phrases_fault, need_after, indexing_fault, declaration_fault, declared, with_declared, with_declaration, objective_meaning, names_fault, IsWellNamed}
-use Rattle.net_resolve.specs.Scopes.{Name, Scope, meaning_in}
-use Rattle.net_resolve.specs.Reported.{at_name, name_fault, declared_before}
+use Rattle.net_names.specs.declared.meaning.Meaning.{Meaning}
+use Rattle.net_names.specs.declared.meaning.Meaning.TheVariants as meanings
+use Rattle.net_names.specs.declared.meaning.Need.{Need}
+use Rattle.net_names.specs.declared.meaning.Need.TheVariants as needs
+use Rattle.net_names.specs.Dummies.{with_bare, with_component, with_components, with_left, with_sides, with_item, with_items, with_indexing}
+use Rattle.net_names.specs.Meanings.{error_code_of}
+use Rattle.net_names.specs.Names.{body_fault, phrases_fault, need_after, indexing_fault, declaration_fault, declared, with_declared, with_declaration, objective_meaning, names_fault, IsWellNamed}
+use Rattle.net_names.specs.Scopes.{Name, Scope, meaning_in}
+use Rattle.net_names.specs.Reported.{at_name, name_fault, declared_before}
 use Rattle.net_expr.proofs.Walked.{all_as}
-use Rattle.net_eval.proofs.NewNames.{firsts, parts}
+use Rattle.net_bind.proofs.NewNames.{firsts, parts}
 use Rattle.net_inst.specs.Soundness.{IsListed, NamesObjective, NameObjectives, names_in, IsNamedOnce}
 use Rattle.net_driver.proofs.NamesOnce.{new_here}
 

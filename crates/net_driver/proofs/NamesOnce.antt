@@ -6,12 +6,12 @@ use Rattle.std.proofs.Common.{refl, ap, sym, ◌∙◌}
 use Rattle.std.proofs.lemmas.Map.Keys.{IsDistinct-cons}
 use Rattle.net_lex.specs.declared.token.Token.{Token}
 use Rattle.net_tree.specs.Tree.{Declaration, set, param, check, node, arc, objective}
-use Rattle.net_resolve.specs.declared.meaning.Meaning.{Meaning}
-use Rattle.net_resolve.specs.Names.{declaration_fault, declared, with_declared, with_declaration, names_fault, IsWellNamed}
-use Rattle.net_resolve.specs.Scopes.{Scope, meaning_in}
-use Rattle.net_resolve.specs.Reported.{Fault, first, declared_before}
+use Rattle.net_names.specs.declared.meaning.Meaning.{Meaning}
+use Rattle.net_names.specs.Names.{declaration_fault, declared, with_declared, with_declaration, names_fault, IsWellNamed}
+use Rattle.net_names.specs.Scopes.{Scope, meaning_in}
+use Rattle.net_names.specs.Reported.{Fault, first, declared_before}
 use Rattle.net_expr.proofs.Walked.{all_as}
-use Rattle.net_eval.proofs.NewNames.{firsts, none_before, parts}
+use Rattle.net_bind.proofs.NewNames.{firsts, none_before, parts}
 use Rattle.net_inst.specs.declared.network_names.Declared.{Declared}
 use Rattle.net_inst.specs.AsWritten.{node_declared, arc_declared}
 use Rattle.net_inst.specs.Laws.{same_name}

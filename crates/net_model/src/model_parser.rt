@@ -22,7 +22,7 @@ use crate::model_fault::reported;
 use crate::token_cursor::Cursor;
 use net_base::Fault;
 use net_lex::Token;
-use net_resolve::check_names;
+use net_names::check_names;
 use net_sets::HashKey;
 use net_tree::Model;
 use std::alloc::{AllocError, AllocFailed, Global};

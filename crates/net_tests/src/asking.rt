@@ -2,18 +2,18 @@
 
 ghost use Rattle.std.specs.Prelude.{[]};
 ghost use Rattle.net_tree.specs.View as view;
-ghost use Rattle.net_eval.specs.Binding.{AreNew};
+ghost use Rattle.net_bind.specs.Binding.{AreNew};
 
 use crate::instances::network_shown;
 use crate::steps::line_of;
 use crate::values::{index_shown, members_shown, truth_shown, value_shown};
 use net_base::Excerpt;
+use net_bind::{Member, Scope, World, bind, well_named_are_new};
 use net_data::{Tables, parse_data};
 use net_driver::well_named;
-use net_eval::{Member, Scope, World, bind, well_named_are_new};
 use net_lex::{Token, Words, lex_data, lex_model};
 use net_model::{CheckedModel, free_model, parse_declarations, parse_model};
-use net_resolve::Hints;
+use net_names::Hints;
 use net_sets::HashKey;
 use net_tree::{Braces, Decl, Expr, Model};
 use std::alloc::{AllocError, Global};

@@ -3,7 +3,7 @@
 use crate::comparison::expect;
 use crate::steps::line_of;
 use net_base::Excerpt;
-use net_eval::{Keys, Member, Scope, Tuple, World, holds, index_of, members, value};
+use net_bind::{Keys, Member, Scope, Tuple, World, holds, index_of, members, value};
 use net_expr::{Row, push_member};
 use net_lex::whole_of;
 use net_tree::{Braces, Expr};
