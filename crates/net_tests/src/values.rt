@@ -10,7 +10,8 @@ use net_tree::{Braces, Expr};
 use std::alloc::{AllocError, Global};
 use std::test::Fail;
 
-fn member_shown(alloc: Global, member: &Member<'_>) -> Result<String, AllocError> {
+/// A member as text.
+pub fn member_shown(alloc: Global, member: &Member<'_>) -> Result<String, AllocError> {
     let mut out = String::new(alloc);
     push_member(alloc, &mut out, member)?;
     Ok(out)
