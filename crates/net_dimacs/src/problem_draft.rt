@@ -12,7 +12,7 @@ use std::alloc::Global;
 
 /// The content of the lines from the `p` line on, so far.
 #[derive(Drop)]
-pub struct Draft {
+pub struct ProblemDraft {
     /// The supply of each node, 0 if no line has set it.
     pub supplies: Vec<i64>,
     /// For each node, whether a line has set its supply.
@@ -31,13 +31,13 @@ pub struct Draft {
     pub ghost arcs_fit: { All (IsFlowArcOf (vec_len supplies)) arcs.items },
 }
 
-impl Draft {
+impl ProblemDraft {
     ghost use Rattle.net_dimacs.specs.Reading.{place_of, new_sketch, with_node, with_arc, next_sketch};
     ghost use Rattle.net_dimacs.specs.Drafts.{sketch_of, GivesDraft, GivesSketch};
 
     /// Starts a problem with the counts of a `p` line. Checks the counts before it allocates
     /// memory.
-    pub fn new(alloc: Global, nodes: i64, arcs: i64) -> Result<Draft, LineStop>
+    pub fn new(alloc: Global, nodes: i64, arcs: i64) -> Result<ProblemDraft, LineStop>
         ensures { GivesDraft (new_sketch nodes arcs) result }
     {
         if nodes < 1 || arcs < 0 {
@@ -48,7 +48,7 @@ impl Draft {
         }
         let node_count = nodes as usize;
         let arc_count = arcs as usize;
-        Ok(Draft {
+        Ok(ProblemDraft {
             supplies: vec![in alloc; 0; node_count]?,
             named: vec![in alloc; false; node_count]?,
             arcs: Vec::with_capacity(alloc, arc_count)?,

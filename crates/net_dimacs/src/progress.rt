@@ -3,7 +3,7 @@
 ghost use Rattle.std.specs.Prelude.{◌≡◌, OnOk, OnErr, IsErrOf, option_to_list};
 ghost use Rattle.net_dimacs.specs.declared.progress.LineStop.TheVariants as line_stops;
 
-use crate::problem_draft::Draft;
+use crate::problem_draft::ProblemDraft;
 use crate::problem_fault::{LineFault, ProblemFault, Rejection};
 use crate::problem_line::Statement;
 use net_normal::Problem;
@@ -15,7 +15,7 @@ pub enum Progress {
     /// Nothing yet.
     Start,
     /// A partial problem.
-    Open(Draft),
+    Open(ProblemDraft),
     /// The first error.
     Rejected(Rejection),
 }
@@ -56,7 +56,7 @@ impl Progress {
         ensures { GivesState (new_state line statement) statement result }
     {
         let draft = match statement {
-            Statement::Problem(nodes, arcs) => Draft::new(alloc, nodes, arcs),
+            Statement::Problem(nodes, arcs) => ProblemDraft::new(alloc, nodes, arcs),
             Statement::Other => Err(LineStop::Line(LineFault::BadLine)),
             _ => Err(LineStop::Line(LineFault::NoProblemLine)),
         };

@@ -1,6 +1,6 @@
 use Rattle.std.proofs.Common.{arith}
 use Rattle.std.proofs.lemmas.Grind.{common_steps}
-use Rattle.net_dimacs.proofs.problem_draft.Draft.take_node.Goals as goal
+use Rattle.net_dimacs.proofs.problem_draft.ProblemDraft.take_node.Goals as goal
 
 pub overflow_cast-place : goal.overflow_cast-place
 overflow_cast-place c = grind (arith, common_steps)

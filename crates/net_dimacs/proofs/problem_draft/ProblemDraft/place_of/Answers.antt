@@ -1,6 +1,6 @@
 use Rattle.std.proofs.Common.{arith}
 use Rattle.std.proofs.lemmas.Grind.{common_steps}
-use Rattle.net_dimacs.proofs.problem_draft.Draft.place_of.Goals as goal
+use Rattle.net_dimacs.proofs.problem_draft.ProblemDraft.place_of.Goals as goal
 
 pub overflow_cast-result : goal.overflow_cast-result
 overflow_cast-result c = grind (arith, common_steps)

@@ -3,7 +3,7 @@ use Rattle.std.proofs.lemmas.List.Elements.{All-push}
 use Rattle.net_normal.specs.Limits.{IsFlowArcOf}
 use Rattle.net_normal.specs.declared.problem.FlowArc.{FlowArc}
 use Rattle.net_dimacs.specs.Drafts.{sketch_of}
-use Rattle.net_dimacs.proofs.problem_draft.Draft.push_arc.Goals as goal
+use Rattle.net_dimacs.proofs.problem_draft.ProblemDraft.push_arc.Goals as goal
 
 pub returns : goal.returns
 returns c = ap (λ (arcs : List FlowArc). record (sketch_of c.args.self.now) { arcs = arcs }) c.push_reserved.ensures.items

@@ -3,7 +3,7 @@ use Rattle.std.proofs.lemmas.Grind.{common_steps}
 use Rattle.std.proofs.lemmas.Int.{ints}
 use Rattle.std.proofs.lemmas.List.{get_or-replicate, length-replicate}
 use Rattle.net_normal.specs.Limits.{IsSized, flow_limit}
-use Rattle.net_dimacs.proofs.problem_draft.Draft.new.Goals as goal
+use Rattle.net_dimacs.proofs.problem_draft.ProblemDraft.new.Goals as goal
 
 zeros-fit : (xs : List ℤ) (n : ℕ) → xs ≡ replicate n (pos 0) → All (IsSized flow_limit) xs
 zeros-fit xs n e = subst (All (IsSized flow_limit)) (sym e) (λ k d l.

@@ -5,7 +5,7 @@ use Rattle.std.specs.Prelude.{nat_le}
 use Rattle.std.proofs.lemmas.Bool.Decides.{nat_tests}
 use Rattle.net_dimacs.specs.Drafts.{sketch_of}
 use Rattle.net_dimacs.proofs.DraftSteps.{with_arc_is}
-use Rattle.net_dimacs.proofs.problem_draft.Draft.take_arc.Goals as goal
+use Rattle.net_dimacs.proofs.problem_draft.ProblemDraft.take_arc.Goals as goal
 
 pub returns-in-Some-bounds_fault : goal.returns-in-Some-bounds_fault
 returns-in-Some-bounds_fault c =
