@@ -2,7 +2,7 @@
 use Rattle.std.specs.Prelude.{◌≡◌, ◌∷◌, [], Result, Ok, Err, IsOk}
 use Rattle.std.specs.declared.alloc.AllocError.{AllocError}
 use Rattle.net_dimacs.specs.declared.problem_fault.LineFault.{LineFault}
-use Rattle.net_dimacs.specs.declared.problem_line.Statement.{Statement}
+use Rattle.net_dimacs.specs.declared.problem_line.LineStatement.{LineStatement}
 use Rattle.net_dimacs.specs.declared.problem_draft.ProblemDraft.{ProblemDraft}
 use Rattle.net_dimacs.specs.declared.progress.LineStop.{LineStop}
 use Rattle.net_dimacs.specs.declared.progress.LineStop.TheVariants as line_stops
@@ -35,6 +35,6 @@ state_of (progresses.Open d) = Open (sketch_of d)
 state_of (progresses.Rejected rejection) = Rejected rejection
 
 -- the state after the first statement; memory can run out only at an accepted `p` line
-abbrev pub GivesState : State → Statement → Result Progress AllocError → Type 0
+abbrev pub GivesState : State → LineStatement → Result Progress AllocError → Type 0
 GivesState state statement (Ok progress) = state_of progress ≡ state
 GivesState state statement (Err e) = BeginsProblem (statement ∷ [])

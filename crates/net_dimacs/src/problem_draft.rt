@@ -5,7 +5,7 @@ ghost use Rattle.net_normal.specs.Limits.{IsSized, IsFlowArcOf, flow_node_limit,
 ghost use Rattle.net_dimacs.specs.Reading.{is_past, bounds_fault};
 
 use crate::problem_fault::LineFault;
-use crate::problem_line::Statement;
+use crate::problem_line::LineStatement;
 use crate::progress::LineStop;
 use net_normal::{COST_LIMIT, FLOW_ARC_LIMIT, FLOW_LIMIT, FLOW_NODE_LIMIT, FlowArc, Problem};
 use std::alloc::Global;
@@ -57,14 +57,14 @@ impl ProblemDraft {
     }
 
     /// Adds the next line. Allocates no memory.
-    pub fn take(&mut self, statement: Statement) -> Result<(), LineFault>
+    pub fn take(&mut self, statement: LineStatement) -> Result<(), LineFault>
         ensures { GivesSketch (next_sketch (sketch_of self.old) statement) result (sketch_of self.new) }
     {
         match statement {
-            Statement::Problem(..) => Err(LineFault::LineOrder),
-            Statement::Node(node, supply) => self.take_node(node, supply),
-            Statement::Arc(src, dst, low, cap, cost) => self.take_arc(src, dst, low, cap, cost),
-            Statement::Other => Err(LineFault::BadLine),
+            LineStatement::Problem(..) => Err(LineFault::LineOrder),
+            LineStatement::Node(node, supply) => self.take_node(node, supply),
+            LineStatement::Arc(src, dst, low, cap, cost) => self.take_arc(src, dst, low, cap, cost),
+            LineStatement::Other => Err(LineFault::BadLine),
         }
     }
 
