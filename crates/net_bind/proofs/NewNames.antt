@@ -8,7 +8,7 @@ use Rattle.net_names.specs.declared.meaning.Meaning.{Meaning}
 use Rattle.net_names.specs.declared.meaning.Meaning.TheVariants as meanings
 use Rattle.net_names.specs.Names.{declaration_fault, indexing_fault, phrases_fault, objective_meaning, names_fault, with_declaration, IsWellNamed}
 use Rattle.net_names.specs.Dummies.{with_indexing}
-use Rattle.net_names.specs.Scopes.{Name, Scope, meaning_in}
+use Rattle.net_names.specs.Scopes.{Name, NameScope, meaning_in}
 use Rattle.net_names.specs.Reported.{Fault, first, declared_before}
 use Rattle.net_bind.specs.Binding.{is_among, AreNew}
 
@@ -24,7 +24,7 @@ pub none_before : (o : Option Meaning) (t : Token) → declared_before o t ≡ N
 none_before None t h = refl
 none_before (Some m) t h = cc
 
-pub parts : (n k : Name) (m : Meaning) (s : Scope) → meaning_in n (s ++ (k, m) ∷ []) ≡ None → (meaning_in n s ≡ None) × (bytes_eq k n ≡ false)
+pub parts : (n k : Name) (m : Meaning) (s : NameScope) → meaning_in n (s ++ (k, m) ∷ []) ≡ None → (meaning_in n s ≡ None) × (bytes_eq k n ≡ false)
 parts n k m [] h = go (bytes_eq k n) refl h
   where
     go : (b : Bool) → bytes_eq k n ≡ b → (if b then Some m else None) ≡ None → (meaning_in n [] ≡ None) × (bytes_eq k n ≡ false)
@@ -39,16 +39,16 @@ parts n k m (e ∷ s) h = go (bytes_eq e.0 n) h (parts n k m s)
     go false h more = more h
 
 -- what means nothing in the scope is no known name
-abbrev IsReported : List Name → Scope → Type 0
+abbrev IsReported : List Name → NameScope → Type 0
 IsReported known s = (n : Name) → meaning_in n s ≡ None → is_among known n ≡ false
 
-one_known : (known : List Name) (s : Scope) (k : Name) (m : Meaning) → IsReported known s → IsReported (k ∷ known) (s ++ (k, m) ∷ [])
+one_known : (known : List Name) (s : NameScope) (k : Name) (m : Meaning) → IsReported known s → IsReported (k ∷ known) (s ++ (k, m) ∷ [])
 one_known known s k m h n e = ap (λ b. b || is_among known n) (parts n k m s e).1 ∙ h n (parts n k m s e).0
 
-one_other : (known : List Name) (s : Scope) (k : Name) (m : Meaning) → IsReported known s → IsReported known (s ++ (k, m) ∷ [])
+one_other : (known : List Name) (s : NameScope) (k : Name) (m : Meaning) → IsReported known s → IsReported known (s ++ (k, m) ∷ [])
 one_other known s k m h n e = h n (parts n k m s e).0
 
-all_new : (known : List Name) (s : Scope) (ds : List Declaration) → IsReported known s → names_fault s ds ≡ None → AreNew known ds
+all_new : (known : List Name) (s : NameScope) (ds : List Declaration) → IsReported known s → names_fault s ds ≡ None → AreNew known ds
 all_new known s [] h f = tt
 all_new known s (set w t ps e ∷ ds) h f =
     let q = firsts (declaration_fault s (set w t ps e)) (names_fault (with_declaration s (set w t ps e)) ds) f in

@@ -5,8 +5,8 @@ use Rattle.std.specs.Option.{option_map}
 use Rattle.net_dimacs.specs.Lines.{fields_of, is_text}
 use Rattle.net_dimacs.specs.declared.problem_line.LineStatement.{LineStatement}
 use Rattle.net_dimacs.specs.declared.problem_line.LineStatement.TheVariants as statements
-use Rattle.net_dimacs.specs.declared.problem_line.Kind.{Kind}
-use Rattle.net_dimacs.specs.declared.problem_line.Kind.TheVariants as kinds
+use Rattle.net_dimacs.specs.declared.problem_line.LineKind.{LineKind}
+use Rattle.net_dimacs.specs.declared.problem_line.LineKind.TheVariants as kinds
 use Rattle.net_dimacs.specs.Numbers.{cut_statement, Numerals, cut_number, two_in, arc_in, node_in, kind_of, or_other, statement_of_kind}
 use Rattle.net_dimacs.specs.OpenLines.{View, view}
 use Rattle.net_dimacs.specs.Reading.{line_statement}
@@ -22,7 +22,7 @@ abbrev problem_seen : List View → Option LineStatement
 problem_seen [] = None
 problem_seen (v ∷ vs) = min_seen v.is_min vs
 
-abbrev seen_after : Kind → List View → Option LineStatement
+abbrev seen_after : LineKind → List View → Option LineStatement
 seen_after kinds.Comment vs = None
 seen_after kinds.Problem vs = Some (or_other (problem_seen vs))
 seen_after kinds.Node vs = Some (or_other (node_in (numbers_seen vs)))
@@ -39,7 +39,7 @@ same_numbers : (fs : List (List ℕ)) → map cut_number fs ≡ numbers_seen (ma
 same_numbers [] = refl
 same_numbers (f ∷ fs) = ap (λ (os : Numerals). cut_number f ∷ os) (same_numbers fs)
 
-same_after : (k : Kind) (fs : List (List ℕ)) → statement_of_kind k fs ≡ seen_after k (map view fs)
+same_after : (k : LineKind) (fs : List (List ℕ)) → statement_of_kind k fs ≡ seen_after k (map view fs)
 same_after kinds.Comment fs = refl
 same_after kinds.Problem [] = refl
 same_after kinds.Problem (f ∷ fs) =
@@ -74,11 +74,11 @@ no_min : (is_min : Bool) (c d e : View) (vs : List View) → min_seen is_min (c 
 no_min true c d e vs = ap (option_map (λ p. statements.Problem p.0 p.1)) (no_two c.number d.number e.number (numbers_seen vs))
 no_min false c d e vs = refl
 
-abbrev nothing_or_other : Kind → Option LineStatement
+abbrev nothing_or_other : LineKind → Option LineStatement
 nothing_or_other kinds.Comment = None
 nothing_or_other kind = Some statements.Other
 
-too_many : (k : Kind) (b c d e f g : View) (vs : List View) → seen_after k (b ∷ c ∷ d ∷ e ∷ f ∷ g ∷ vs) ≡ nothing_or_other k
+too_many : (k : LineKind) (b c d e f g : View) (vs : List View) → seen_after k (b ∷ c ∷ d ∷ e ∷ f ∷ g ∷ vs) ≡ nothing_or_other k
 too_many kinds.Comment b c d e f g vs = refl
 too_many kinds.Problem b c d e f g vs = ap (λ (o : Option LineStatement). Some (or_other o)) (no_min b.is_min c d e (f ∷ g ∷ vs))
 too_many kinds.Node b c d e f g vs =

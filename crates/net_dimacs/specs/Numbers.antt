@@ -6,8 +6,8 @@ use Rattle.std.specs.Str.{all_ascii_digits}
 use Rattle.net_dimacs.specs.Lines.{is_blank, value_after, fields_of, number_of, is_text, begins_with}
 use Rattle.net_dimacs.specs.declared.problem_line.LineStatement.{LineStatement}
 use Rattle.net_dimacs.specs.declared.problem_line.LineStatement.TheVariants as statements
-use Rattle.net_dimacs.specs.declared.problem_line.Kind.{Kind}
-use Rattle.net_dimacs.specs.declared.problem_line.Kind.TheVariants as kinds
+use Rattle.net_dimacs.specs.declared.problem_line.LineKind.{LineKind}
+use Rattle.net_dimacs.specs.declared.problem_line.LineKind.TheVariants as kinds
 
 abbrev pub greatest_signed : ℕ
 greatest_signed = 2 ^ 63 - 1
@@ -75,7 +75,7 @@ problem_in [] = None
 problem_in (field ∷ more) = if is_text (codes "min") field then option_map (λ p. statements.Problem p.0 p.1) (two_in (map cut_number more)) else None
 
 -- the kind of line that a first field indicates
-abbrev pub kind_of : List ℕ → Kind
+abbrev pub kind_of : List ℕ → LineKind
 kind_of field =
     if begins_with 99 field then kinds.Comment
     else if is_text (codes "p") field then kinds.Problem
@@ -87,7 +87,7 @@ abbrev pub or_other : Option LineStatement → LineStatement
 or_other line_statement = unwrap_or line_statement statements.Other
 
 -- the statement of a line of this kind, from the fields after the first
-abbrev pub statement_of_kind : Kind → List (List ℕ) → Option LineStatement
+abbrev pub statement_of_kind : LineKind → List (List ℕ) → Option LineStatement
 statement_of_kind kinds.Comment fields = None
 statement_of_kind kinds.Problem fields = Some (or_other (problem_in fields))
 statement_of_kind kinds.Node fields = Some (or_other (node_in (map cut_number fields)))

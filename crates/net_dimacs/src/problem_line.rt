@@ -24,7 +24,7 @@ pub enum LineStatement {
 
 /// The kind of line that a first field indicates.
 #[derive(Clone, Copy)]
-pub enum Kind {
+pub enum LineKind {
     /// It begins with `c`.
     Comment,
     /// `p`
@@ -45,28 +45,28 @@ pub fn statement_of(line: &[u8]) -> Option<LineStatement>
     statement_of_kind(kind_of(field), rest)
 }
 
-fn statement_of_kind(kind: Kind, rest: &[u8]) -> Option<LineStatement>
+fn statement_of_kind(kind: LineKind, rest: &[u8]) -> Option<LineStatement>
     ensures { result ≡ statement_of_kind kind (fields_of rest.now) }
 {
     let line_statement = match kind {
-        Kind::Comment => return None,
-        Kind::Problem => problem_in(rest),
-        Kind::Node => node_in(rest),
-        Kind::Arc => arc_in(rest),
-        Kind::Other => None,
+        LineKind::Comment => return None,
+        LineKind::Problem => problem_in(rest),
+        LineKind::Node => node_in(rest),
+        LineKind::Arc => arc_in(rest),
+        LineKind::Other => None,
     };
     Some(line_statement.unwrap_or(LineStatement::Other))
 }
 
-fn kind_of(field: &[u8]) -> Kind
+fn kind_of(field: &[u8]) -> LineKind
     ensures { result ≡ kind_of field.now }
 {
     match field {
-        [b'c', ..] => Kind::Comment,
-        [b'p'] => Kind::Problem,
-        [b'n'] => Kind::Node,
-        [b'a'] => Kind::Arc,
-        _ => Kind::Other,
+        [b'c', ..] => LineKind::Comment,
+        [b'p'] => LineKind::Problem,
+        [b'n'] => LineKind::Node,
+        [b'a'] => LineKind::Arc,
+        _ => LineKind::Other,
     }
 }
 

@@ -13,7 +13,7 @@ use Rattle.net_names.specs.declared.meaning.Meaning.TheVariants as meanings
 use Rattle.net_names.specs.declared.meaning.Need.{Need}
 use Rattle.net_names.specs.declared.name_fault.NameFault.{NameFault}
 use Rattle.net_names.specs.declared.name_fault.NameFault.TheVariants as faults
-use Rattle.net_names.specs.Scopes.{Scope, meaning_in, with_name}
+use Rattle.net_names.specs.Scopes.{NameScope, meaning_in, with_name}
 use Rattle.net_names.specs.Reported.{Fault, first, Reports}
 use Rattle.net_tree.proofs.Items.{behind}
 use Rattle.net_tree.specs.Items.{is_in, both, sides, single_name}
@@ -23,7 +23,7 @@ use Rattle.net_names.specs.Names.{tree_fault, links_fault, items_fault, further_
 use Rattle.net_names.specs.Items.{by_sides, component_fault, left_fault, item_fault, items_and_part}
 
 -- the fault of an item as it stands in braces
-pub item_is : (n : Need) (s : Scope) (x : Tree) → (if is_some (sides x) then placed_fault n s x else tree_fault n s x) ≡ item_fault n s x
+pub item_is : (n : Need) (s : NameScope) (x : Tree) → (if is_some (sides x) then placed_fault n s x else tree_fault n s x) ≡ item_fault n s x
 item_is n s (chain k x (link r y none)) = go (is_in (operation r))
   where
     go : (b : Bool) → (if is_some (both x (behind b y)) then placed_fault n s (chain k x (link r y none)) else tree_fault n s (chain k x (link r y none)))
@@ -33,26 +33,26 @@ item_is n s (chain k x (link r y none)) = go (is_in (operation r))
 item_is n s _ = refl
 
 -- what is no tuple is a component by itself
-pub left_other : (n : Need) (s : Scope) (x : Tree) → is_tuple x ≡ false → left_fault n s x ≡ component_fault n s x
+pub left_other : (n : Need) (s : NameScope) (x : Tree) → is_tuple x ≡ false → left_fault n s x ≡ component_fault n s x
 left_other n s x h = ap (λ b. if b then components_fault n s x else component_fault n s x) h
 
-pub items-step : (n : Need) (s : Scope) (o : Operator) (x : Tree) (l : Links) → items_fault n s (link o x l) ≡ first (item_fault n s x) (items_fault n (with_item s x) l)
+pub items-step : (n : Need) (s : NameScope) (o : Operator) (x : Tree) (l : Links) → items_fault n s (link o x l) ≡ first (item_fault n s x) (items_fault n (with_item s x) l)
 items-step n s o x l = ap (λ f. first f (items_fault n (with_item s x) l)) (item_is n s x)
 
-pub braces-items : (n : Need) (s : Scope) (o : Token) (x : Tree) (l : Links) (p : Part) (c : Token) → braces_fault n s (filled o x l p c) ≡ items_and_part n s x l p
+pub braces-items : (n : Need) (s : NameScope) (o : Token) (x : Tree) (l : Links) (p : Part) (c : Token) → braces_fault n s (filled o x l p c) ≡ items_and_part n s x l p
 braces-items n s o x l p c = ap (λ f. first f (first (items_fault n (with_item s x) l) (part_fault n (with_items (with_item s x) l) p))) (item_is n s x)
 
 -- the scope behind braces begins with the scope before them
-abbrev pub Begins : Scope → Scope → Type 0
-Begins s t = (r : Scope) × (t ≡ s ++ r)
+abbrev pub Begins : NameScope → NameScope → Type 0
+Begins s t = (r : NameScope) × (t ≡ s ++ r)
 
-pub begins_same : (s : Scope) → Begins s s
+pub begins_same : (s : NameScope) → Begins s s
 begins_same s = ([], sym (append-nil s))
 
-pub begins_trans : (s t u : Scope) → Begins s t → Begins t u → Begins s u
+pub begins_trans : (s t u : NameScope) → Begins s t → Begins t u → Begins s u
 begins_trans s t u a b = (a.0 ++ b.0, b.1 ∙ ap (λ k. k ++ b.0) a.1 ∙ append_assoc s a.0 b.0)
 
-bare_begins : (s : Scope) (n : Option Token) → Begins s (with_bare s n)
+bare_begins : (s : NameScope) (n : Option Token) → Begins s (with_bare s n)
 bare_begins s None = begins_same s
 bare_begins s (Some t) = go (is_none (meaning_in t.text s))
   where
@@ -60,41 +60,41 @@ bare_begins s (Some t) = go (is_none (meaning_in t.text s))
     go true = ((t.text, meanings.Dummy) ∷ [], refl)
     go false = begins_same s
 
-component_begins : (s : Scope) (x : Tree) → Begins s (with_component s x)
+component_begins : (s : NameScope) (x : Tree) → Begins s (with_component s x)
 component_begins s x = bare_begins s (single_name x)
 
-components_begin : (s : Scope) (l : Links) → Begins s (with_components s l)
+components_begin : (s : NameScope) (l : Links) → Begins s (with_components s l)
 components_begin s none = begins_same s
 components_begin s (link o x l) = begins_trans s (with_component s x) (with_components (with_component s x) l) (component_begins s x) (components_begin (with_component s x) l)
 
-left_begins : (s : Scope) (x : Tree) → Begins s (with_left s x)
+left_begins : (s : NameScope) (x : Tree) → Begins s (with_left s x)
 left_begins s (tuple o x l c) = begins_trans s (with_component s x) (with_components (with_component s x) l) (component_begins s x) (components_begin (with_component s x) l)
 left_begins s (leaf t) = component_begins s (leaf t)
 left_begins s _ = begins_same s
 
-item_begins : (s : Scope) (x : Tree) → Begins s (with_item s x)
+item_begins : (s : NameScope) (x : Tree) → Begins s (with_item s x)
 item_begins s x = go (sides x)
   where
     go : (p : Option (Tree × Tree)) → Begins s (with_sides s p)
     go None = begins_same s
     go (Some p) = left_begins s p.0
 
-items_begin : (s : Scope) (l : Links) → Begins s (with_items s l)
+items_begin : (s : NameScope) (l : Links) → Begins s (with_items s l)
 items_begin s none = begins_same s
 items_begin s (link o x l) = begins_trans s (with_item s x) (with_items (with_item s x) l) (item_begins s x) (items_begin (with_item s x) l)
 
-pub braces_begin : (s : Scope) (b : Braces) → Begins s (with_braces s b)
+pub braces_begin : (s : NameScope) (b : Braces) → Begins s (with_braces s b)
 braces_begin s (empty o p c) = begins_same s
 braces_begin s (filled o x l p c) = begins_trans s (with_item s x) (with_items (with_item s x) l) (item_begins s x) (items_begin (with_item s x) l)
 
-pub taken_back : (s t : Scope) → Begins s t → take (length s) t ≡ s
+pub taken_back : (s t : NameScope) → Begins s t → take (length s) t ≡ s
 taken_back s t b = ap (take (length s)) b.1 ∙ take_at s b.0 _ refl
 
 -- the dummies forgotten
-pub forgotten_braces : (s t : Scope) (b : Braces) (n : ℕ) → n ≡ length s → t ≡ with_braces s b → take n t ≡ s
+pub forgotten_braces : (s t : NameScope) (b : Braces) (n : ℕ) → n ≡ length s → t ≡ with_braces s b → take n t ≡ s
 forgotten_braces s t b n h e = ap (take n) e ∙ ap (λ k. take k (with_braces s b)) h ∙ taken_back s (with_braces s b) (braces_begin s b)
 
-pub forgotten_components : (s t u : Scope) (x : Tree) (l : Links) (n : ℕ) → n ≡ length s → t ≡ with_component s x → u ≡ with_components t l → take n u ≡ s
+pub forgotten_components : (s t u : NameScope) (x : Tree) (l : Links) (n : ℕ) → n ≡ length s → t ≡ with_component s x → u ≡ with_components t l → take n u ≡ s
 forgotten_components s t u x l n h e f =
     ap (take n) (f ∙ ap (λ k. with_components k l) e)
     ∙ ap (λ k. take k (with_components (with_component s x) l)) h
@@ -127,19 +127,19 @@ link_lighter (x ∷ ls) zero l h e = omega (arith, ap weights (links_of-cons x l
 link_lighter (x ∷ ls) (suc i) l h e = omega (arith, ap weights (links_of-cons x ls), link_lighter ls i l (omega arith) e)
 
 -- the fault of the links from one of them on
-pub links_left : (n : Need) (s t : Scope) (ls : List Link) (i : ℕ) (l : Link) (whole : Option Fault) → i < length ls → l ≡ get_or ls i l → t ≡ s
+pub links_left : (n : Need) (s t : NameScope) (ls : List Link) (i : ℕ) (l : Link) (whole : Option Fault) → i < length ls → l ≡ get_or ls i l → t ≡ s
     → links_fault n s (links_of (drop i ls)) ≡ whole → first (tree_fault n t (tree (out-Link l).operand)) (links_fault n s (links_of (drop (i + 1) ls))) ≡ whole
 links_left n s t ls i l whole h e k before =
     ap (λ u. first (tree_fault n u (tree (out-Link l).operand)) (links_fault n s (links_of (drop (i + 1) ls)))) k
     ∙ sym (ap (links_fault n s) (next_link ls i l h e)) ∙ before
 
-pub items_left : (n : Need) (s : Scope) (ls : List Link) (i : ℕ) (l : Link) (whole : Option Fault) → i < length ls → l ≡ get_or ls i l
+pub items_left : (n : Need) (s : NameScope) (ls : List Link) (i : ℕ) (l : Link) (whole : Option Fault) → i < length ls → l ≡ get_or ls i l
     → items_fault n s (links_of (drop i ls)) ≡ whole
     → first (item_fault n s (tree (out-Link l).operand)) (items_fault n (with_item s (tree (out-Link l).operand)) (links_of (drop (i + 1) ls))) ≡ whole
 items_left n s ls i l whole h e before =
     sym (ap (items_fault n s) (next_link ls i l h e) ∙ items-step n s (out-Link l).operator (tree (out-Link l).operand) (links_of (drop (i + 1) ls))) ∙ before
 
-pub components_left : (n : Need) (s : Scope) (ls : List Link) (i : ℕ) (l : Link) (whole : Option Fault) → i < length ls → l ≡ get_or ls i l
+pub components_left : (n : Need) (s : NameScope) (ls : List Link) (i : ℕ) (l : Link) (whole : Option Fault) → i < length ls → l ≡ get_or ls i l
     → further_fault n s (links_of (drop i ls)) ≡ whole
     → first (component_fault n s (tree (out-Link l).operand)) (further_fault n (with_component s (tree (out-Link l).operand)) (links_of (drop (i + 1) ls))) ≡ whole
 components_left n s ls i l whole h e before = sym (ap (further_fault n s) (next_link ls i l h e)) ∙ before

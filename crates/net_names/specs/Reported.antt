@@ -14,7 +14,7 @@ use Rattle.net_base.specs.declared.diagnostic.Diagnostic.{Diagnostic}
 use Rattle.net_base.specs.declared.diagnostic.Language.TheVariants.{Model}
 use Rattle.net_base.specs.Outcomes.{diagnostic_at}
 use Rattle.net_names.specs.Meanings.{error_code_of}
-use Rattle.net_names.specs.Scopes.{Scope, meaning_in}
+use Rattle.net_names.specs.Scopes.{NameScope, meaning_in}
 
 -- the kind of error and the name
 abbrev pub Fault : Type 0
@@ -30,7 +30,7 @@ at_name None t = None
 at_name (Some d) t = Some (d, t)
 
 -- the error of a name that is used
-abbrev pub name_fault : Need → Scope → Token → Option Fault
+abbrev pub name_fault : Need → NameScope → Token → Option Fault
 name_fault n s t = at_name (error_code_of n (meaning_in t.text s)) t
 
 -- the error of a name that is declared

@@ -7,12 +7,12 @@ use Rattle.net_names.specs.declared.meaning.Meaning.{Meaning}
 abbrev pub Name : Type 0
 Name = List ℕ
 
-abbrev pub Scope : Type 0
-Scope = List (Name × Meaning)
+abbrev pub NameScope : Type 0
+NameScope = List (Name × Meaning)
 
 -- the meaning of a name
-abbrev pub meaning_in : Name → Scope → Option Meaning
+abbrev pub meaning_in : Name → NameScope → Option Meaning
 meaning_in name s = named s name
 
-abbrev pub with_name : Scope → Token → Meaning → Scope
+abbrev pub with_name : NameScope → Token → Meaning → NameScope
 with_name s t m = s ++ (t.text, m) ∷ []

@@ -16,7 +16,7 @@ use crate::expression_names::{check, check_name, read_braces};
 use crate::hints::Hints;
 use crate::meaning::{Meaning, Need};
 use crate::name_fault::NameFault;
-use crate::name_scope::Scope;
+use crate::name_scope::NameScope;
 use net_base::{ErrorCode, Fault};
 use net_lex::Token;
 use net_sets::HashKey;
@@ -24,7 +24,7 @@ use net_tree::{Begins, Body, Braces, Decl, Expr, Model, NetCond, Part, Phrase, R
 use std::alloc::Global;
 
 /// Checks a name that is declared.
-fn check_declared<'s>(scope: &Scope<'s>, name: &Token<'s>) -> Result<(), NameFault<'s>>
+fn check_declared<'s>(scope: &NameScope<'s>, name: &Token<'s>) -> Result<(), NameFault<'s>>
     ensures { Decides (declared_before (scopes.meaning_in name.now.text scope.now) name.now) result }
 {
     match scope.meaning(&name.text) {
@@ -35,7 +35,7 @@ fn check_declared<'s>(scope: &Scope<'s>, name: &Token<'s>) -> Result<(), NameFau
 
 /// Checks the indexing of a declaration, and adds its dummies to the scope.
 fn read_indexing<'s>(
-    scope: &mut Scope<'s>,
+    scope: &mut NameScope<'s>,
     indexing: &Option<Braces<'s>>,
 ) -> Result<(), NameFault<'s>>
     ensures value { Reports (names.indexing_fault scope.old (indexing_of indexing.now)) result }
@@ -57,7 +57,11 @@ fn need_after(role: Role) -> Need
     }
 }
 
-fn check_body<'s>(need: Need, scope: &mut Scope<'s>, body: &Body<'s>) -> Result<(), NameFault<'s>>
+fn check_body<'s>(
+    need: Need,
+    scope: &mut NameScope<'s>,
+    body: &Body<'s>,
+) -> Result<(), NameFault<'s>>
     ensures value { Reports (names.body_fault need scope.old (body_of body.now)) result }
     ensures kept { OnOk result (scope.new ≡ scope.old) }
 {
@@ -71,7 +75,7 @@ fn check_body<'s>(need: Need, scope: &mut Scope<'s>, body: &Body<'s>) -> Result<
     }
 }
 
-fn check_phrases<'s>(scope: &mut Scope<'s>, phrases: &[Phrase<'s>]) -> Result<(), NameFault<'s>>
+fn check_phrases<'s>(scope: &mut NameScope<'s>, phrases: &[Phrase<'s>]) -> Result<(), NameFault<'s>>
     ensures value { Reports (names.phrases_fault scope.old (map phrase_of phrases.now)) result }
     ensures kept { OnOk result (scope.new ≡ scope.old) }
 {
@@ -83,7 +87,7 @@ fn check_phrases<'s>(scope: &mut Scope<'s>, phrases: &[Phrase<'s>]) -> Result<()
 
 /// Checks the two sides of a comparison.
 fn check_sides<'s>(
-    scope: &mut Scope<'s>,
+    scope: &mut NameScope<'s>,
     left: &Expr<'s>,
     right: &Expr<'s>,
 ) -> Result<(), NameFault<'s>>
@@ -97,7 +101,7 @@ fn check_sides<'s>(
 
 /// Checks the three sides of a comparison with two relations.
 fn check_between<'s>(
-    scope: &mut Scope<'s>,
+    scope: &mut NameScope<'s>,
     low: &Expr<'s>,
     middle: &Expr<'s>,
     high: &Expr<'s>,
@@ -111,7 +115,10 @@ fn check_between<'s>(
 }
 
 /// Checks the condition of a node's net flow.
-fn check_condition<'s>(scope: &mut Scope<'s>, condition: &NetCond<'s>) -> Result<(), NameFault<'s>>
+fn check_condition<'s>(
+    scope: &mut NameScope<'s>,
+    condition: &NetCond<'s>,
+) -> Result<(), NameFault<'s>>
     ensures value { Reports (names.condition_fault scope.old (condition_of condition.now)) result }
     ensures kept { OnOk result (scope.new ≡ scope.old) }
 {
@@ -124,7 +131,7 @@ fn check_condition<'s>(scope: &mut Scope<'s>, condition: &NetCond<'s>) -> Result
 
 /// Checks a declaration with indexing and phrases, and adds its dummies to the scope.
 fn read_phrased<'s>(
-    scope: &mut Scope<'s>,
+    scope: &mut NameScope<'s>,
     name: &Token<'s>,
     indexing: &Option<Braces<'s>>,
     phrases: &[Phrase<'s>],
@@ -141,7 +148,7 @@ fn read_phrased<'s>(
 
 /// Checks a node, and adds its dummies to the scope.
 fn read_node<'s>(
-    scope: &mut Scope<'s>,
+    scope: &mut NameScope<'s>,
     node: &Token<'s>,
     indexing: &Option<Braces<'s>>,
     condition: &NetCond<'s>,
@@ -158,7 +165,7 @@ fn read_node<'s>(
 
 /// Checks a `check` statement, and adds its dummies to the scope.
 fn read_check<'s>(
-    scope: &mut Scope<'s>,
+    scope: &mut NameScope<'s>,
     indexing: &Option<Braces<'s>>,
     condition: &Expr<'s>,
 ) -> Result<(), NameFault<'s>>
@@ -171,7 +178,7 @@ fn read_check<'s>(
 }
 
 fn check_set<'s>(
-    scope: &mut Scope<'s>,
+    scope: &mut NameScope<'s>,
     set: &Token<'s>,
     phrases: &[Phrase<'s>],
 ) -> Result<(), NameFault<'s>>
@@ -185,7 +192,10 @@ fn check_set<'s>(
 
 /// Checks the expression of an objective.
 #[tactic(auto, using(net_tree::proofs::Views::views, crate::proofs::Walking::walking))]
-fn check_stated<'s>(scope: &mut Scope<'s>, value: &Option<Part<'s>>) -> Result<(), NameFault<'s>>
+fn check_stated<'s>(
+    scope: &mut NameScope<'s>,
+    value: &Option<Part<'s>>,
+) -> Result<(), NameFault<'s>>
     ensures value { Reports (names.part_fault needs.Total scope.old (option_part value.now)) result }
     ensures kept { OnOk result (scope.new ≡ scope.old) }
 {
@@ -196,7 +206,7 @@ fn check_stated<'s>(scope: &mut Scope<'s>, value: &Option<Part<'s>>) -> Result<(
 }
 
 fn check_objective<'s>(
-    scope: &mut Scope<'s>,
+    scope: &mut NameScope<'s>,
     objective: &Token<'s>,
     value: &Option<Part<'s>>,
 ) -> Result<(), NameFault<'s>>
@@ -209,7 +219,10 @@ fn check_objective<'s>(
 }
 
 /// Checks a declaration, and adds its dummies to the scope.
-fn read_declaration<'s>(scope: &mut Scope<'s>, declaration: &Decl<'s>) -> Result<(), NameFault<'s>>
+fn read_declaration<'s>(
+    scope: &mut NameScope<'s>,
+    declaration: &Decl<'s>,
+) -> Result<(), NameFault<'s>>
     ensures value { Reports (names.declaration_fault scope.old (declaration_of declaration.now)) result }
     ensures grown { OnOk result (scope.new ≡ items.with_dummies scope.old (declaration_of declaration.now)) }
 {
@@ -247,7 +260,10 @@ fn declared<'a, 's>(declaration: &'a Decl<'s>) -> Option<(&'a Token<'s>, Meaning
 }
 
 /// Checks a declaration, and adds the name that it declares to the scope.
-fn check_declaration<'s>(scope: &mut Scope<'s>, declaration: &Decl<'s>) -> Result<(), NameFault<'s>>
+fn check_declaration<'s>(
+    scope: &mut NameScope<'s>,
+    declaration: &Decl<'s>,
+) -> Result<(), NameFault<'s>>
     ensures value { Reports (names.declaration_fault scope.old (declaration_of declaration.now)) result }
     ensures grown { OnOk result (scope.new ≡ names.with_declaration scope.old (declaration_of declaration.now)) }
 {
@@ -264,7 +280,7 @@ fn check_declaration<'s>(scope: &mut Scope<'s>, declaration: &Decl<'s>) -> Resul
 }
 
 fn check_declarations<'s>(
-    scope: &mut Scope<'s>,
+    scope: &mut NameScope<'s>,
     declarations: &[Decl<'s>],
 ) -> Result<(), NameFault<'s>>
     ensures { Reports (names.names_fault scope.old (map declaration_of declarations.now)) result }
@@ -284,7 +300,7 @@ fn check_declarations<'s>(
 pub fn check_names<'s>(alloc: Global, key: HashKey, model: &Model<'s>) -> Result<Hints<'s>, Fault>
     ensures { ReportsOf (names.names_fault [] (view.model model.now)) result }
 {
-    let mut scope = Scope::new(alloc, key);
+    let mut scope = NameScope::new(alloc, key);
     match check_declarations(&mut scope, model.declarations.as_slice()) {
         Ok(()) => Ok(scope.into_hints()),
         Err(fault) => Err(fault.reported(alloc)),

@@ -14,7 +14,7 @@ ghost use Rattle.net_tree.specs.Tree as trees;
 use crate::iteration::record_item;
 use crate::meaning::{Need, in_subscripts, misfit};
 use crate::name_fault::NameFault;
-use crate::name_scope::{Scope, add_component, add_left, is_new};
+use crate::name_scope::{NameScope, add_component, add_left, is_new};
 use net_base::{Boxed, ErrorCode};
 use net_lex::Token;
 use net_tree::{Braces, Expr, Link, Part, Role, role_of, sides_of};
@@ -22,7 +22,7 @@ use net_tree::{Braces, Expr, Link, Part, Role, role_of, sides_of};
 /// Checks a name that is used.
 pub(crate) fn check_name<'s>(
     need: Need,
-    scope: &Scope<'s>,
+    scope: &NameScope<'s>,
     name: &Token<'s>,
 ) -> Result<(), NameFault<'s>>
     ensures { Decides (name_fault need scope.now name.now) result }
@@ -36,7 +36,7 @@ pub(crate) fn check_name<'s>(
     }
 }
 
-fn check_leaf<'s>(need: Need, scope: &Scope<'s>, leaf: &Token<'s>) -> Result<(), NameFault<'s>>
+fn check_leaf<'s>(need: Need, scope: &NameScope<'s>, leaf: &Token<'s>) -> Result<(), NameFault<'s>>
     ensures { Decides (names.tree_fault need scope.now (trees.leaf leaf.now)) result }
 {
     match role_of(leaf) {
@@ -49,7 +49,7 @@ fn check_leaf<'s>(need: Need, scope: &Scope<'s>, leaf: &Token<'s>) -> Result<(),
 #[tactic(auto, using(net_tree::proofs::Views::views, crate::proofs::Walking::walking))]
 pub(crate) fn check<'s>(
     need: Need,
-    scope: &mut Scope<'s>,
+    scope: &mut NameScope<'s>,
     expr: &Expr<'s>,
 ) -> Result<(), NameFault<'s>>
     ensures value { Reports (names.tree_fault need scope.old (tree expr.now)) result }
@@ -89,7 +89,7 @@ pub(crate) fn check<'s>(
 #[cycle(names)]
 fn check_subscripts<'s>(
     need: Need,
-    scope: &mut Scope<'s>,
+    scope: &mut NameScope<'s>,
     name: &Token<'s>,
     first: &Expr<'s>,
     more: &[Link<'s>],
@@ -106,7 +106,7 @@ fn check_subscripts<'s>(
 #[cycle(names)]
 fn check_series<'s>(
     need: Need,
-    scope: &mut Scope<'s>,
+    scope: &mut NameScope<'s>,
     first: &Expr<'s>,
     more: &[Link<'s>],
 ) -> Result<(), NameFault<'s>>
@@ -120,7 +120,7 @@ fn check_series<'s>(
 #[cycle(names)]
 fn check_links<'s>(
     need: Need,
-    scope: &mut Scope<'s>,
+    scope: &mut NameScope<'s>,
     links: &[Link<'s>],
 ) -> Result<(), NameFault<'s>>
     ensures value { Reports (names.links_fault need scope.old (links_of links.now)) result }
@@ -135,7 +135,7 @@ fn check_links<'s>(
 #[cycle(names)]
 fn check_choice<'s>(
     need: Need,
-    scope: &mut Scope<'s>,
+    scope: &mut NameScope<'s>,
     condition: &Expr<'s>,
     branch: &Expr<'s>,
     otherwise: &Option<Boxed<Part<'s>>>,
@@ -153,7 +153,7 @@ fn check_choice<'s>(
 #[tactic(auto, using(net_tree::proofs::Views::views, crate::proofs::Walking::walking))]
 fn check_part<'s>(
     need: Need,
-    scope: &mut Scope<'s>,
+    scope: &mut NameScope<'s>,
     part: &Option<Boxed<Part<'s>>>,
 ) -> Result<(), NameFault<'s>>
     ensures value { Reports (names.part_fault need scope.old (option_part part.now)) result }
@@ -170,7 +170,7 @@ fn check_part<'s>(
 #[tactic(auto, using(crate::proofs::Walking::walking))]
 fn check_braced<'s>(
     need: Need,
-    scope: &mut Scope<'s>,
+    scope: &mut NameScope<'s>,
     braces: &Braces<'s>,
 ) -> Result<(), NameFault<'s>>
     ensures value { Reports (names.braces_fault need scope.old (braces_of braces.now)) result }
@@ -187,7 +187,7 @@ fn check_braced<'s>(
 #[tactic(auto, using(crate::proofs::Walking::walking))]
 fn check_reduced<'s>(
     need: Need,
-    scope: &mut Scope<'s>,
+    scope: &mut NameScope<'s>,
     braces: &Braces<'s>,
     body: &Expr<'s>,
 ) -> Result<(), NameFault<'s>>
@@ -207,7 +207,7 @@ fn check_reduced<'s>(
 #[tactic(auto, using(net_tree::proofs::Views::views, crate::proofs::Walking::walking))]
 pub(crate) fn read_braces<'s>(
     need: Need,
-    scope: &mut Scope<'s>,
+    scope: &mut NameScope<'s>,
     braces: &Braces<'s>,
 ) -> Result<(), NameFault<'s>>
     ensures value { Reports (names.braces_fault need scope.old (braces_of braces.now)) result }
@@ -225,7 +225,7 @@ pub(crate) fn read_braces<'s>(
 #[cycle(names)]
 fn read_items<'s>(
     need: Need,
-    scope: &mut Scope<'s>,
+    scope: &mut NameScope<'s>,
     item: &Expr<'s>,
     more: &[Link<'s>],
     condition: &Option<Boxed<Part<'s>>>,
@@ -239,7 +239,11 @@ fn read_items<'s>(
 }
 
 #[cycle(names)]
-fn read_more<'s>(need: Need, scope: &mut Scope<'s>, links: &[Link<'s>]) -> Result<(), NameFault<'s>>
+fn read_more<'s>(
+    need: Need,
+    scope: &mut NameScope<'s>,
+    links: &[Link<'s>],
+) -> Result<(), NameFault<'s>>
     ensures value { Reports (names.items_fault need scope.old (links_of links.now)) result }
     ensures grown { OnOk result (scope.new ≡ dummies.with_items scope.old (links_of links.now)) }
 {
@@ -252,7 +256,11 @@ fn read_more<'s>(need: Need, scope: &mut Scope<'s>, links: &[Link<'s>]) -> Resul
 /// Checks an item of an indexing expression, and adds its dummies to the scope.
 #[cycle(names)]
 #[tactic(auto, using(crate::proofs::Walking::walking))]
-fn read_item<'s>(need: Need, scope: &mut Scope<'s>, item: &Expr<'s>) -> Result<(), NameFault<'s>>
+fn read_item<'s>(
+    need: Need,
+    scope: &mut NameScope<'s>,
+    item: &Expr<'s>,
+) -> Result<(), NameFault<'s>>
     ensures value { Reports (items.item_fault need scope.old (tree item.now)) result }
     ensures grown { OnOk result (scope.new ≡ dummies.with_item scope.old (tree item.now)) }
 {
@@ -266,7 +274,7 @@ fn read_item<'s>(need: Need, scope: &mut Scope<'s>, item: &Expr<'s>) -> Result<(
 #[cycle(names)]
 fn read_sides<'s>(
     need: Need,
-    scope: &mut Scope<'s>,
+    scope: &mut NameScope<'s>,
     left: &Expr<'s>,
     set: &Expr<'s>,
 ) -> Result<(), NameFault<'s>>
@@ -283,7 +291,11 @@ fn read_sides<'s>(
 /// Checks the left side of `in`.
 #[cycle(names)]
 #[tactic(auto, using(net_tree::proofs::Views::views, crate::proofs::Walking::walking))]
-fn check_left<'s>(need: Need, scope: &mut Scope<'s>, left: &Expr<'s>) -> Result<(), NameFault<'s>>
+fn check_left<'s>(
+    need: Need,
+    scope: &mut NameScope<'s>,
+    left: &Expr<'s>,
+) -> Result<(), NameFault<'s>>
     ensures value { Reports (items.left_fault need scope.old (tree left.now)) result }
     ensures kept { OnOk result (scope.new ≡ scope.old) }
 {
@@ -311,7 +323,7 @@ fn check_left<'s>(need: Need, scope: &mut Scope<'s>, left: &Expr<'s>) -> Result<
 #[tactic(auto, using(crate::proofs::Walking::walking))]
 fn check_components<'s>(
     need: Need,
-    scope: &mut Scope<'s>,
+    scope: &mut NameScope<'s>,
     component: &Expr<'s>,
     more: &[Link<'s>],
 ) -> Result<(), NameFault<'s>>
@@ -329,7 +341,7 @@ fn check_components<'s>(
 #[cycle(names)]
 fn read_components<'s>(
     need: Need,
-    scope: &mut Scope<'s>,
+    scope: &mut NameScope<'s>,
     links: &[Link<'s>],
 ) -> Result<(), NameFault<'s>>
     ensures value { Reports (names.further_fault need scope.old (links_of links.now)) result }
@@ -345,7 +357,7 @@ fn read_components<'s>(
 #[cycle(names)]
 fn read_component<'s>(
     need: Need,
-    scope: &mut Scope<'s>,
+    scope: &mut NameScope<'s>,
     component: &Expr<'s>,
 ) -> Result<(), NameFault<'s>>
     ensures value { Reports (items.component_fault need scope.old (tree component.now)) result }
@@ -360,7 +372,7 @@ fn read_component<'s>(
 #[cycle(names)]
 fn check_component<'s>(
     need: Need,
-    scope: &mut Scope<'s>,
+    scope: &mut NameScope<'s>,
     component: &Expr<'s>,
 ) -> Result<(), NameFault<'s>>
     ensures value { Reports (items.component_fault need scope.old (tree component.now)) result }

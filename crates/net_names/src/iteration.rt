@@ -5,12 +5,12 @@
 ghost use Rattle.std.specs.Prelude.{◌≡◌, OnOk};
 
 use crate::meaning::Meaning;
-use crate::name_scope::Scope;
+use crate::name_scope::NameScope;
 use net_tree::{Expr, single_name};
 use std::alloc::AllocError;
 
 /// Returns whether a component is a dummy in scope.
-fn is_dummy<'s>(scope: &Scope<'s>, component: &Expr<'s>) -> bool {
+fn is_dummy<'s>(scope: &NameScope<'s>, component: &Expr<'s>) -> bool {
     match single_name(component) {
         None => false,
         Some(name) => matches!(scope.meaning(&name.text), Some(Meaning::Dummy)),
@@ -19,7 +19,7 @@ fn is_dummy<'s>(scope: &Scope<'s>, component: &Expr<'s>) -> bool {
 
 /// Returns whether the left side of an item's `in` is a tuple with a component that is a dummy in
 /// scope.
-fn is_by_component<'s>(scope: &Scope<'s>, left: &Expr<'s>) -> bool {
+fn is_by_component<'s>(scope: &NameScope<'s>, left: &Expr<'s>) -> bool {
     let Expr::Tuple(parts) = left else {
         return false;
     };
@@ -34,7 +34,7 @@ fn is_by_component<'s>(scope: &Scope<'s>, left: &Expr<'s>) -> bool {
 
 /// Records the declared sets that can be the value of an expression.
 #[tactic(auto, using(net_tree::proofs::Views::views, crate::proofs::Walking::walking))]
-fn record_sets<'s>(scope: &mut Scope<'s>, set: &Expr<'s>) -> Result<(), AllocError>
+fn record_sets<'s>(scope: &mut NameScope<'s>, set: &Expr<'s>) -> Result<(), AllocError>
     ensures { OnOk result (scope.new ≡ scope.old) }
 {
     match set {
@@ -54,7 +54,7 @@ fn record_sets<'s>(scope: &mut Scope<'s>, set: &Expr<'s>) -> Result<(), AllocErr
 /// Records the set of an item if the dummies in scope determine a component of its tuples. The
 /// dummies of the item itself are not in scope yet.
 pub(crate) fn record_item<'s>(
-    scope: &mut Scope<'s>,
+    scope: &mut NameScope<'s>,
     left: &Expr<'s>,
     set: &Expr<'s>,
 ) -> Result<(), AllocError>

@@ -5,7 +5,7 @@ ghost use Rattle.net_base.specs.Places.{IsSpanIn};
 ghost use Rattle.net_tree.specs.Standing.{DeclarationsHaveSpans};
 ghost use Rattle.net_tree.specs.Tree.{Declaration};
 ghost use Rattle.net_names.specs.Names.{declaration_fault, declared_by, names_fault, IsWellNamed};
-ghost use Rattle.net_names.specs.Scopes.{Name, Scope, meaning_in};
+ghost use Rattle.net_names.specs.Scopes.{Name, NameScope, meaning_in};
 
 /// Theorem: if the names of a model have no error, each declaration has no error in the scope of
 /// those before it, whatever follows.
@@ -21,7 +21,7 @@ pub fn front_of_names()
 /// Theorem: a name is new if and only if it is neither declared nor a dummy in scope, so the two
 /// can be stored separately.
 pub fn new_dummy()
-    ensures value { (name : Name) (declared dummies : Scope) → is_none (meaning_in name (declared ++ dummies))
+    ensures value { (name : Name) (declared dummies : NameScope) → is_none (meaning_in name (declared ++ dummies))
         ≡ (is_none (meaning_in name declared) && is_none (meaning_in name dummies)) }
 {}
 

@@ -16,12 +16,12 @@ use std::marker::Model;
 /// The names in scope, in the order in which they were declared. The last ones can be removed.
 /// Contracts do not see the hints.
 #[derive(Drop)]
-pub(crate) struct Scope<'s> {
+pub(crate) struct NameScope<'s> {
     meanings: NameMap<'s, Meaning>,
     hints: Hints<'s>,
 }
 
-impl<'s> Model for Scope<'s> {
+impl<'s> Model for NameScope<'s> {
     ghost use Rattle.std.specs.Prelude.{ℕ, List};
     ghost use Rattle.net_names.specs.declared.meaning.Meaning.{Meaning};
 
@@ -30,12 +30,12 @@ impl<'s> Model for Scope<'s> {
     ghost view = { λ s. s.meanings };
 }
 
-impl<'s> Scope<'s> {
+impl<'s> NameScope<'s> {
     /// Creates an empty scope. The key has to be that of the run.
-    pub(crate) fn new(alloc: Global, key: HashKey) -> Scope<'s>
+    pub(crate) fn new(alloc: Global, key: HashKey) -> NameScope<'s>
         ensures { result ≡ [] }
     {
-        Scope {
+        NameScope {
             meanings: NameMap::new(alloc, key),
             hints: Hints::new(alloc, key),
         }
@@ -79,7 +79,7 @@ impl<'s> Scope<'s> {
 
     /// Returns the hints that were recorded.
     pub(crate) fn into_hints(self) -> Hints<'s> {
-        let Scope {
+        let NameScope {
             meanings: _meanings,
             hints,
         } = self;
@@ -88,7 +88,7 @@ impl<'s> Scope<'s> {
 }
 
 /// Returns whether a component is a simple name that is not declared.
-pub(crate) fn is_new<'s>(scope: &Scope<'s>, component: &Expr<'s>) -> bool
+pub(crate) fn is_new<'s>(scope: &NameScope<'s>, component: &Expr<'s>) -> bool
     ensures { result ≡ dummies.is_new scope.now (tree component.now) }
 {
     match single_name(component) {
@@ -99,7 +99,7 @@ pub(crate) fn is_new<'s>(scope: &Scope<'s>, component: &Expr<'s>) -> bool
 
 /// Adds a component to the scope if it is a new dummy. Fails only if memory runs out.
 pub(crate) fn add_component<'s>(
-    scope: &mut Scope<'s>,
+    scope: &mut NameScope<'s>,
     component: &Expr<'s>,
 ) -> Result<(), AllocError>
     ensures { OnOk result (scope.new ≡ dummies.with_component scope.old (tree component.now)) }
@@ -116,7 +116,7 @@ pub(crate) fn add_component<'s>(
     }
 }
 
-fn add_components<'s>(scope: &mut Scope<'s>, links: &[Link<'s>]) -> Result<(), AllocError>
+fn add_components<'s>(scope: &mut NameScope<'s>, links: &[Link<'s>]) -> Result<(), AllocError>
     ensures { OnOk result (scope.new ≡ dummies.with_components scope.old (links_of links.now)) }
 {
     for link in links {
@@ -126,7 +126,7 @@ fn add_components<'s>(scope: &mut Scope<'s>, links: &[Link<'s>]) -> Result<(), A
 }
 
 fn add_tuple<'s>(
-    scope: &mut Scope<'s>,
+    scope: &mut NameScope<'s>,
     first: &Expr<'s>,
     more: &[Link<'s>],
 ) -> Result<(), AllocError>
@@ -138,7 +138,7 @@ fn add_tuple<'s>(
 
 /// Adds the new dummies on the left side of an item's `in`. Fails only if memory runs out.
 #[tactic(auto, using(net_tree::proofs::Views::views))]
-pub(crate) fn add_left<'s>(scope: &mut Scope<'s>, left: &Expr<'s>) -> Result<(), AllocError>
+pub(crate) fn add_left<'s>(scope: &mut NameScope<'s>, left: &Expr<'s>) -> Result<(), AllocError>
     ensures { OnOk result (scope.new ≡ dummies.with_left scope.old (tree left.now)) }
 {
     match left {

@@ -2,7 +2,7 @@ use Rattle.std.proofs.Common.{◌≡◌, Some, arith}
 use Rattle.std.proofs.lemmas.Grind.{common_steps}
 use Rattle.net_model.specs.Reading.{first_role}
 use Rattle.net_model.proofs.Roles.{some_within, role_first}
-use Rattle.net_model.proofs.token_cursor.Cursor.next_with_role.Goals as goal
+use Rattle.net_model.proofs.token_cursor.TokenCursor.next_with_role.Goals as goal
 
 pub returns-in-Some : goal.returns-in-Some
 returns-in-Some c =
