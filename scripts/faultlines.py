@@ -3,7 +3,12 @@ import re
 
 FAULT = re.compile(rb"E\d\d \w+ (model|data|problem|certificate) (\d+)(?::(\d+))?(?: [^\n]*)?\n")
 # The texts that a call reads, in order.
-TEXTS = {"compile": ("model", "data"), "solve": ("model", "data"), "min": ("problem",), "check": ("problem", "certificate")}
+TEXTS = {
+    "compile": ("model", "data"),
+    "solve": ("model", "data"),
+    "min": ("problem",),
+    "check": ("problem", "certificate"),
+}
 
 
 def is_inside(text, line, column):

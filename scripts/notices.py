@@ -44,7 +44,11 @@ def linked(folder):
             continue
         found.add(name)
         for path in (folder / name / "src").rglob("*.rt"):
-            line += [it for it in USE.findall(path.read_text(encoding="utf-8", errors="replace")) if it not in found and (folder / it).is_dir()]
+            line += [
+                it
+                for it in USE.findall(path.read_text(encoding="utf-8", errors="replace"))
+                if it not in found and (folder / it).is_dir()
+            ]
     return sorted(found)
 
 
@@ -56,7 +60,9 @@ def notices():
     texts = {}
     for name in linked(folder):
         for path in sorted((folder / name).glob("LICENSE*")):
-            texts.setdefault(path.read_text(encoding="utf-8", errors="replace").strip(), []).append(f"{name} ({path.name})")
+            texts.setdefault(path.read_text(encoding="utf-8", errors="replace").strip(), []).append(
+                f"{name} ({path.name})"
+            )
     names = sorted({it.split(" ")[0] for users in texts.values() for it in users})
     without = [it for it in linked(folder) if it not in names]
     parts = [TITLE, f"\nLibraries: {', '.join(names)}.\n"]

@@ -11,7 +11,9 @@ def parser(documentation):
     """Returns an argument parser whose help is the script's documentation."""
     name = pathlib.Path(sys.argv[0])
     program = f"{name.parent.name}/{name.name}" if name.parent.name in ("scripts", "bench") else name.name
-    return argparse.ArgumentParser(prog=program, description=documentation.strip(), formatter_class=argparse.RawDescriptionHelpFormatter)
+    return argparse.ArgumentParser(
+        prog=program, description=documentation.strip(), formatter_class=argparse.RawDescriptionHelpFormatter
+    )
 
 
 def count(word):

@@ -3,15 +3,33 @@ import json
 import os
 import re
 
-GENERATED = {"Answers", "Code", "Given", "Goals", "Invariants", "Key", "Laws", "Lts", "Met", "Mir", "Proof", "Reads", "Statement", "Tie", "Types"}
+GENERATED = {
+    "Answers",
+    "Code",
+    "Given",
+    "Goals",
+    "Invariants",
+    "Key",
+    "Laws",
+    "Lts",
+    "Met",
+    "Mir",
+    "Proof",
+    "Reads",
+    "Statement",
+    "Tie",
+    "Types",
+}
 
 
 def modules(kept, began):
     """Yields item, kind and seconds of each module that the check wrote, in order."""
     written = sorted(
-        (os.path.getmtime(f"{at}/{file}"), file[:-len(".oantt")])
-        for at, _, files in os.walk(kept) for file in files
-        if file.endswith(".oantt") and not file.endswith(".decls.oantt"))
+        (os.path.getmtime(f"{at}/{file}"), file[: -len(".oantt")])
+        for at, _, files in os.walk(kept)
+        for file in files
+        if file.endswith(".oantt") and not file.endswith(".decls.oantt")
+    )
     for when, module in written:
         parts = re.sub(r"^Rattle-\w+-", "", module).split(".")
         item = "::".join(parts[1:-1]) if parts[-1] in GENERATED else ".".join(parts)
@@ -28,7 +46,7 @@ def goals(kept):
     for at, _, files in os.walk(kept):
         for file in files:
             if file.endswith(".Proof.decls.oantt"):
-                function = re.sub(r"^Rattle-\w+-proofs\.", "", file)[:-len(".Proof.decls.oantt")].replace(".", "::")
+                function = re.sub(r"^Rattle-\w+-proofs\.", "", file)[: -len(".Proof.decls.oantt")].replace(".", "::")
                 with open(f"{at}/{file}", "rb") as records:
                     for calls, name in RECORD.findall(records.read()):
                         steps = {}
@@ -40,13 +58,19 @@ def goals(kept):
 def show_goals(kept):
     found = sorted(goals(kept), key=lambda it: -it[2].get("search", 0))
     in_vain = sum(steps.get("search", 0) for _, _, steps in found if "grind" in steps)
-    print(f"search {sum(steps.get('search', 0) for _, _, steps in found) / 1e6:.1f} million steps, {in_vain / 1e6:.1f} of them in vain")
+    print(
+        f"search {sum(steps.get('search', 0) for _, _, steps in found) / 1e6:.1f} million steps, {in_vain / 1e6:.1f} of them in vain"
+    )
     for function, goal, steps in found[:60]:
-        print(f"{steps.get('search', 0):9}  {'grind ' + str(steps['grind']) if 'grind' in steps else '':14}  {function} {goal}")
+        print(
+            f"{steps.get('search', 0):9}  {'grind ' + str(steps['grind']) if 'grind' in steps else '':14}  {function} {goal}"
+        )
 
 
 def show_items(items, rows):
     dearest = sorted(items.items(), key=lambda it: -sum(it[1].values()))
     for item, kinds in dearest[:rows]:
-        parts = " ".join(f"{kind} {took:.1f}" for kind, took in sorted(kinds.items(), key=lambda it: -it[1]) if took > 0.25)
+        parts = " ".join(
+            f"{kind} {took:.1f}" for kind, took in sorted(kinds.items(), key=lambda it: -it[1]) if took > 0.25
+        )
         print(f"{sum(kinds.values()):7.1f}  {item}  {parts}")

@@ -36,7 +36,12 @@ class Spec:
         chunk, remark = [], []
         lines = [line for line in text.splitlines() if not line.startswith(("use ", "pub use "))]
         for line in [*lines, "\0"]:
-            begins = line[:1] not in (" ", "") and not line.startswith("--") and HEAD.match(line) and not self.goes_on(chunk, line)
+            begins = (
+                line[:1] not in (" ", "")
+                and not line.startswith("--")
+                and HEAD.match(line)
+                and not self.goes_on(chunk, line)
+            )
             if begins or line.startswith(("--", "\0")):
                 if chunk:
                     self.keep(chunk)
@@ -107,7 +112,9 @@ class Reading:
 
     def rows(self):
         """Returns for each file its name below crates/, the number of definitions reached, and their lines."""
-        return [(str(path.relative_to(CRATES)), len(blocks), sum(map(len, blocks))) for path, blocks in self.reached.items()]
+        return [
+            (str(path.relative_to(CRATES)), len(blocks), sum(map(len, blocks))) for path, blocks in self.reached.items()
+        ]
 
 
 def read(starts=MAIN_THEOREM):
@@ -144,7 +151,10 @@ def crate_names():
 def table():
     """Yields the table: a row for each crate, in the order of an audit, then crates that the theorem does not reach."""
     rows, meant, names = read().rows(), read(MEANS).rows(), crate_names()
-    yield from ("| Crate | Stage | Files | Definitions | Lines to read | For `means` | Start with | Mutants |", "|---|---|---|---|---|---|---|---|")
+    yield from (
+        "| Crate | Stage | Files | Definitions | Lines to read | For `means` | Start with | Mutants |",
+        "|---|---|---|---|---|---|---|---|",
+    )
     staged = [(stage, crate) for stage, crates in STAGES for crate in crates if crate in names]
     rest = [("", crate) for crate in names if crate not in {it for _, it in staged}]
     for stage, crate in staged + rest:

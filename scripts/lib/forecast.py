@@ -16,12 +16,16 @@ def read(path=COSTS):
     """Returns the processor seconds of each crate."""
     if not path.exists():
         return {}
-    lines = [line.split() for line in path.read_text(encoding="utf-8").splitlines() if line and not line.startswith("#")]
+    lines = [
+        line.split() for line in path.read_text(encoding="utf-8").splitlines() if line and not line.startswith("#")
+    ]
     return {name: float(seconds) for name, seconds in lines}
 
 
 def save(costs, path=COSTS):
-    path.write_text(HEAD + "".join(f"{name} {seconds:.0f}\n" for name, seconds in sorted(costs.items())), encoding="utf-8")
+    path.write_text(
+        HEAD + "".join(f"{name} {seconds:.0f}\n" for name, seconds in sorted(costs.items())), encoding="utf-8"
+    )
 
 
 class Forecast:
@@ -52,7 +56,9 @@ class Forecast:
         them first, and the first of them gets the processors that the others leave."""
         paths, clock, work = self.paths(work), 0.0, dict(work)
         while work:
-            ready = sorted((name for name in work if not any(it in work for it in self.below[name])), key=lambda it: -paths[it])
+            ready = sorted(
+                (name for name in work if not any(it in work for it in self.below[name])), key=lambda it: -paths[it]
+            )
             ready = ready[: self.lanes]
             jobs = {name: 1 for name in ready} | {ready[0]: max(1, self.lanes - len(ready) + 1)}
             pace = {name: 1 / (1 - SHARED + SHARED / jobs[name]) for name in ready}

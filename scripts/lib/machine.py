@@ -22,7 +22,9 @@ class PlainProgram:
             return
         self.folder = tempfile.TemporaryDirectory(prefix="machine-")
         room = self.folder.name
-        subprocess.run([compiler, "-std=c++17", "-O2", "-o", f"{room}/floor", str(TOP / "bench" / "floor.cc")], check=True)
+        subprocess.run(
+            [compiler, "-std=c++17", "-O2", "-o", f"{room}/floor", str(TOP / "bench" / "floor.cc")], check=True
+        )
         for part in ("model", "data"):
             with open(f"{room}/{part}", "wb") as out:
                 subprocess.run([str(TOP / "bench" / "make_planner"), part, *PLANNER], stdout=out, check=True)
@@ -38,6 +40,7 @@ class PlainProgram:
 
     def start(self, seconds=60):
         """Measures now and then once in so many seconds, until `stop`, in a thread of its own."""
+
         def repeat():
             self.measure()
             while not self.ended.wait(seconds):

@@ -21,7 +21,7 @@ def number_of(text):
 
 def after(line, prefix):
     wanted(line.startswith(prefix), f"{line!r}: the line should begin with {prefix!r}")
-    return number_of(line[len(prefix):])
+    return number_of(line[len(prefix) :])
 
 
 def plan_of(text, model):
@@ -70,7 +70,10 @@ def check_cut(text, model, form):
     supply, most, least = form.across(places)
     said, allowed = number_of(found[2]), number_of(found[3])
     wanted(said == supply, f"the set supplies {supply}, not {said}")
-    wanted(allowed == (most if found[1] == "over" else least), f"the arcs allow {most} at most and {least} at least, not {allowed}")
+    wanted(
+        allowed == (most if found[1] == "over" else least),
+        f"the arcs allow {most} at most and {least} at least, not {allowed}",
+    )
     wanted(supply > most if found[1] == "over" else supply < least, f"{lines[1]!r} shows nothing")
 
 

@@ -1,9 +1,32 @@
 """Random expressions over what is declared so far."""
 from models.expressions import (
-    Binary, Choice, Dummy, Fault, Joined, Member, Negated, Not, ParamRef, Parens, Reduced, Relation, every_dummy,
+    Binary,
+    Choice,
+    Dummy,
+    Fault,
+    Joined,
+    Member,
+    Negated,
+    Not,
+    ParamRef,
+    Parens,
+    Reduced,
+    Relation,
+    every_dummy,
 )
 from models.sets import (
-    Braces, Comprehension, Item, Literal, Membership, Range, SetBinary, SetChoice, SetParens, SetRef, Tuple, Within,
+    Braces,
+    Comprehension,
+    Item,
+    Literal,
+    Membership,
+    Range,
+    SetBinary,
+    SetChoice,
+    SetParens,
+    SetRef,
+    Tuple,
+    Within,
 )
 
 DUMMIES = "i j k l m n p q s t u v".split() + ["from_city", "day", "P", "T", "_x", "a1"]
@@ -75,7 +98,9 @@ class Author:
     def number(self, scope, depth=2):
         if depth <= 0 or self.chance(0.3):
             return self.leaf(scope)
-        kind = self.rng.choices(["sum", "product", "div", "reduced", "choice", "sign", "parens"], [6, 3, 2, 4, 2, 1, 1])[0]
+        kind = self.rng.choices(
+            ["sum", "product", "div", "reduced", "choice", "sign", "parens"], [6, 3, 2, 4, 2, 1, 1]
+        )[0]
         if kind == "sum":
             return Binary(self.rng.choice("++-"), self.number(scope, depth - 1), self.number(scope, depth - 1))
         if kind == "product":
@@ -99,9 +124,13 @@ class Author:
     # Conditions
 
     def condition(self, scope, depth=2):
-        kind = self.rng.choices(["compare", "same", "member", "joined", "not", "within"], [4, 4, 4, 2 * depth, depth, 1])[0]
+        kind = self.rng.choices(
+            ["compare", "same", "member", "joined", "not", "within"], [4, 4, 4, 2 * depth, depth, 1]
+        )[0]
         if kind == "joined":
-            return Joined(self.rng.choice(["and", "or"]), self.condition(scope, depth - 1), self.condition(scope, depth - 1))
+            return Joined(
+                self.rng.choice(["and", "or"]), self.condition(scope, depth - 1), self.condition(scope, depth - 1)
+            )
         if kind == "not":
             return Not(self.condition(scope, depth - 1))
         if kind == "within":
@@ -157,16 +186,21 @@ class Author:
 
     def set_of(self, scope, depth, dimen):
         """A set of this dimension; declared ones most of all."""
-        kind = self.rng.choices(["declared", "range", "literal", "binary", "cross", "braces", "parens", "choice"],
-                                [8, 2 * (dimen == 1), 1, 2 * depth, 2 * (dimen == 2), depth, 0.5 * depth, 0.3 * depth])[0]
+        kind = self.rng.choices(
+            ["declared", "range", "literal", "binary", "cross", "braces", "parens", "choice"],
+            [8, 2 * (dimen == 1), 1, 2 * depth, 2 * (dimen == 2), depth, 0.5 * depth, 0.3 * depth],
+        )[0]
         made = None
         if kind == "range":
             made = self.range(scope)
         elif kind == "literal":
             made = self.literal(scope, dimen)
         elif kind == "binary":
-            made = SetBinary(self.rng.choice(["union", "diff", "symdiff", "inter"]), self.set_of(scope, depth - 1, dimen),
-                             self.set_of(scope, depth - 1, dimen))
+            made = SetBinary(
+                self.rng.choice(["union", "diff", "symdiff", "inter"]),
+                self.set_of(scope, depth - 1, dimen),
+                self.set_of(scope, depth - 1, dimen),
+            )
         elif kind == "cross":
             made = SetBinary("cross", self.set_of(scope, depth - 1, 1), self.set_of(scope, depth - 1, 1))
         elif kind == "braces":
@@ -187,7 +221,7 @@ class Author:
     def set_braces(self, scope, depth, dimen):
         items, inside, every = [], list(scope), [self.set_of(scope, depth, 1) for _ in range(dimen)]
         for place, members in enumerate(every):
-            later = [it for following in every[place + 1:] for it in every_dummy(following)]
+            later = [it for following in every[place + 1 :] for it in every_dummy(following)]
             items.append(self.item(inside + later, members, fresh=True))
             inside += items[-1].new
         return Comprehension(Braces(items, self.condition(inside, 1) if self.chance(0.7) else None))

@@ -171,7 +171,13 @@ class NodeDecl(Declared):
             for sign, end in (("+", arc.end["to"]), ("-", arc.end["from"])):
                 if end and end[0] is self:
                     same = [f"({name} = {it.twin()})" for name, it in zip(own, end[1])]
-                    front = f"sum{arc.braces.twin(*same)} " if arc.braces else f"if {' and '.join(same)} then " if same else ""
+                    front = (
+                        f"sum{arc.braces.twin(*same)} "
+                        if arc.braces
+                        else f"if {' and '.join(same)} then "
+                        if same
+                        else ""
+                    )
                     parts.append(f"{sign} ({front}{arc.variable()})")
         inflow = f"(0 {' '.join(parts)})"
         said = self.condition.twin(inflow) if self.condition else f"{inflow} = 0"
@@ -220,6 +226,10 @@ class Objective(Declared):
     def twin(self, arcs):
         if self.expression:
             return f"{self.sense} {self.name}: {self.expression.twin()};"
-        parts = [(f"sum{arc.braces.twin()} " if arc.braces else "") + f"({price.twin()} * {arc.variable()})"
-                 for arc in arcs for objective, price in arc.prices if objective is self]
+        parts = [
+            (f"sum{arc.braces.twin()} " if arc.braces else "") + f"({price.twin()} * {arc.variable()})"
+            for arc in arcs
+            for objective, price in arc.prices
+            if objective is self
+        ]
         return f"{self.sense} {self.name}: 0 {''.join(f'+ ({it})' for it in parts)};"

@@ -48,7 +48,9 @@ class Instance:
         for decl in layout.arcs:
             for key, env in decl.steps:
                 ends = [self.end(end, env, places) for end in (decl.end["from"], decl.end["to"])]
-                self.arcs.append(Arc(decl.name, key, decl.braces is not None, *ends, decl.low.value(env), decl.high.value(env)))
+                self.arcs.append(
+                    Arc(decl.name, key, decl.braces is not None, *ends, decl.low.value(env), decl.high.value(env))
+                )
 
     @staticmethod
     def end(end, env, places):
@@ -126,8 +128,10 @@ class Normal:
     def links(self, instance):
         lines = [f"c constant {self.constant}", f"c sign {self.sign}"]
         lines += [f"c node {place} {reference(node)}" for place, node in enumerate(instance.nodes, 1)]
-        lines += [f"c arc {number} {offset} {reference(arc)}"
-                  for number, arc, offset in zip(self.numbers, instance.arcs, self.offsets)]
+        lines += [
+            f"c arc {number} {offset} {reference(arc)}"
+            for number, arc, offset in zip(self.numbers, instance.arcs, self.offsets)
+        ]
         return "".join(line + "\n" for line in lines)
 
     def across(self, places):

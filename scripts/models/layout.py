@@ -1,6 +1,18 @@
 """Random nodes, arcs and objectives over a world."""
 from models.declarations import ArcDecl, NetCondition, NodeDecl, Objective
-from models.expressions import Binary, Choice, Fault, Joined, Member, Negated, ParamRef, Parens, Reduced, copied, every_dummy
+from models.expressions import (
+    Binary,
+    Choice,
+    Fault,
+    Joined,
+    Member,
+    Negated,
+    ParamRef,
+    Parens,
+    Reduced,
+    copied,
+    every_dummy,
+)
 from models.linear import ArcRef
 from models.sets import Braces, Item, Keys, Membership, SetRef, Tuple
 from models.world import World
@@ -137,8 +149,10 @@ class Layout(World):
         """Braces, and the ends with their subscripts; only keys at which both nodes are there."""
         braces = self.arc_braces(ends)
         scope = self.scope_of(braces)
-        subscripts = [it and [self.subscript(scope, part.kind, part.domain) for part in (it.braces.key() if it.braces else [])]
-                      for it in ends]
+        subscripts = [
+            it and [self.subscript(scope, part.kind, part.domain) for part in (it.braces.key() if it.braces else [])]
+            for it in ends
+        ]
         if any(it and None in it for it in subscripts):
             return None
         try:
@@ -171,7 +185,9 @@ class Layout(World):
         return self.index(named=True) if kind == "plain" else self.braces([], 1)
 
     def are_there(self, ends, subscripts, env):
-        return all(it is None or tuple(part.value(env) for part in parts) in it.keys for it, parts in zip(ends, subscripts))
+        return all(
+            it is None or tuple(part.value(env) for part in parts) in it.keys for it, parts in zip(ends, subscripts)
+        )
 
     def guarded(self, braces, ends, subscripts):
         """The condition of the braces, and that the nodes are there."""
@@ -197,8 +213,11 @@ class Layout(World):
         if self.chance(0.35):
             low = self.sound(lambda: self.number(scope, 1), envs, lambda value, _: -25 <= value <= 12) or low
         high = self.sound(lambda: self.number(scope, 2), envs, lambda value, env: low.value(env) <= value <= 150, 8)
-        return low, high or (Member(self.rng.randint(3, 25)) if isinstance(low, Member) and low.member == 0
-                             else Binary("+", low, Member(self.rng.randint(0, 20))))
+        return low, high or (
+            Member(self.rng.randint(3, 25))
+            if isinstance(low, Member) and low.member == 0
+            else Binary("+", low, Member(self.rng.randint(0, 20)))
+        )
 
     # Objectives
 
@@ -227,7 +246,9 @@ class Layout(World):
             term = self.over_arc(arc)
             made = Binary(self.rng.choice("++-"), made, term) if made else Negated(term) if self.chance(0.2) else term
         if self.chance(0.2):
-            made = Choice(self.condition([], 1), made, self.over_arc(self.rng.choice(self.arcs)) if self.chance(0.6) else None)
+            made = Choice(
+                self.condition([], 1), made, self.over_arc(self.rng.choice(self.arcs)) if self.chance(0.6) else None
+            )
         elif self.chance(0.2):
             made = Binary("*", Parens(made), self.number([], 1))
         return made
@@ -247,7 +268,10 @@ class Layout(World):
         price = self.number(scope, 1)
         kind = self.rng.choice(["left", "left", "right", "alone", "sign", "choice", "parens"])
         return {
-            "left": Binary("*", price, arc), "right": Binary("*", arc, price), "alone": arc, "sign": Negated(arc),
+            "left": Binary("*", price, arc),
+            "right": Binary("*", arc, price),
+            "alone": arc,
+            "sign": Negated(arc),
             "choice": Parens(Choice(self.condition(scope, 1), arc, Binary("*", price, arc))),
             "parens": Binary("*", Parens(Binary("-", arc, Member(2))), price),
         }[kind]

@@ -35,8 +35,14 @@ class Model:
             layout.scalar()
         for _ in range(rng.randint(1, 3)):
             layout.base_set()
-        counts = {layout.tuple_set: [0, 1, 1, 2], layout.derived_set: [0, 1, 2], layout.symbol: [0, 1], layout.scalar: [0, 1],
-                  layout.table: [1, 2, 3, 4], layout.check: [0, 1, 2]}
+        counts = {
+            layout.tuple_set: [0, 1, 1, 2],
+            layout.derived_set: [0, 1, 2],
+            layout.symbol: [0, 1],
+            layout.scalar: [0, 1],
+            layout.table: [1, 2, 3, 4],
+            layout.check: [0, 1, 2],
+        }
         steps = [step for step, count in counts.items() for _ in range(rng.choice(count))]
         rng.shuffle(steps)
         for step in steps:

@@ -97,7 +97,11 @@ def decide_free(instance, plan, rng, is_spoiled):
 
 def decide_node(decl, env, key, inflow, rng, is_spoiled):
     condition = decl.condition
-    middle = condition.base(env) + condition.sign() * inflow + (rng.choice([-1, 1]) * rng.randint(1, 40) if is_spoiled else 0)
+    middle = (
+        condition.base(env)
+        + condition.sign() * inflow
+        + (rng.choice([-1, 1]) * rng.randint(1, 40) if is_spoiled else 0)
+    )
     for (operator, _, is_left), free in zip(condition.sides, decl.free):
         operator = {"<=": ">=", ">=": "<="}.get(operator, operator) if is_left else operator
         slack = rng.choice([0, 0, 1, 3, 10])

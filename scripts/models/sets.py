@@ -126,7 +126,9 @@ class SetBinary(SetExpr):
             return [a + b for a in left for b in right]
         kept = [it for it in left if (it in others) == (self.word == "inter")]
         return {
-            "union": left + [it for it in right if it not in there], "diff": kept, "inter": kept,
+            "union": left + [it for it in right if it not in there],
+            "diff": kept,
+            "inter": kept,
             "symdiff": kept + [it for it in right if it not in there],
         }[self.word]
 
@@ -147,7 +149,9 @@ class SetBinary(SetExpr):
             return f"({self.left.has(parts[:self.left.dimen])} and {self.right.has(parts[self.left.dimen:])})"
         left, right = self.left.has(parts), self.right.has(parts)
         return {
-            "union": f"({left} or {right})", "inter": f"({left} and {right})", "diff": f"({left} and not {right})",
+            "union": f"({left} or {right})",
+            "inter": f"({left} and {right})",
+            "diff": f"({left} and not {right})",
             "symdiff": f"(({left} and not {right}) or ({right} and not {left}))",
         }[self.word]
 
@@ -214,6 +218,7 @@ class SetParens(Parens, SetExpr):
 
     def has(self, parts):
         return self.inner.has(parts)
+
 
 class Membership(Expr):
     """`in` and `not in`."""
@@ -313,8 +318,11 @@ class Braces:
             if len(every) > MOST:
                 raise Fault("too many keys")
         key = self.key()
-        return [(tuple(each[it] for it in key), each) for each in every
-                if self.condition is None or self.condition.value(each)]
+        return [
+            (tuple(each[it] for it in key), each)
+            for each in every
+            if self.condition is None or self.condition.value(each)
+        ]
 
     def text(self):
         inside = ", ".join(item.text() for item in self.items)

@@ -16,6 +16,7 @@ def spoiler(command, statuses, pattern, more=1):
         if words[0] != command or status not in statuses:
             return status, text, stderr
         return status, last_number(text, pattern, more), stderr
+
     return spoil
 
 

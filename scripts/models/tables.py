@@ -111,7 +111,11 @@ class Tables:
         sets = [it for it in declared if isinstance(it, SetDecl) and it.made is None]
         params = [it for it in declared if isinstance(it, Param) and (it.rows or it.data_default is not None)]
         groups = self.together(sets, params)
-        out = [self.columns(*it) for it in groups] + [self.set_text(it) for it in sets] + [self.param_text(it) for it in params]
+        out = (
+            [self.columns(*it) for it in groups]
+            + [self.set_text(it) for it in sets]
+            + [self.param_text(it) for it in params]
+        )
         self.rng.shuffle(out)
         return ("data;\n" if self.chance(0.2) else "") + "".join(out) + ("end;\n" if self.chance(0.2) else "")
 

@@ -6,9 +6,41 @@ from models.sets import Braces, Literal, Range, SetBinary, SetRef, whole
 
 SET_NAMES = "CITIES PLANTS SHOPS DAYS GOODS LINKS ROADS MILLS ZONES CREWS WEEKS A B S i P day".split()
 PARAM_NAMES = "cost room need most rate last days_of start home supply demand weight first p q k cap2 base".split()
-TEXTS = ["PITT", "NE", "SE", "BOS", "EWR", "a", "b", "c", "x1", "2nd", "Zürich", "New York", "O'Hare", "say \"so\"", "set",
-         "end", "default", "a.b", "--x", "a/b", "(x)", "#1", "7up", "1..5", ".5x", "-", "+", "data", "x:y", "tr", "param",
-         "12", "-3"]
+TEXTS = [
+    "PITT",
+    "NE",
+    "SE",
+    "BOS",
+    "EWR",
+    "a",
+    "b",
+    "c",
+    "x1",
+    "2nd",
+    "Zürich",
+    "New York",
+    "O'Hare",
+    'say "so"',
+    "set",
+    "end",
+    "default",
+    "a.b",
+    "--x",
+    "a/b",
+    "(x)",
+    "#1",
+    "7up",
+    "1..5",
+    ".5x",
+    "-",
+    "+",
+    "data",
+    "x:y",
+    "tr",
+    "param",
+    "12",
+    "-3",
+]
 
 
 class World(Author):
@@ -54,7 +86,9 @@ class World(Author):
 
     def range_set(self, count):
         last = Member(count)
-        scalars = [it for it in self.params if it.ready and not it.braces and it.kind == "number" and 1 <= it.values[()] <= 6]
+        scalars = [
+            it for it in self.params if it.ready and not it.braces and it.kind == "number" and 1 <= it.values[()] <= 6
+        ]
         if scalars and self.chance(0.5):
             last = ParamRef(self.rng.choice(scalars), [])
         made = Range(Member(1), last, Member(2) if self.chance(0.1) else None)
@@ -146,7 +180,9 @@ class World(Author):
         kind = self.rng.choices(["rows", "default", "data default", "made", "holes"], [5, 3, 2, 3, 1])[0]
         span = self.rng.choice([(0, 9), (0, 30), (-9, 9), (1, 99)])
         if kind == "made":
-            param.made = self.sound(lambda: self.number(self.scope_of(param.braces), self.rng.choice([2, 4])), envs) or Member(3)
+            param.made = self.sound(
+                lambda: self.number(self.scope_of(param.braces), self.rng.choice([2, 4])), envs
+            ) or Member(3)
             return self.add_param(param)
         share = 1 if kind == "rows" else 0.6
         param.rows = {key: self.rng.randint(*span) for key in param.keys if self.chance(share)}
@@ -173,7 +209,9 @@ class World(Author):
         braces = self.index() if self.chance(0.6) else None
         envs = [env for _, env in braces.walk({})] if braces else [{}]
         scope = self.scope_of(braces)
-        condition = self.sound(lambda: self.condition(scope, self.rng.randint(1, 3)), envs, lambda value, _: value is True)
+        condition = self.sound(
+            lambda: self.condition(scope, self.rng.randint(1, 3)), envs, lambda value, _: value is True
+        )
         if condition is None:
             condition = Relation(">=", Member(1), Member(0))
         self.declared.append(Check(braces, condition))

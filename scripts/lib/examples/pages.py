@@ -6,13 +6,14 @@ import tempfile
 from lib.command import TOP
 from lib.examples.program import compare, rejected, run
 
-
 ERRORS, MODELLING = "docs/reference/errors.md", "docs/guide/modelling.md"
 TEXT = r"```\n((?:(?!```).*\n)*)```\n+"
 
 # In an example this sign is a line feed.
 LINE_FEED = " ⏎ "
-EXAMPLE = re.compile(r"Example: `([^`]+)`(?: with the data `([^`]+)`)? gives `(E\d\d \w+ (model|data|problem|certificate)[^`]*)`")
+EXAMPLE = re.compile(
+    r"Example: `([^`]+)`(?: with the data `([^`]+)`)? gives `(E\d\d \w+ (model|data|problem|certificate)[^`]*)`"
+)
 
 WITHOUT_EXAMPLE = ["E06", "E07", "E56", "E59", "E61", "E90", "E91"]
 
@@ -32,12 +33,22 @@ def check_errors_page(complaints):
     found = examples_of(page)
     with tempfile.TemporaryDirectory() as folder:
         path = pathlib.Path(folder) / "text"
-        words = {"model": ["compile", path, "/dev/null"], "data": ["compile", model, path], "problem": ["min", path], "certificate": ["check", problem, path]}
+        words = {
+            "model": ["compile", path, "/dev/null"],
+            "data": ["compile", model, path],
+            "problem": ["min", path],
+            "certificate": ["check", problem, path],
+        }
         for above, text, line, name in found:
             path.write_text(text, encoding="utf-8")
             other = pathlib.Path(folder) / "model"
             other.write_text(above, encoding="utf-8")
-            compare(f"{ERRORS}: {line}", rejected(line, 3), run(["compile", other, path] if above else words[name]), complaints)
+            compare(
+                f"{ERRORS}: {line}",
+                rejected(line, 3),
+                run(["compile", other, path] if above else words[name]),
+                complaints,
+            )
     shown = {line.split()[0] for *_, line, _ in found}
     wanted = set(re.findall(r"(?m)^## (E\d\d) ", page)) - set(WITHOUT_EXAMPLE)
     complaints.extend(f"{ERRORS}: no example gives {number}" for number in sorted(wanted - shown))
@@ -63,7 +74,11 @@ def check_modelling_page(complaints):
 
 def check_described_errors(complaints):
     """Checks the errors whose input the reference describes in words."""
-    cases = [(b"\xe9", "E06 NotUtf8 model 1:1"), (b"a" * 256, "E07 TextTooLong model 1:1"), (b"", "E56 NoObjective model 1:1")]
+    cases = [
+        (b"\xe9", "E06 NotUtf8 model 1:1"),
+        (b"a" * 256, "E07 TextTooLong model 1:1"),
+        (b"", "E56 NoObjective model 1:1"),
+    ]
     with tempfile.TemporaryDirectory() as folder:
         path = pathlib.Path(folder) / "text"
         for text, line in cases:

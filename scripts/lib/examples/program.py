@@ -3,7 +3,6 @@ import subprocess
 
 from lib.command import TOP
 
-
 COMMAND = TOP / "netflow"
 
 PROGRAM = TOP / "crates" / "netflow" / "out" / "netflow"
@@ -12,7 +11,12 @@ PROGRAM = TOP / "crates" / "netflow" / "out" / "netflow"
 def run(words, seconds=None):
     """Runs the program; returns status, standard output and standard error, or an error text if it exceeds the time."""
     try:
-        done = subprocess.run([str(PROGRAM), *(word if isinstance(word, bytes) else str(word) for word in words)], capture_output=True, stdin=subprocess.DEVNULL, timeout=seconds)
+        done = subprocess.run(
+            [str(PROGRAM), *(word if isinstance(word, bytes) else str(word) for word in words)],
+            capture_output=True,
+            stdin=subprocess.DEVNULL,
+            timeout=seconds,
+        )
     except subprocess.TimeoutExpired:
         return 1, b"", b"no answer after %d seconds" % seconds
     return done.returncode, done.stdout, done.stderr

@@ -7,7 +7,6 @@ from lib.command import TOP
 from lib.examples.program import compare, run
 
 
-
 class Row:
     """A model with its data, the chosen objective and options, and the expected answer: lines by their signs."""
 
@@ -121,7 +120,12 @@ def check_pieces(row, problem, complaints):
     stderr = re.sub(rb"(?<=problem )\d+", lambda it: b"%d" % (int(it[0]) + 1), stderr)
     for place in range(len(text)):
         problem.write_bytes(b"c".ljust(4095 - place) + b"\n" + text)
-        compare(f"{row.place}: after a comment, cut at byte {place}", (status, found, stderr), run(["min", problem]), complaints)
+        compare(
+            f"{row.place}: after a comment, cut at byte {place}",
+            (status, found, stderr),
+            run(["min", problem]),
+            complaints,
+        )
 
 
 def check_problem_rows(complaints):

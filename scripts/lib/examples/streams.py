@@ -18,9 +18,7 @@ from lib.version import version
 def check_limits(complaints):
     """Models above the limits on nodes and text, files that cannot be opened, and the command line."""
     nodes = "".join(f"node N{i};\n" for i in range(10001))
-    arcs = "minimize C;\nnode N;\n" + "".join(
-        f"arc A{i} >= 0, <= 1, from N, to N, obj C 1;\n" for i in range(100001)
-    )
+    arcs = "minimize C;\nnode N;\n" + "".join(f"arc A{i} >= 0, <= 1, from N, to N, obj C 1;\n" for i in range(100001))
     # The line of an arc has more than ten bytes, so this many arcs exceed the limit of the text first.
     cases = [
         ("too many nodes", nodes, "E59 TooManyNodes model 10001:6 N10000", 3),
@@ -35,14 +33,21 @@ def check_limits(complaints):
         compare("no model", rejected("E90 ReadFault model", 4), run(["compile", missing, "/dev/null"]), complaints)
         compare("no data", rejected("E90 ReadFault data", 4), run(["compile", "/dev/null", missing]), complaints)
     status, _, stderr = run([b"check", b"\xff", b"x"])
-    compare("a word that is not UTF-8", (64, b"netflow: a word of the command line is not UTF-8\n"), (status, stderr), complaints)
+    compare(
+        "a word that is not UTF-8",
+        (64, b"netflow: a word of the command line is not UTF-8\n"),
+        (status, stderr),
+        complaints,
+    )
     if run([])[0] != 64:
         complaints.append("no words: wanted status 64")
     if run(["--help"])[0] != 0:
         complaints.append("--help: wanted status 0")
     compare("--version", (0, f"netflow {version()}\n".encode(), b""), run(["--version"]), complaints)
     two_lines = run(["compile", TOP / "examples" / "one_arc" / "one_arc.mod", "/dev/null", "--objective", "a\nb\r"])
-    compare("an objective's name of two lines", rejected("E61 NoSuchObjective model 4:47 a b ", 3), two_lines, complaints)
+    compare(
+        "an objective's name of two lines", rejected("E61 NoSuchObjective model 4:47 a b ", 3), two_lines, complaints
+    )
 
 
 def written_to(output, words, room=None):
@@ -53,7 +58,13 @@ def written_to(output, words, room=None):
         resource.setrlimit(resource.RLIMIT_FSIZE, (room, room))
 
     with open(output, "wb") as at:
-        done = subprocess.run([str(PROGRAM), *map(str, words)], stdout=at, stderr=subprocess.PIPE, stdin=subprocess.DEVNULL, preexec_fn=limit if room is not None else None)
+        done = subprocess.run(
+            [str(PROGRAM), *map(str, words)],
+            stdout=at,
+            stderr=subprocess.PIPE,
+            stdin=subprocess.DEVNULL,
+            preexec_fn=limit if room is not None else None,
+        )
     return done.returncode, done.stderr
 
 
@@ -79,7 +90,12 @@ def check_ends(complaints):
         print("check_examples: no /dev/full here: a full output was not tried", file=sys.stderr)
     with tempfile.TemporaryDirectory() as folder:
         path = pathlib.Path(folder) / "output"
-        for words in (["compile", one_arc, "/dev/null"], ["solve", one_arc, "/dev/null"], ["min", problem], ["check", problem, right]):
+        for words in (
+            ["compile", one_arc, "/dev/null"],
+            ["solve", one_arc, "/dev/null"],
+            ["min", problem],
+            ["check", problem, right],
+        ):
             whole, failed = run(words)[1], (4, b"E91 WriteFault\n")
             if full and written_to("/dev/full", words) != failed:
                 complaints.append(f"{words[0]}: a full output is not reported")
@@ -90,7 +106,10 @@ def check_ends(complaints):
 
 def check_endless(complaints):
     """Input that never ends, from a pipe."""
-    one_arc, foreign = TOP / "examples" / "one_arc" / "one_arc.mod", TOP / "examples" / "foreign_problem" / "problem.min"
+    one_arc, foreign = (
+        TOP / "examples" / "one_arc" / "one_arc.mod",
+        TOP / "examples" / "foreign_problem" / "problem.min",
+    )
     cases = [
         (["compile", "/dev/stdin", "/dev/null"], "E07 TextTooLong model 1:1"),
         (["solve", one_arc, "/dev/stdin"], "E07 TextTooLong data 1:1"),
@@ -101,7 +120,9 @@ def check_endless(complaints):
         with subprocess.Popen(["yes", "# c"], stdout=subprocess.PIPE) as endless:
             done = subprocess.run([str(PROGRAM), *map(str, words)], capture_output=True, stdin=endless.stdout)
             endless.kill()
-        compare(f"{words[0]}, without an end", rejected(line, 3), (done.returncode, done.stdout, done.stderr), complaints)
+        compare(
+            f"{words[0]}, without an end", rejected(line, 3), (done.returncode, done.stdout, done.stderr), complaints
+        )
 
 
 def check_standard_input(complaints):
@@ -124,7 +145,12 @@ def check_standard_input(complaints):
         done = subprocess.run(words, stdin=theirs, capture_output=True)
     compare("a socket", wanted, (done.returncode, done.stdout, done.stderr), complaints)
     done = subprocess.run(["sh", "-c", 'exec "$@" <&-', "sh", *words], capture_output=True)
-    compare("a closed standard input, which is empty", rejected("E56 NoObjective model 1:1", 3), (done.returncode, done.stdout, done.stderr), complaints)
+    compare(
+        "a closed standard input, which is empty",
+        rejected("E56 NoObjective model 1:1", 3),
+        (done.returncode, done.stdout, done.stderr),
+        complaints,
+    )
 
 
 def check_long_lines(complaints):
@@ -148,9 +174,13 @@ def check_long_lines(complaints):
         path = pathlib.Path(folder) / "problem.min"
         for name, text, wanted in cases:
             path.write_bytes(text)
-            done = subprocess.run([str(PROGRAM), "min", str(path)], capture_output=True, stdin=subprocess.DEVNULL, preexec_fn=limit)
+            done = subprocess.run(
+                [str(PROGRAM), "min", str(path)], capture_output=True, stdin=subprocess.DEVNULL, preexec_fn=limit
+            )
             wanted = (0, wanted, b"") if isinstance(wanted, bytes) else rejected(wanted, 3)
-            compare(f"a long line of a problem: {name}", wanted, (done.returncode, done.stdout, done.stderr), complaints)
+            compare(
+                f"a long line of a problem: {name}", wanted, (done.returncode, done.stdout, done.stderr), complaints
+            )
 
 
 def whole_answers(*first_lines):
