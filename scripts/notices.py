@@ -32,7 +32,7 @@ def crates_of_program():
         if name not in found:
             found.add(name)
             line += uses.get(name, [])
-    return {it for it in found if it not in uses} | {"std"}
+    return {name for name in found if name not in uses} | {"std"}
 
 
 def linked(folder):
@@ -45,9 +45,9 @@ def linked(folder):
         found.add(name)
         for path in (folder / name / "src").rglob("*.rt"):
             line += [
-                it
-                for it in USE.findall(path.read_text(encoding="utf-8", errors="replace"))
-                if it not in found and (folder / it).is_dir()
+                name
+                for name in USE.findall(path.read_text(encoding="utf-8", errors="replace"))
+                if name not in found and (folder / name).is_dir()
             ]
     return sorted(found)
 
@@ -63,10 +63,10 @@ def notices():
             texts.setdefault(path.read_text(encoding="utf-8", errors="replace").strip(), []).append(
                 f"{name} ({path.name})"
             )
-    names = sorted({it.split(" ")[0] for users in texts.values() for it in users})
-    without = [it for it in linked(folder) if it not in names]
+    names = sorted({user.split(" ")[0] for users in texts.values() for user in users})
+    without = [name for name in linked(folder) if name not in names]
     parts = [TITLE, f"\nLibraries: {', '.join(names)}.\n"]
     parts += [f"Without a notice of their own in the toolchain: {', '.join(without)}.\n"] if without else []
-    for text, users in sorted(texts.items(), key=lambda it: it[1]):
+    for text, users in sorted(texts.items(), key=lambda item: item[1]):
         parts.append(f"\n{'=' * 100}\n{', '.join(users)}\n{'=' * 100}\n\n{text}\n")
     return "".join(parts)

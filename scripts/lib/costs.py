@@ -56,7 +56,7 @@ def goals(kept):
 
 
 def show_goals(kept):
-    found = sorted(goals(kept), key=lambda it: -it[2].get("search", 0))
+    found = sorted(goals(kept), key=lambda record: -record[2].get("search", 0))
     in_vain = sum(steps.get("search", 0) for _, _, steps in found if "grind" in steps)
     print(
         f"search {sum(steps.get('search', 0) for _, _, steps in found) / 1e6:.1f} million steps, {in_vain / 1e6:.1f} of them in vain"
@@ -68,9 +68,9 @@ def show_goals(kept):
 
 
 def show_items(items, rows):
-    dearest = sorted(items.items(), key=lambda it: -sum(it[1].values()))
+    dearest = sorted(items.items(), key=lambda pair: -sum(pair[1].values()))
     for item, kinds in dearest[:rows]:
         parts = " ".join(
-            f"{kind} {took:.1f}" for kind, took in sorted(kinds.items(), key=lambda it: -it[1]) if took > 0.25
+            f"{kind} {took:.1f}" for kind, took in sorted(kinds.items(), key=lambda pair: -pair[1]) if took > 0.25
         )
         print(f"{sum(kinds.values()):7.1f}  {item}  {parts}")

@@ -28,7 +28,7 @@ def code_lines(text):
 
 def sizes():
     """Returns the lines of each crate by its name, without those of tests and measurements."""
-    names = [it for it in definitions.crate_names() if it not in ("net_tests", "net_bench")]
+    names = [name for name in definitions.crate_names() if name not in ("net_tests", "net_bench")]
     return {
         name: sum(code_lines(path.read_text(encoding="utf-8")) for path in (CRATES / name / "src").rglob("*.rt"))
         for name in names
@@ -37,7 +37,7 @@ def sizes():
 
 def listed(names, mark=""):
     """Returns names as a sentence lists them."""
-    names = [f"{mark}{it}{mark}" for it in sorted(names)]
+    names = [f"{mark}{name}{mark}" for name in sorted(names)]
     return ", ".join(names[:-1]) + " and " + names[-1] if len(names) > 1 else "".join(names)
 
 
@@ -47,13 +47,13 @@ def large_crates():
 
 def repeated_names():
     names = [path.name for path in CRATES.glob("*/src/**/*.rt")]
-    return listed({it for it in names if names.count(it) > 1}, "`")
+    return listed({name for name in names if names.count(name) > 1}, "`")
 
 
 def lines_for_means(*crates):
     """Returns the number of lines that the clauses `means` cite, of these crates or of all."""
     rows = definitions.read(definitions.MEANS).rows()
-    return sum(it[2] for it in rows if not crates or it[0].partition("/")[0] in crates)
+    return sum(row[2] for row in rows if not crates or row[0].partition("/")[0] in crates)
 
 
 def libraries():
@@ -91,7 +91,7 @@ FIGURES = (
     (DECISIONS, r"each occurs once, except for ([^.]+\.rt`(?:(?:, | and )[^., ]+\.rt`)*)", repeated_names),
     (DECISIONS, r"(\d+) crates; the path from", lambda: len(definitions.crate_names())),
     (VERIFICATION, r"ports of (\w+) Rust crates", lambda: NUMBERS[len(libraries())]),
-    (VERIFICATION, r"Rust crates \(([^)]*)\)", lambda: ", ".join(f"`{it}`" for it in sorted(libraries()))),
+    (VERIFICATION, r"Rust crates \(([^)]*)\)", lambda: ", ".join(f"`{library}`" for library in sorted(libraries()))),
     (
         VERIFICATION,
         r"`proofs/Examples\.antt` of (\w+) crates",

@@ -57,7 +57,8 @@ class Forecast:
         paths, clock, work = self.paths(work), 0.0, dict(work)
         while work:
             ready = sorted(
-                (name for name in work if not any(it in work for it in self.below[name])), key=lambda it: -paths[it]
+                (name for name in work if not any(library in work for library in self.below[name])),
+                key=lambda crate: -paths[crate],
             )
             ready = ready[: self.lanes]
             jobs = {name: 1 for name in ready} | {ready[0]: max(1, self.lanes - len(ready) + 1)}
@@ -73,7 +74,7 @@ class Forecast:
     def paths(self, work):
         """Returns for each crate the work on the longest path from it upwards, itself included."""
         lengths = {}
-        for name in sorted(work, key=lambda it: -len(self.below[it])):
-            above = [lengths[it] for it in lengths if name in self.below[it]]
+        for name in sorted(work, key=lambda crate: -len(self.below[crate])):
+            above = [lengths[crate] for crate in lengths if name in self.below[crate]]
             lengths[name] = work[name] + max(above, default=0)
         return lengths

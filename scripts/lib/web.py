@@ -9,7 +9,7 @@ sys.path.insert(1, str(TOP / "web"))
 from build import outputs  # noqa: E402
 
 # The second module is for comparison, and is not shipped.
-SHIPPED = [it for it in outputs.FILES if it != outputs.WASM64]
+SHIPPED = [name for name in outputs.FILES if name != outputs.WASM64]
 
 
 def write(folder):

@@ -36,7 +36,7 @@ def plan_of(text, model):
         line = next(lines, "")
         wanted(line == f"{decl.name} :=", f"{line!r}: the arcs of {decl.name} should begin here")
         for key in decl.keys:
-            plan.append(after(next(lines, ""), "".join(f"{shown(it)} " for it in key)))
+            plan.append(after(next(lines, ""), "".join(f"{shown(part)} " for part in key)))
         wanted(next(lines, "") == ";", f"the arcs of {decl.name} do not end with ';'")
     wanted(next(lines, None) is None, "lines after the last arc")
     return value, plan
@@ -61,7 +61,7 @@ def check_cut(text, model, form):
     wanted(lines[0] == "infeasible" and lines[-1] == "" and len(lines) > 2, "no cut")
     found = re.fullmatch(r"(over|under) (\S+) (\S+)", lines[1])
     wanted(found, f"{lines[1]!r} says no sums of a cut")
-    names = [f"node {reference(it)}" for it in model.instance.nodes] + ["outside"]
+    names = [f"node {reference(node)}" for node in model.instance.nodes] + ["outside"]
     places, last = set(), -1
     for line in lines[2:-1]:
         wanted(line in names and names.index(line) > last, f"{line!r} is no node, or not in its order")

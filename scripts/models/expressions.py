@@ -154,7 +154,7 @@ class Reduced(Expr):
 
     def value(self, env):
         values = [self.inner.value(each) for _, each in self.braces.walk(env)]
-        if any(isinstance(it, str) for it in values) or (self.word != "sum" and not values):
+        if any(isinstance(value, str) for value in values) or (self.word != "sum" and not values):
             raise Fault(self.word)
         return {"sum": sum, "min": min, "max": max}[self.word](values)
 
@@ -253,14 +253,14 @@ class ParamRef(Expr):
         self.param, self.subscripts = param, subscripts
 
     def value(self, env):
-        return self.param.at_key(tuple(it.value(env) for it in self.subscripts))
+        return self.param.at_key(tuple(subscript.value(env) for subscript in self.subscripts))
 
     def text(self):
-        inside = ",".join(it.at(SUM) for it in self.subscripts)
+        inside = ",".join(subscript.at(SUM) for subscript in self.subscripts)
         return f"{self.param.name}[{inside}]" if self.subscripts else self.param.name
 
     def twin(self):
-        inside = ",".join(it.twin() for it in self.subscripts)
+        inside = ",".join(subscript.twin() for subscript in self.subscripts)
         return f"{self.param.name}[{inside}]" if self.subscripts else self.param.name
 
 
@@ -272,4 +272,4 @@ def copied(expr):
 
 def every_dummy(thing):
     """Returns all named dummies of braces or a set, including inner ones; none for None."""
-    return [it for it in copied(thing)[1] if it.name] if thing else []
+    return [dummy for dummy in copied(thing)[1] if dummy.name] if thing else []

@@ -54,7 +54,7 @@ class Instance:
 
     @staticmethod
     def end(end, env, places):
-        return end and places[end[0].name, tuple(it.value(env) for it in end[1])]
+        return end and places[end[0].name, tuple(subscript.value(env) for subscript in end[1])]
 
     def take_ranges(self):
         """The nodes' ranges, once every parameter has its values."""
@@ -101,7 +101,7 @@ class Normal:
         self.constant = instance.worth(self.offsets)
         self.supplies, self.arcs, most, least = instance.inflows(self.offsets), [], [0] * outside, [0] * outside
         for arc, offset in zip(instance.arcs, self.offsets):
-            ends = [outside if it is None else it for it in (arc.src, arc.dst)]
+            ends = [outside if node is None else node for node in (arc.src, arc.dst)]
             if not lean or arc.low < arc.high:
                 self.arcs.append((*ends, arc.low - offset, arc.high - offset, sign * arc.price))
             self.numbers.append(0 if lean and arc.low == arc.high else len(self.arcs))
@@ -138,6 +138,6 @@ class Normal:
         """Of a set of nodes: what it supplies, the most that can leave it, and the least that must."""
         leaving = [arc for arc in self.arcs if arc[0] in places and arc[1] not in places]
         entering = [arc for arc in self.arcs if arc[1] in places and arc[0] not in places]
-        supply = sum(self.supplies[it] for it in places)
-        most = sum(it[3] for it in leaving) - sum(it[2] for it in entering)
-        return supply, most, sum(it[2] for it in leaving) - sum(it[3] for it in entering)
+        supply = sum(self.supplies[place] for place in places)
+        most = sum(arc[3] for arc in leaving) - sum(arc[2] for arc in entering)
+        return supply, most, sum(arc[2] for arc in leaving) - sum(arc[3] for arc in entering)

@@ -37,7 +37,7 @@ class Layout(World):
     def renamed(self, braces, scope):
         """The same braces with dummies of other names than those of the scope."""
         made, dummies = copied(braces)
-        named = [it for it in dummies if it.name]
+        named = [candidate for candidate in dummies if candidate.name]
         for dummy, name in zip(named, self.dummy_names(len(named), scope)):
             dummy.name = name
         return made
@@ -45,7 +45,7 @@ class Layout(World):
     def named_copy(self, braces, scope):
         """The same, and every component of the key has a name."""
         made = self.renamed(braces, scope)
-        lacking = [it for it in made.key() if it.name is None]
+        lacking = [dummy for dummy in made.key() if dummy.name is None]
         for dummy, name in zip(lacking, self.dummy_names(len(lacking), [*scope, *every_dummy(made)])):
             dummy.name = name
         return made
@@ -72,11 +72,13 @@ class Layout(World):
 
     def empty_key(self):
         """Makes braces whose one key has no members, by an item that selects and binds nothing; None if there is no set."""
-        there = [it for it in self.sets if it.rows]
+        there = [decl for decl in self.sets if decl.rows]
         if not there:
             return None
         chosen = self.rng.choice(there)
-        return Braces([Item([self.member(it) for it in self.rng.choice(chosen.rows)], SetRef(chosen), [])])
+        return Braces(
+            [Item([self.member(component) for component in self.rng.choice(chosen.rows)], SetRef(chosen), [])]
+        )
 
     def terms(self, braces, scope):
         """Signed terms, of which one is the net flow."""
@@ -150,10 +152,11 @@ class Layout(World):
         braces = self.arc_braces(ends)
         scope = self.scope_of(braces)
         subscripts = [
-            it and [self.subscript(scope, part.kind, part.domain) for part in (it.braces.key() if it.braces else [])]
-            for it in ends
+            node
+            and [self.subscript(scope, part.kind, part.domain) for part in (node.braces.key() if node.braces else [])]
+            for node in ends
         ]
-        if any(it and None in it for it in subscripts):
+        if any(parts and None in parts for parts in subscripts):
             return None
         try:
             steps = braces.walk({}) if braces else [((), {})]
@@ -171,14 +174,14 @@ class Layout(World):
 
     def arc_braces(self, ends):
         kind = self.rng.choice(["restated", "random", "random", "plain", "plain", "none"])
-        own = [it for it in ends if it and it.braces]
+        own = [node for node in ends if node and node.braces]
         if kind == "none" and self.chance(0.6):
             return self.empty_key() if self.chance(0.15) else None
         if kind == "restated" and own:
             made = self.named_copy(self.rng.choice(own).braces, [])
             if len(own) == 2 and self.chance(0.5) and own[1].braces:
                 other = self.named_copy(own[1].braces, every_dummy(made))
-                both = [it for it in (made.condition, other.condition) if it]
+                both = [condition for condition in (made.condition, other.condition) if condition]
                 joined = Joined("and", *both) if len(both) == 2 else (both or [None])[0]
                 made = Braces(made.items + other.items, joined)
             return made
@@ -186,7 +189,8 @@ class Layout(World):
 
     def are_there(self, ends, subscripts, env):
         return all(
-            it is None or tuple(part.value(env) for part in parts) in it.keys for it, parts in zip(ends, subscripts)
+            node is None or tuple(part.value(env) for part in parts) in node.keys
+            for node, parts in zip(ends, subscripts)
         )
 
     def guarded(self, braces, ends, subscripts):

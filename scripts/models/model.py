@@ -63,7 +63,9 @@ class Model:
 
     def model_text(self):
         remarks = ["\n"] * 20 + ["  # a remark; with : = and 'marks\n", " /* two\n lines */\n", " "]
-        text = f"# Seed {self.seed}.\n" + "".join(it.text() + self.rng.choice(remarks) for it in self.layout.declared)
+        text = f"# Seed {self.seed}.\n" + "".join(
+            declaration.text() + self.rng.choice(remarks) for declaration in self.layout.declared
+        )
         if self.rng.random() < 0.3:
             for mark in MARKS:
                 # No text of a set has one of these with its blanks.
@@ -80,7 +82,11 @@ class Model:
     def twin(self):
         """The same in MathProg: arcs are variables, nodes constraints."""
         layout = self.layout
-        out = [it.twin() for it in layout.declared if isinstance(it, (SetDecl, Param, Check))]
-        out += [it.twin() for it in layout.arcs]
-        out += [self.chosen.twin(layout.arcs)] + [it.twin(layout.arcs) for it in layout.nodes]
-        return "".join(it + "\n" for it in out) + "solve;\ndata;\n" + twin_text(layout.declared) + "end;\n"
+        out = [
+            declaration.twin() for declaration in layout.declared if isinstance(declaration, (SetDecl, Param, Check))
+        ]
+        out += [arc.twin() for arc in layout.arcs]
+        out += [self.chosen.twin(layout.arcs)] + [node.twin(layout.arcs) for node in layout.nodes]
+        return (
+            "".join(statement + "\n" for statement in out) + "solve;\ndata;\n" + twin_text(layout.declared) + "end;\n"
+        )

@@ -10,7 +10,7 @@ def chosen_plan(instance, ranges, rng):
     plan = [rng.randint(arc.low, arc.high) for arc in instance.arcs]
     for _ in range(400):
         sums = instance.inflows(plan)
-        place = next((it for it, (low, high) in enumerate(ranges) if not low <= sums[it] <= high), None)
+        place = next((place for place, (low, high) in enumerate(ranges) if not low <= sums[place] <= high), None)
         if place is None:
             break
         low, high = ranges[place]
@@ -76,9 +76,9 @@ def relax(instance, plan, rng):
     for decl in instance.decls:
         here = range(place, place + len(decl.keys))
         place += len(decl.keys)
-        if all(ranges[it][0] <= sums[it] <= ranges[it][1] for it in here) or rng.random() < 0.15:
+        if all(ranges[place][0] <= sums[place] <= ranges[place][1] for place in here) or rng.random() < 0.15:
             continue
-        low, high = min(sums[it] for it in here), max(sums[it] for it in here)
+        low, high = min(sums[place] for place in here), max(sums[place] for place in here)
         sides = [("<=", Member(low), True), ("<=", Member(high), False)] if low < high else [("=", Member(low), False)]
         decl.condition = NetCondition("net_in", [(1, None)], sides)
 

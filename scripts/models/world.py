@@ -52,8 +52,10 @@ class World(Author):
         self.domains["#"] = [1, 2, 3]
 
     def new_name(self, names, scope=()):
-        fitting = [it for it in names if it not in self.names and it not in {d.name for d in scope}]
-        plain = [it for it in fitting if len(it) > 1] or fitting
+        fitting = [
+            candidate for candidate in names if candidate not in self.names and candidate not in {d.name for d in scope}
+        ]
+        plain = [candidate for candidate in fitting if len(candidate) > 1] or fitting
         name = self.rng.choice(plain if self.chance(0.9) and plain else fitting or ["more"])
         while name in self.names:
             name = f"{name}{self.rng.randint(1, 99)}"
@@ -64,7 +66,7 @@ class World(Author):
         declared = SetDecl(self.new_name(SET_NAMES), rows, kinds, domains, made)
         if declared.domains == (None,):
             declared.domains = (declared.name,)
-            self.domains[declared.name] = [it[0] for it in rows]
+            self.domains[declared.name] = [row[0] for row in rows]
         declared.within = list(within)
         self.declared.append(declared.finish(self.rng))
         self.sets.append(declared)
@@ -80,14 +82,16 @@ class World(Author):
         texts, numbers = self.rng.sample(TEXTS, count), self.rng.sample(range(-3, 40), count)
         members = texts if kind == "texts" else numbers if kind == "numbers" else texts[:2] + numbers[: count - 1]
         word = {"texts": "name", "numbers": "number", "mixed": "mixed"}[kind]
-        rows = [(it,) for it in members]
-        made = Literal([self.member(it) for it in members], (word,), (None,)) if self.chance(0.2) else None
+        rows = [(member,) for member in members]
+        made = Literal([self.member(member) for member in members], (word,), (None,)) if self.chance(0.2) else None
         return self.add_set(made, rows, (word,), (None,))
 
     def range_set(self, count):
         last = Member(count)
         scalars = [
-            it for it in self.params if it.ready and not it.braces and it.kind == "number" and 1 <= it.values[()] <= 6
+            param
+            for param in self.params
+            if param.ready and not param.braces and param.kind == "number" and 1 <= param.values[()] <= 6
         ]
         if scalars and self.chance(0.5):
             last = ParamRef(self.rng.choice(scalars), [])
@@ -96,7 +100,7 @@ class World(Author):
 
     def tuple_set(self):
         """Some tuples of a product; given by the data, or made by braces."""
-        base = [it for it in self.sets if it.dimen == 1 and it.rows]
+        base = [decl for decl in self.sets if decl.dimen == 1 and decl.rows]
         parts = [SetRef(self.rng.choice(base)) for _ in range(self.rng.choice([2, 2, 2, 3]))]
         product = parts[0]
         for part in parts[1:]:
@@ -115,7 +119,9 @@ class World(Author):
         made = self.sound(lambda: self.set_of([], 2, dimen), [{}], lambda rows, _: 0 < len(rows) <= 30)
         if made is None:
             return None
-        within = [SetRef(it) for it in self.sets if it.dimen == dimen and set(made.value({})) <= set(it.rows)][:1]
+        within = [SetRef(decl) for decl in self.sets if decl.dimen == dimen and set(made.value({})) <= set(decl.rows)][
+            :1
+        ]
         return self.add_set(made, made.value({}), made.kinds, made.domains, within if self.chance(0.3) else [])
 
     # Parameters
@@ -123,12 +129,12 @@ class World(Author):
     def plain_index(self, dimens, named):
         """Whole sets, with dummies or alone."""
         items = []
-        there = {it.dimen for it in self.sets}
+        there = {decl.dimen for decl in self.sets}
         for dimen in dimens or self.rng.choice([[1], [1], [1, 1], [2], [1, 2], [3]]):
             if dimen not in there and self.chance(0.8):
                 dimen = 1
             members = self.declared_set(dimen) or self.plain(dimen)
-            names = self.dummy_names(dimen, [it for before in items for it in before.new])
+            names = self.dummy_names(dimen, [dummy for before in items for dummy in before.new])
             items.append(whole(members, names if named else [None] * dimen))
         return Braces(items)
 
@@ -151,7 +157,7 @@ class World(Author):
 
     def new_param(self, braces, kind="number", domain=None, is_apart=False):
         """Makes a name that no dummy in scope has."""
-        names = [it for it in PARAM_NAMES if it not in DUMMIES] if is_apart else PARAM_NAMES
+        names = [name for name in PARAM_NAMES if name not in DUMMIES] if is_apart else PARAM_NAMES
         return Param(self.new_name(names, every_dummy(braces)), braces, kind, domain)
 
     def scalar(self):
@@ -164,7 +170,7 @@ class World(Author):
 
     def symbol(self):
         """A parameter whose values are members of a set."""
-        texts = [it for it in self.sets if it.dimen == 1 and it.kinds[0] == "name" and it.rows]
+        texts = [decl for decl in self.sets if decl.dimen == 1 and decl.kinds[0] == "name" and decl.rows]
         if not texts:
             return None
         inside = self.rng.choice(texts)

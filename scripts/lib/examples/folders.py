@@ -20,10 +20,10 @@ def check_folder(folder, complaints):
     if lean:
         compare(f"{name}: lean", (status, lean, b""), run(["compile", *words, "--lean"]), complaints)
     # solve.txt has every correct answer, separated by empty lines.
-    answers = [b"".join((it.rstrip(b"\n"), b"\n")) for it in read(folder / "solve.txt").split(b"\n\n") if it]
+    answers = [b"".join((part.rstrip(b"\n"), b"\n")) for part in read(folder / "solve.txt").split(b"\n\n") if part]
     for options in ([], ["--lean"])[: 0 if not answers else 2 if lean else 1]:
         given = run(["solve", *words, *options])
-        wanted = next((it for it in answers if it == given[1]), answers[0])
+        wanted = next((answer for answer in answers if answer == given[1]), answers[0])
         compare(
             " ".join((f"{name}: solve", *options)),
             (int(read(folder / "solve_status") or b"0"), wanted, b""),
@@ -67,7 +67,7 @@ def check_line_faults(folder, complaints):
 
 def check_pipe(complaints):
     """Passes what `compile` writes to `min`, and the answer to `check`."""
-    for folder in sorted(it for it in (TOP / "examples").iterdir() if read(it / "compile.txt")):
+    for folder in sorted(folder for folder in (TOP / "examples").iterdir() if read(folder / "compile.txt")):
         status, text, _ = run(["compile", *words_of(folder)])
         with tempfile.NamedTemporaryFile(suffix=".min") as problem, tempfile.NamedTemporaryFile(
             suffix=".sol"

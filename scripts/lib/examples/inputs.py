@@ -54,7 +54,7 @@ def check_lengths(complaints):
     """Tokens and files of the greatest length, and one byte longer; that a string is open is reported before its length."""
     model, three = b"param p; minimize V: p;", b"minimize V: 3;"
     one_arc, written = ((TOP / "examples" / "one_arc" / name).read_bytes() for name in ("one_arc.mod", "compile.txt"))
-    node, arc, cost = (it * 255 for it in ("n", "_", "C"))
+    node, arc, cost = (letter * 255 for letter in ("n", "_", "C"))
     named = f"minimize {cost}; node {node}: net_in = 1; arc {arc} >= 0, <= 2, to {node}, obj {cost} 5;".encode()
     cases = [
         ("a long name", b"minimize %s: 3;" % (b"a" * 255), b"", problem_text(3, [], [], ["p min 1 0"])),

@@ -20,7 +20,7 @@ WITHOUT_EXAMPLE = ["E06", "E07", "E56", "E59", "E61", "E90", "E91"]
 
 def examples_of(page):
     """Returns the examples of the error reference: the model of a data file or "", the input, the error, and the input's kind."""
-    found = [[it.replace(LINE_FEED, "\n") for it in parts] for parts in EXAMPLE.findall(page)]
+    found = [[part.replace(LINE_FEED, "\n") for part in parts] for parts in EXAMPLE.findall(page)]
     return [(above, text, line, kind) if text else ("", above, line, kind) for above, text, line, kind in found]
 
 
@@ -64,9 +64,9 @@ def check_modelling_page(complaints):
         path = pathlib.Path(folder) / "model"
         for text, shown in blocks:
             path.write_text(text, encoding="utf-8")
-            answers = [it.strip() + "\n" for it in shown.split("\n\n")]
+            answers = [part.strip() + "\n" for part in shown.split("\n\n")]
             given = run(["solve", path, "/dev/null"])
-            wanted = next((it for it in answers if it.encode() == given[1]), answers[0])
+            wanted = next((answer for answer in answers if answer.encode() == given[1]), answers[0])
             compare(f"{MODELLING}: {text.splitlines()[0]}", (0, wanted.encode(), b""), given, complaints)
     if page.count("\n```\n") != 4 * len(blocks):
         complaints.append(f"{MODELLING}: a block has no answer")

@@ -25,7 +25,7 @@ def rows_of(path):
         sign = line[:1]
         if sign in ("", "#"):
             continue
-        answered = row and any(row.lines[it] for it in "=+~")
+        answered = row and any(row.lines[mark] for mark in "=+~")
         if row is None or answered and sign in ">|@!":
             if row:
                 yield row
@@ -64,7 +64,7 @@ def check_row(row, words, complaints):
     for sign, call in (("+", "compile"), ("~", "solve")):
         if row.lines[sign]:
             given, answers = run([call, *words]), row.text(sign).split("\n\n")
-            wanted = next((it for it in answers if whole(it) == given), answers[0])
+            wanted = next((answer for answer in answers if whole(answer) == given), answers[0])
             compare(f"{row.place}: {call}", whole(wanted), given, complaints)
 
 
@@ -75,7 +75,7 @@ def check_rows(complaints):
             for row in rows_of(path):
                 model.write_text(row.text(">"), encoding="utf-8")
                 data.write_text(row.text("|"), encoding="utf-8")
-                chosen = [it for name in row.lines["@"] for it in ("--objective", name)]
+                chosen = [word for name in row.lines["@"] for word in ("--objective", name)]
                 chosen += [f"--{option}" for option in row.lines["!"]]
                 check_row(row, [*chosen, model, data], complaints)
 
@@ -117,7 +117,7 @@ def check_pieces(row, problem, complaints):
     """Checks that the answer is the same if each byte in turn begins the second piece of 4,096 bytes, after a comment."""
     text = bytes_of(row.lines[">"])
     status, found, stderr = run(["min", problem])
-    stderr = re.sub(rb"(?<=problem )\d+", lambda it: b"%d" % (int(it[0]) + 1), stderr)
+    stderr = re.sub(rb"(?<=problem )\d+", lambda match: b"%d" % (int(match[0]) + 1), stderr)
     for place in range(len(text)):
         problem.write_bytes(b"c".ljust(4095 - place) + b"\n" + text)
         compare(

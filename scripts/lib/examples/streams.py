@@ -187,7 +187,7 @@ def whole_answers(*first_lines):
     """Yields the model and the data of the first rows of models.txt whose models begin with these lines, each as one text."""
     rows = list(rows_of(TOP / "examples" / "rows" / "models.txt"))
     for line in first_lines:
-        row = next(it for it in rows if it.lines["+"] and it.text(">").startswith(line))
+        row = next(candidate for candidate in rows if candidate.lines["+"] and candidate.text(">").startswith(line))
         yield row.text(">").encode(), row.text("|").encode()
 
 
@@ -196,9 +196,9 @@ def check_prefixes(complaints):
     problem = TOP / "examples" / "eight_cities"
     cases = [("check", (problem / "problem.min").read_bytes(), (problem / "glpk.sol").read_bytes())]
     one_arc = (TOP / "examples" / "negative_lower_bound" / "negative_lower_bound.mod").read_bytes()
-    cases += [("compile", *it) for it in whole_answers("set CITIES;", "set INTER;")] + [("solve", one_arc, b"")]
+    cases += [("compile", *case) for case in whole_answers("set CITIES;", "set INTER;")] + [("solve", one_arc, b"")]
     with tempfile.TemporaryDirectory() as folder:
-        paths = [pathlib.Path(folder) / it for it in ("first", "second")]
+        paths = [pathlib.Path(folder) / name for name in ("first", "second")]
         for call, *texts in cases:
             for which, whole in enumerate(texts):
                 for end in range(len(whole) + 1):
