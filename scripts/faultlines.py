@@ -12,7 +12,8 @@ TEXTS = {
 
 
 def is_inside(text, line, column):
-    """Whether a position is in a text, or at its end. Columns count bytes; without a column the end is one line past the last."""
+    """Whether a position is in a text, or at its end. Columns count bytes; without a column the end is one line past
+    the last."""
     lines = text.split(b"\n")
     if column is None:
         return 1 <= line <= len(lines) + (lines[-1] != b"")

@@ -3,7 +3,8 @@ import pathlib
 import re
 import shutil
 
-TOP = pathlib.Path(__file__).resolve().parent.parent
+from lib.command import TOP
+
 USE = re.compile(r"(?m)^\s*(?:pub )?use (\w+)::")
 TITLE = "Notices of the libraries that are linked into the program netflow\n"
 
@@ -26,12 +27,12 @@ def crates_of_program():
         name, colon, others = line.split("#")[0].partition(":")
         if colon:
             uses[name.strip()] = others.split()
-    found, line = set(), ["netflow"]
-    while line:
-        name = line.pop()
+    found, waiting = set(), ["netflow"]
+    while waiting:
+        name = waiting.pop()
         if name not in found:
             found.add(name)
-            line += uses.get(name, [])
+            waiting += uses.get(name, [])
     return {name for name in found if name not in uses} | {"std"}
 
 
@@ -57,7 +58,7 @@ def notices():
     folder = libraries_folder()
     if folder is None:
         return TITLE + "\nThe toolchain was not found when this archive was made, so its notices are missing.\n"
-    texts = {}
+    texts: dict[str, list[str]] = {}
     for name in linked(folder):
         for path in sorted((folder / name).glob("LICENSE*")):
             texts.setdefault(path.read_text(encoding="utf-8", errors="replace").strip(), []).append(

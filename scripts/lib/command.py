@@ -5,6 +5,8 @@ import sys
 
 sys.dont_write_bytecode = True
 TOP = pathlib.Path(__file__).resolve().parent.parent.parent
+# The program, where a build writes it.
+PROGRAM = TOP / "crates" / "netflow" / "out" / "netflow"
 
 
 def parser(documentation):

@@ -3,23 +3,7 @@ import json
 import os
 import re
 
-GENERATED = {
-    "Answers",
-    "Code",
-    "Given",
-    "Goals",
-    "Invariants",
-    "Key",
-    "Laws",
-    "Lts",
-    "Met",
-    "Mir",
-    "Proof",
-    "Reads",
-    "Statement",
-    "Tie",
-    "Types",
-}
+GENERATED = set("Answers Code Given Goals Invariants Key Laws Lts Met Mir Proof Reads Statement Tie Types".split())
 
 
 def modules(kept, began):
@@ -49,7 +33,7 @@ def goals(kept):
                 function = re.sub(r"^Rattle-\w+-proofs\.", "", file)[: -len(".Proof.decls.oantt")].replace(".", "::")
                 with open(f"{at}/{file}", "rb") as records:
                     for calls, name in RECORD.findall(records.read()):
-                        steps = {}
+                        steps: dict[str, int] = {}
                         for tactic, _, took in json.loads(calls):
                             steps[tactic] = steps.get(tactic, 0) + took
                         yield function, name.decode(), steps
@@ -57,14 +41,12 @@ def goals(kept):
 
 def show_goals(kept):
     found = sorted(goals(kept), key=lambda record: -record[2].get("search", 0))
+    total = sum(steps.get("search", 0) for _, _, steps in found)
     in_vain = sum(steps.get("search", 0) for _, _, steps in found if "grind" in steps)
-    print(
-        f"search {sum(steps.get('search', 0) for _, _, steps in found) / 1e6:.1f} million steps, {in_vain / 1e6:.1f} of them in vain"
-    )
+    print(f"search {total / 1e6:.1f} million steps, {in_vain / 1e6:.1f} of them in vain")
     for function, goal, steps in found[:60]:
-        print(
-            f"{steps.get('search', 0):9}  {'grind ' + str(steps['grind']) if 'grind' in steps else '':14}  {function} {goal}"
-        )
+        grind = f"grind {steps['grind']}" if "grind" in steps else ""
+        print(f"{steps.get('search', 0):9}  {grind:14}  {function} {goal}")
 
 
 def show_items(items, rows):

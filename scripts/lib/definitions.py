@@ -1,4 +1,5 @@
-"""The definitions that a theorem cites, directly or through others, and the table of docs/verification.md made of them."""
+"""The definitions that a theorem cites, directly or through others, and the table of docs/verification.md made of
+them."""
 import re
 
 from lib.command import TOP
@@ -33,7 +34,8 @@ class Spec:
 
     def take_blocks(self, text):
         """Splits the file into definitions, each with the comment above it and its equations; a `mutual` is one."""
-        chunk, remark = [], []
+        chunk: list[str] = []
+        remark: list[str] = []
         lines = [line for line in text.splitlines() if not line.startswith(("use ", "pub use "))]
         for line in [*lines, "\0"]:
             begins = (

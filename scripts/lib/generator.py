@@ -6,8 +6,8 @@ from lib import command
 
 
 def write_part(documentation, sizes, data, model, mathprog=None):
-    """Writes the part that the command line names: PART, the sizes, SEED. `data` takes the sizes and a random generator and returns
-    the data statements; `mathprog` has what comes before them in the file for glpsol."""
+    """Writes the part that the command line names: PART, the sizes, SEED. `data` takes the sizes and a random generator
+    and returns the data statements; `mathprog` has what comes before them in the file for glpsol."""
     parser = command.parser(documentation)
     parser.add_argument(
         "part", metavar="PART", choices=("model", "data", "mathprog") if mathprog else ("model", "data")

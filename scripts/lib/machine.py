@@ -1,5 +1,5 @@
-"""How fast the machine is now: the time of bench/floor.cc, a plain program, for the planner's network. Proofs are measured beside it,
-because machines differ by a factor of two, and one machine from hour to hour."""
+"""How fast the machine is now: the time of bench/floor.cc, a plain program, for the planner's network. Proofs are
+measured beside it, because machines differ by a factor of two, and one machine from hour to hour."""
 import pathlib
 import statistics
 import tempfile
@@ -11,7 +11,8 @@ PLANNER = ("10000", "98000", "1")
 
 
 class PlainProgram:
-    """bench/floor.cc, compiled in a temporary folder, with the planner's network. Without a C++ compiler nothing is measured."""
+    """bench/floor.cc, compiled in a temporary folder, with the planner's network. Without a C++ compiler nothing is
+    measured."""
 
     def __init__(self):
         self.folder, self.times, self.ended = tempfile.TemporaryDirectory(prefix="machine-"), [], threading.Event()

@@ -1,14 +1,14 @@
-"""What the measurements of bench/ share: the programs that they measure, their inputs, and calls with their time and memory."""
+"""What the measurements of bench/ share: the programs that they measure, their inputs, and calls with their time and
+memory."""
 import os
 import shutil
 import statistics
 import subprocess
 import sys
 
-from lib.command import TOP
+from lib.command import PROGRAM, TOP
 
 BENCH = TOP / "bench"
-PROGRAM = TOP / "crates/netflow/out/netflow"
 # The program of crates/net_bench, which measures tokens, parsing and solving by themselves.
 MEASURE = TOP / "crates/net_bench/out/net_bench"
 
@@ -39,8 +39,8 @@ def compiled(source, folder, *flags):
 
 
 def call(words, out=subprocess.DEVNULL, wanted=0, environment=None):
-    """Returns the seconds of processor time of a call and its greatest memory in MB. Another status than the wanted one ends the
-    measurement."""
+    """Returns the seconds of processor time of a call and its greatest memory in MB. Another status than the wanted one
+    ends the measurement."""
     words = list(map(str, words))
     child = subprocess.Popen(words, stdin=subprocess.DEVNULL, stdout=out, stderr=out, env=environment)
     _, status, usage = os.wait4(child.pid, 0)

@@ -78,7 +78,8 @@ def check_cut(text, model, form):
 
 
 def check_solve(call, model, best, form, words):
-    """Checks the answer of `solve`. `best` is the correct value, or None if there is no plan; `words` choose the form of the problem."""
+    """Checks the answer of `solve`. `best` is the correct value, or None if there is no plan; `words` choose the form
+    of the problem."""
     status, text, stderr = call(["solve", "model.mod", "model.dat", *model.words(), *words])
     wanted(status in (0, 2) and not stderr, f"solve: status {status}: {stderr.strip()}")
     said = "no plan" if best is None else best
@@ -91,7 +92,8 @@ def check_solve(call, model, best, form, words):
 
 
 def check_compile(call, model, best, form, words, keep):
-    """The text is the model's problem in this form, line by line; and what `min` finds of it leads to the same value."""
+    """The text is the model's problem in this form, line by line; and what `min` finds of it leads to the same
+    value."""
     status, text, stderr = call(["compile", "model.mod", "model.dat", *model.words(), *words])
     wanted(status == 0 and not stderr, f"compile: status {status}: {stderr.strip()}")
     keep("model.min", text)

@@ -23,6 +23,7 @@ from models.sets import (
     Range,
     SetBinary,
     SetChoice,
+    SetExpr,
     SetParens,
     SetRef,
     Tuple,
@@ -217,7 +218,7 @@ class Author:
 
     def plain(self, dimen):
         """A set that needs no declaration."""
-        made = Range(Member(1), Member(3))
+        made: SetExpr = Range(Member(1), Member(3))
         for _ in range(dimen - 1):
             made = SetBinary("cross", made, Range(Member(1), Member(2)))
         return made
@@ -232,7 +233,8 @@ class Author:
 
     def item(self, scope, members, fresh=False):
         """`pattern in members`; a component may be a dummy of before, which selects, unless all have to be fresh."""
-        pattern, new = [], []
+        pattern: list = []
+        new: list[Dummy] = []
         for kind, domain in zip(members.kinds, members.domains):
             selects = None
             if not fresh and self.chance(0.35 if members.dimen > 1 else 0.04):

@@ -189,7 +189,8 @@ class ArcDecl(Declared):
     """`end` has, for from and to, None or (node declaration, subscripts); `prices` are (objective, expression)."""
 
     def __init__(self, name, braces, ends, bounds):
-        self.name, self.braces, self.end, self.low, self.high = name, braces, ends, *bounds
+        self.name, self.braces, self.end = name, braces, ends
+        self.low, self.high = bounds
         self.steps = braces.walk({}) if braces else [((), {})]
         self.keys, self.prices, self.phrases = [key for key, _ in self.steps], [], ""
 

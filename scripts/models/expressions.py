@@ -14,6 +14,12 @@ class Expr:
 
     level = PRIMARY
 
+    def text(self):
+        raise NotImplementedError
+
+    def twin(self):
+        raise NotImplementedError
+
     def ends_open(self):
         """Returns whether a following product would become part of it."""
         return False
@@ -156,7 +162,8 @@ class Reduced(Expr):
         values = [self.inner.value(each) for _, each in self.braces.walk(env)]
         if any(isinstance(value, str) for value in values) or (self.word != "sum" and not values):
             raise Fault(self.word)
-        return {"sum": sum, "min": min, "max": max}[self.word](values)
+        operators: dict = {"sum": sum, "min": min, "max": max}
+        return operators[self.word](values)
 
     def text(self):
         return f"{self.word} {self.braces.text()} {self.inner.at(PRODUCT)}"
@@ -266,7 +273,7 @@ class ParamRef(Expr):
 
 def copied(expr):
     """The expression with dummies of its own, and these; what is declared stays the same."""
-    memo = {}
+    memo: dict = {}
     return copy.deepcopy(expr, memo), memo.get("dummies", [])
 
 

@@ -37,7 +37,9 @@ class Instance:
     """Nodes with their ranges, arcs, and an objective: its name, its sense and its constant."""
 
     def __init__(self, layout):
-        self.nodes, self.arcs, self.constant = [], [], 0
+        self.nodes: list[Node] = []
+        self.arcs: list[Arc] = []
+        self.constant = 0
         self.objective, self.sense = None, "minimize"
         self.decls = layout.nodes
         places = {}
@@ -47,10 +49,9 @@ class Instance:
                 self.nodes.append(Node(decl.name, key, decl.braces is not None))
         for decl in layout.arcs:
             for key, env in decl.steps:
-                ends = [self.end(end, env, places) for end in (decl.end["from"], decl.end["to"])]
-                self.arcs.append(
-                    Arc(decl.name, key, decl.braces is not None, *ends, decl.low.value(env), decl.high.value(env))
-                )
+                src, dst = (self.end(end, env, places) for end in (decl.end["from"], decl.end["to"]))
+                low, high = decl.low.value(env), decl.high.value(env)
+                self.arcs.append(Arc(decl.name, key, decl.braces is not None, src, dst, low, high))
 
     @staticmethod
     def end(end, env, places):
@@ -91,8 +92,9 @@ class Instance:
 
 
 class Normal:
-    """The normal form of docs/reference/command-line.md, or its lean form: supplies by node, the outside last, and arcs as (src, dst, low, cap,
-    cost); and for each arc of the model its offset and its number, which is 0 if it is left out."""
+    """The normal form of docs/reference/command-line.md, or its lean form: supplies by node, the outside last, and arcs
+    as (src, dst, low, cap, cost); and for each arc of the model its offset and its number, which is 0 if it is left
+    out."""
 
     def __init__(self, instance, lean=False):
         outside, sign = len(instance.nodes), 1 if instance.sense == "minimize" else -1

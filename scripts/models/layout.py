@@ -71,7 +71,8 @@ class Layout(World):
         self.nodes.append(node)
 
     def empty_key(self):
-        """Makes braces whose one key has no members, by an item that selects and binds nothing; None if there is no set."""
+        """Makes braces whose one key has no members, by an item that selects and binds nothing; None if there is no
+        set."""
         there = [decl for decl in self.sets if decl.rows]
         if not there:
             return None

@@ -1,5 +1,6 @@
 """A random model: its texts, and the network that it comes to."""
 import random
+from typing import Callable
 
 from models.declarations import Check, Param, SetDecl
 from models.instance import Instance, Normal
@@ -35,7 +36,7 @@ class Model:
             layout.scalar()
         for _ in range(rng.randint(1, 3)):
             layout.base_set()
-        counts = {
+        counts: dict[Callable, list[int]] = {
             layout.tuple_set: [0, 1, 1, 2],
             layout.derived_set: [0, 1, 2],
             layout.symbol: [0, 1],
@@ -54,7 +55,8 @@ class Model:
         while not layout.arcs or rng.random() < 0.65 and len(layout.arcs) < 5:
             layout.arc()
             if rng.random() < 0.15:
-                rng.choice([layout.table, layout.derived_set, layout.check, layout.node])()
+                steps = [layout.table, layout.derived_set, layout.check, layout.node]
+                rng.choice(steps)()
         if not layout.objectives or rng.random() < 0.3:
             layout.objective(True)
 

@@ -25,7 +25,8 @@ def chosen_plan(instance, ranges, rng):
 def way(instance, plan, ranges, sums, start, is_over):
     """A path on which one unit less comes into the node, or one more: (arc, step) pairs; None if there is none."""
     # A step moves a unit away from the node, or to it if it lacks one.
-    seen, line = {start: None}, collections.deque([start])
+    seen: dict = {start: None}
+    line = collections.deque([start])
     while line:
         place = line.popleft()
         low, high = ranges[place]
@@ -84,7 +85,8 @@ def relax(instance, plan, rng):
 
 
 def decide_free(instance, plan, rng, is_spoiled):
-    """Gives the free parameters the values at which the plan meets the nodes' conditions; spoiled ones something else."""
+    """Gives the free parameters the values at which the plan meets the nodes' conditions; spoiled ones something
+    else."""
     sums, place = instance.inflows(plan), 0
     for decl in instance.decls:
         for key, env in decl.steps:

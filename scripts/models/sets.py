@@ -7,8 +7,8 @@ MOST = 400
 
 
 class SetExpr(Expr):
-    """MathProg allows no braces after `in`, so a set has two more texts there: `wider` is a set without braces that contains it,
-    and `has` the condition that a tuple of texts is in it. `twin` is its text after `:=`."""
+    """MathProg allows no braces after `in`, so a set has two more texts there: `wider` is a set without braces that
+    contains it, and `has` the condition that a tuple of texts is in it. `twin` is its text after `:=`."""
 
     is_exact = True
 
@@ -303,7 +303,8 @@ class Item:
 
 
 class Braces:
-    """Items and a condition, which may be None. Items without new dummies give the empty key, for which MathProg has a 1."""
+    """Items and a condition, which may be None. Items without new dummies give the empty key, for which MathProg has a
+    1."""
 
     def __init__(self, items, condition=None):
         self.items, self.condition = items, condition

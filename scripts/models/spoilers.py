@@ -1,4 +1,5 @@
-"""Ways to spoil what the program says: each takes the words of a call and the status, output and errors that it gave."""
+"""Ways to spoil what the program says: each takes the words of a call and the status, output and errors that it
+gave."""
 import re
 
 

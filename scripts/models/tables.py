@@ -129,7 +129,8 @@ def twin_cell(member):
 
 
 def twin_text(declared):
-    """For MathProg: one list for each set and parameter, all of it quoted. It would take `(tr` for a table turned round."""
+    """For MathProg: one list for each set and parameter, all of it quoted. It would take `(tr` for a table turned
+    round."""
     out = []
     for decl in declared:
         if isinstance(decl, SetDecl) and decl.made is None:

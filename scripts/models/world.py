@@ -1,46 +1,15 @@
 """Random sets and parameters, with their data."""
+from typing import Any
+
 from models.author import DUMMIES, Author
 from models.declarations import Check, Param, SetDecl
-from models.expressions import Fault, Member, ParamRef, Relation, every_dummy
-from models.sets import Braces, Literal, Range, SetBinary, SetRef, whole
+from models.expressions import Expr, Fault, Member, ParamRef, Relation, every_dummy
+from models.sets import Braces, Item, Literal, Range, SetBinary, SetRef, whole
 
 SET_NAMES = "CITIES PLANTS SHOPS DAYS GOODS LINKS ROADS MILLS ZONES CREWS WEEKS A B S i P day".split()
 PARAM_NAMES = "cost room need most rate last days_of start home supply demand weight first p q k cap2 base".split()
-TEXTS = [
-    "PITT",
-    "NE",
-    "SE",
-    "BOS",
-    "EWR",
-    "a",
-    "b",
-    "c",
-    "x1",
-    "2nd",
-    "Zürich",
-    "New York",
-    "O'Hare",
-    'say "so"',
-    "set",
-    "end",
-    "default",
-    "a.b",
-    "--x",
-    "a/b",
-    "(x)",
-    "#1",
-    "7up",
-    "1..5",
-    ".5x",
-    "-",
-    "+",
-    "data",
-    "x:y",
-    "tr",
-    "param",
-    "12",
-    "-3",
-]
+TEXTS = "PITT NE SE BOS EWR a b c x1 2nd Zürich".split() + ["New York", "O'Hare", 'say "so"']
+TEXTS += "set end default a.b --x a/b (x) #1 7up 1..5 .5x - + data x:y tr param 12 -3".split()
 
 
 class World(Author):
@@ -87,7 +56,7 @@ class World(Author):
         return self.add_set(made, rows, (word,), (None,))
 
     def range_set(self, count):
-        last = Member(count)
+        last: Expr = Member(count)
         scalars = [
             param
             for param in self.params
@@ -102,7 +71,7 @@ class World(Author):
         """Some tuples of a product; given by the data, or made by braces."""
         base = [decl for decl in self.sets if decl.dimen == 1 and decl.rows]
         parts = [SetRef(self.rng.choice(base)) for _ in range(self.rng.choice([2, 2, 2, 3]))]
-        product = parts[0]
+        product: Any = parts[0]
         for part in parts[1:]:
             product = SetBinary("cross", product, part)
         try:
@@ -128,7 +97,7 @@ class World(Author):
 
     def plain_index(self, dimens, named):
         """Whole sets, with dummies or alone."""
-        items = []
+        items: list[Item] = []
         there = {decl.dimen for decl in self.sets}
         for dimen in dimens or self.rng.choice([[1], [1], [1, 1], [2], [1, 2], [3]]):
             if dimen not in there and self.chance(0.8):
@@ -139,7 +108,8 @@ class World(Author):
         return Braces(items)
 
     def index(self, dimens=None, named=False):
-        """Braces of a declaration: sets alone, or dummies, with a condition at times; with at most 60 keys and four members."""
+        """Braces of a declaration: sets alone, or dummies, with a condition at times; with at most 60 keys and four
+        members."""
         for _ in range(20):
             if self.chance(0.45):
                 braces = self.plain_index(dimens, named or self.chance(0.6))

@@ -21,7 +21,8 @@ def check_folder(folder, complaints):
         compare(f"{name}: lean", (status, lean, b""), run(["compile", *words, "--lean"]), complaints)
     # solve.txt has every correct answer, separated by empty lines.
     answers = [b"".join((part.rstrip(b"\n"), b"\n")) for part in read(folder / "solve.txt").split(b"\n\n") if part]
-    for options in ([], ["--lean"])[: 0 if not answers else 2 if lean else 1]:
+    choices: list[list[str]] = [[], ["--lean"]]
+    for options in choices[: 0 if not answers else 2 if lean else 1]:
         given = run(["solve", *words, *options])
         wanted = next((answer for answer in answers if answer == given[1]), answers[0])
         compare(
@@ -88,7 +89,8 @@ def check_pipe(complaints):
 
 
 def check_lean_alike(complaints):
-    """Checks that the lean form is the normal form, byte for byte, if all lower bounds are 0 and no arc has equal bounds."""
+    """Checks that the lean form is the normal form, byte for byte, if all lower bounds are 0 and no arc has equal
+    bounds."""
     for name in ("cities", "transport", "max_flow"):
         folder = TOP / "examples" / name
         wanted = read(folder / "compile.txt") or run(["compile", *words_of(folder)])[1]

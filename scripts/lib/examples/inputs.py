@@ -8,8 +8,8 @@ from lib.examples.rows import row_answer
 
 
 def check_texts(cases, complaints, seconds=None):
-    """Compares the answers of `compile` to models with data, given as bytes, within a time: in the form of a row's answer; or the
-    whole output, if that is given as bytes."""
+    """Compares the answers of `compile` to models with data, given as bytes, within a time: in the form of a row's
+    answer; or the whole output, if that is given as bytes."""
     with tempfile.TemporaryDirectory() as folder:
         model, data = pathlib.Path(folder) / "text.mod", pathlib.Path(folder) / "text.dat"
         for name, model_text, data_text, wanted in cases:
@@ -22,7 +22,8 @@ def check_texts(cases, complaints, seconds=None):
 
 
 def problem_text(constant, nodes, arcs, lines):
-    """Returns what `compile` writes of an objective to minimize, with these names of nodes and of arcs from 1 up, without offsets."""
+    """Returns what `compile` writes of an objective to minimize, with these names of nodes and of arcs from 1 up,
+    without offsets."""
     text = [f"c constant {constant}", "c sign 1", *(f"c node {number} {name}" for number, name in enumerate(nodes, 1))]
     text += [f"c arc {number} 0 {name}" for number, name in enumerate(arcs, 1)]
     return "".join(f"{line}\n" for line in [*text, *lines]).encode()
@@ -51,7 +52,8 @@ def check_odd_bytes(complaints):
 
 
 def check_lengths(complaints):
-    """Tokens and files of the greatest length, and one byte longer; that a string is open is reported before its length."""
+    """Tokens and files of the greatest length, and one byte longer; that a string is open is reported before its
+    length."""
     model, three = b"param p; minimize V: p;", b"minimize V: 3;"
     one_arc, written = ((TOP / "examples" / "one_arc" / name).read_bytes() for name in ("one_arc.mod", "compile.txt"))
     node, arc, cost = (letter * 255 for letter in ("n", "_", "C"))
@@ -205,8 +207,8 @@ def check_slow(complaints):
 
 
 def check_items(complaints):
-    """Braces of 100,000 items, more than a call stack could hold: sets, which give keys with too many members, and items without new
-    dummies, which leave the key empty."""
+    """Braces of 100,000 items, more than a call stack could hold: sets, which give keys with too many members, and
+    items without new dummies, which leave the key empty."""
     many, head = 100_000, b"set A; minimize V: 3; node N; "
     sets, places, members = b",".join([b"A"] * many), b",".join([b"1 in A"] * many), b",".join([b"1"] * many)
     cases = [
@@ -259,8 +261,8 @@ def check_more_limits(complaints):
     check_texts([(name, model, b"", wanted) for name, model, wanted in cases], complaints)
     with tempfile.TemporaryDirectory() as folder:
         path = pathlib.Path(folder) / "limits.min"
-        for nodes, wanted in ((20_000, (0, b"s 0\n")), (20_001, (3, b"E77 TooLarge problem 1\n"))):
-            path.write_text(f"p min {nodes} 0\n")
+        for count, answer in ((20_000, (0, b"s 0\n")), (20_001, (3, b"E77 TooLarge problem 1\n"))):
+            path.write_text(f"p min {count} 0\n")
             status, text, stderr = run(["min", path])
-            if (status, (stderr or text)[: len(wanted[1])]) != wanted:
-                complaints.append(f"{nodes} nodes of a problem: status {status}, {stderr!r}")
+            if (status, (stderr or text)[: len(answer[1])]) != answer:
+                complaints.append(f"{count} nodes of a problem: status {status}, {stderr!r}")

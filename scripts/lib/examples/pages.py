@@ -19,14 +19,15 @@ WITHOUT_EXAMPLE = ["E06", "E07", "E56", "E59", "E61", "E90", "E91"]
 
 
 def examples_of(page):
-    """Returns the examples of the error reference: the model of a data file or "", the input, the error, and the input's kind."""
+    """Returns the examples of the error reference: the model of a data file or "", the input, the error, and the
+    input's kind."""
     found = [[part.replace(LINE_FEED, "\n") for part in parts] for parts in EXAMPLE.findall(page)]
     return [(above, text, line, kind) if text else ("", above, line, kind) for above, text, line, kind in found]
 
 
 def check_errors_page(complaints):
-    """Checks that each example of the error reference gives its error. An example is a model, data (with its model, or with another
-    one), a problem, or a certificate."""
+    """Checks that each example of the error reference gives its error. An example is a model, data (with its model, or
+    with another one), a problem, or a certificate."""
     model = TOP / "examples" / "one_arc" / "one_arc.mod"
     problem = TOP / "examples" / "foreign_problem" / "problem.min"
     page = (TOP / ERRORS).read_text(encoding="utf-8")
@@ -57,7 +58,8 @@ def check_errors_page(complaints):
 
 
 def check_modelling_page(complaints):
-    """Checks that each model of the modelling guide has the answer below it, or one of several, separated by empty lines."""
+    """Checks that each model of the modelling guide has the answer below it, or one of several, separated by empty
+    lines."""
     page = (TOP / MODELLING).read_text(encoding="utf-8")
     blocks = re.findall(rf"{TEXT}```\n((?:(?!```).*\n)*)```", page)
     with tempfile.TemporaryDirectory() as folder:

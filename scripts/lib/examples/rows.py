@@ -18,9 +18,9 @@ class Row:
 
 
 def rows_of(path):
-    """Yields the rows of a file. A row begins with lines of a model, or after an answer, for the same model, with lines of data, an
-    objective or an option."""
-    row = None
+    """Yields the rows of a file. A row begins with lines of a model, or after an answer, for the same model, with lines
+    of data, an objective or an option."""
+    row: Row = None
     for number, line in enumerate(path.read_text(encoding="utf-8").splitlines(), 1):
         sign = line[:1]
         if sign in ("", "#"):
@@ -35,7 +35,8 @@ def rows_of(path):
 
 
 def whole(answer):
-    """Returns what the program does to give an answer, an error line or the text of an output: status, standard output and error."""
+    """Returns what the program does to give an answer, an error line or the text of an output: status, standard output
+    and error."""
     line = f"{answer}\n".encode()
     if re.match(r"E\d\d ", answer):
         return 4 if answer.startswith("E9") else 3, b"", line
@@ -43,7 +44,8 @@ def whole(answer):
 
 
 def row_answer(wanted, status, text, stderr):
-    """Returns the answer of `compile` in the form of a row's answer; all of what the program did, if that is no answer."""
+    """Returns the answer of `compile` in the form of a row's answer; all of what the program did, if that is no
+    answer."""
     line = stderr.decode(errors="replace").rstrip("\n")
     if (status, text, stderr) == whole(line) and line.startswith("E"):
         return line
@@ -81,7 +83,8 @@ def check_rows(complaints):
 
 
 def bytes_of(lines):
-    """Returns the bytes of lines with line ends. `\\r`, `\\t`, `\\0` and `\\x20` are these bytes; a `\\` at the end of a line removes its line end."""
+    """Returns the bytes of lines with line ends. `\\r`, `\\t`, `\\0` and `\\x20` are these bytes; a `\\` at the end of
+    a line removes its line end."""
     return "".join(f"{line}\n" for line in lines).encode().decode("unicode_escape").encode("latin-1")
 
 
@@ -96,7 +99,8 @@ def answer_of(words, place, complaints):
 
 
 def check_problem_row(row, problem, certificate, complaints):
-    """Compares the answer of `check` to a row's certificate, and that of `min` to its problem without potentials, or its first line."""
+    """Compares the answer of `check` to a row's certificate, and that of `min` to its problem without potentials, or
+    its first line."""
     if row.lines["="]:
         certificate.write_bytes(bytes_of(row.lines["|"]))
         found = answer_of(["check", problem, certificate], row.place, complaints)
@@ -114,7 +118,8 @@ def check_problem_row(row, problem, certificate, complaints):
 
 
 def check_pieces(row, problem, complaints):
-    """Checks that the answer is the same if each byte in turn begins the second piece of 4,096 bytes, after a comment."""
+    """Checks that the answer is the same if each byte in turn begins the second piece of 4,096 bytes, after a
+    comment."""
     text = bytes_of(row.lines[">"])
     status, found, stderr = run(["min", problem])
     stderr = re.sub(rb"(?<=problem )\d+", lambda match: b"%d" % (int(match[0]) + 1), stderr)
