@@ -15,9 +15,10 @@ def copy_with_tests(folder, name):
     shutil.copy2(TOP / "crates.txt", folder)
     shutil.copytree(TOP / "crates", folder / "crates", ignore=shutil.ignore_patterns("out", "proofs", "must-fail"))
     crate = folder / "crates" / name
-    files = sorted((crate / "tests").glob("*.rt"))
+    # The toolchain rejects files of the suffix .rt outside src.
+    files = sorted((crate / "tests").glob("*.rattle"))
     for file in files:
-        shutil.copy2(file, crate / "src")
+        shutil.copy2(file, (crate / "src" / file.stem).with_suffix(".rt"))
     root = crate / "src" / "main.rt"
     modules = "".join(f"#[cfg(test)]\nmod {file.stem};\n" for file in files)
     root.write_text(root.read_text(encoding="utf-8").replace("\nmod ", f"\n{modules}mod ", 1), encoding="utf-8")
