@@ -5,17 +5,23 @@ import decimal
 import math
 import re
 from fractions import Fraction
-from typing import Any, Iterable, Union
+from typing import Any, Iterable, Mapping, Union
 
 Number = Union[int, Fraction]
 NUMERAL = re.compile(r"[+-]?(?:[0-9]+(?:\.[0-9]+)?|\.[0-9]+)(?:[eEdD][+-]?[0-9]+)?")
 # The largest absolute value that a model or its data can have, and the most digits of a power that are worked out.
 LARGEST = 10**12
 MOST_DIGITS = 60
+# The format specification of a number, as the documentation of Python has it.
+SPEC = re.compile(
+    r"(?:(?P<fill>.)?(?P<align>[<>=^]))?(?P<sign>[-+ ]?)z?#?(?P<zero>0?)(?P<width>\d*)(?P<group>[,_]?)"
+    r"(?:\.(?P<precision>\d+))?(?P<type>[a-zA-Z%]?)",
+    re.S,
+)
 
 
 class Exact(Fraction):
-    """A fraction that prints as a decimal: `12.75`, or `1/3` without a finite decimal."""
+    """A fraction that prints and formats as a decimal: `12.75`, or `1/3` without a finite decimal."""
 
     def __str__(self) -> str:
         return decimal_text(self)
@@ -24,13 +30,54 @@ class Exact(Fraction):
         return f"Exact('{self}')"
 
     def __format__(self, spec: str) -> str:
-        return format(decimal_text(self), spec)
+        """Formats the number as a Decimal is formatted; a whole one takes the types of an int too."""
+        parts = SPEC.fullmatch(spec)
+        if parts is not None and self.denominator == 1 and (parts["type"] or "f") in "bcdoxX":
+            return format(self.numerator, spec)
+        if parts is not None and parts["precision"] is None and "/" in str(self):
+            if not parts["type"]:
+                return _fraction_text(self, parts.groupdict())
+            spec = f"{spec[:-1]}.6{spec[-1]}"  # the digits of a float
+        is_underlined = parts is not None and parts["group"] == "_"
+        text = format(_as_decimal(self, spec), spec.replace("_", ",") if is_underlined else spec)
+        return text.replace(",", "_") if is_underlined else text
+
+    def __round__(self, ndigits: int | None = None) -> Any:
+        """Returns an int without a number of digits, else an Exact."""
+        result = super().__round__(ndigits)  # type: ignore[misc]
+        return result if ndigits is None else Exact(result)
+
+    def __pos__(self) -> "Exact":
+        return self
 
     def __neg__(self) -> "Exact":
         return Exact(-Fraction(self))
 
     def __abs__(self) -> "Exact":
         return Exact(abs(Fraction(self)))
+
+
+def _as_decimal(number: Fraction, spec: str) -> decimal.Decimal:
+    """Returns a fraction as a Decimal: exactly if it has a finite decimal, else with so many digits that a rounding to
+    those of the format is that of the fraction."""
+    text = decimal_text(number)
+    if "/" not in text:
+        return decimal.Decimal(text)
+    precision = SPEC.fullmatch(spec)
+    digits = MOST_DIGITS + len(str(abs(number.numerator))) + int((precision and precision["precision"]) or 0)
+    context = decimal.Context(prec=digits, rounding=decimal.ROUND_05UP)
+    return context.divide(decimal.Decimal(number.numerator), decimal.Decimal(number.denominator))
+
+
+def _fraction_text(number: Fraction, parts: Mapping[str, str]) -> str:
+    """Returns a number without a finite decimal as `a/b`, with the sign, groups and width of a format."""
+    sign, group = parts["sign"] or "", parts["group"] or ""
+    text = f"{format(number.numerator, sign + group)}/{format(number.denominator, group)}"
+    fill, align = parts["fill"] or ("0" if parts["zero"] else " "), parts["align"] or (">=")[bool(parts["zero"])]
+    if align == "=":
+        has_sign = text[0] in "+- "
+        return text[:has_sign] + text[has_sign:].rjust(int(parts["width"] or 0) - has_sign, fill)
+    return format(text, f"{fill}{align}{parts['width'] or 0}")
 
 
 def _exact_method(name: str) -> Any:
@@ -44,8 +91,8 @@ def _exact_method(name: str) -> Any:
     return method
 
 
-for _name in ("__add__", "__radd__", "__sub__", "__rsub__", "__mul__", "__rmul__", "__truediv__", "__rtruediv__"):
-    setattr(Exact, _name, _exact_method(_name))
+for _name in ("add", "radd", "sub", "rsub", "mul", "rmul", "truediv", "rtruediv", "mod", "rmod", "pow"):
+    setattr(Exact, f"__{_name}__", _exact_method(f"__{_name}__"))
 
 
 def decimal_text(number: Fraction) -> str:
