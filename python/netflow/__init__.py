@@ -8,19 +8,30 @@ from __future__ import annotations
 
 __version__ = "0.10.0"
 
+from .analysis.reasons import Reason
 from .errors import DataError, Infeasible, ModelError, NetflowError, ProgramError, ScaleError, Unbounded, Unreadable
 from .exact import Exact
 from .graphs import SimpleMinCostFlow, min_cost_flow, min_cost_flow_cost, network_simplex
-from .solution import Flows, Solution, solve
+from .keyed import Flows
+from .model import Model, solve
+from .prices import NodePrices, Prices
+from .reading.network import Arc, Node
+from .solution import Solution
 
 __all__ = [
+    "Arc",
     "DataError",
     "Exact",
     "Flows",
     "Infeasible",
+    "Model",
     "ModelError",
     "NetflowError",
+    "Node",
+    "NodePrices",
+    "Prices",
     "ProgramError",
+    "Reason",
     "ScaleError",
     "SimpleMinCostFlow",
     "Solution",

@@ -12,6 +12,8 @@ NUMERAL = re.compile(r"[+-]?(?:[0-9]+(?:\.[0-9]+)?|\.[0-9]+)(?:[eEdD][+-]?[0-9]+
 # The largest absolute value that a model or its data can have, and the most digits of a power that are worked out.
 LARGEST = 10**12
 MOST_DIGITS = 60
+# The most digits of a computed float.
+DIGITS = 12
 # The format specification of a number, as the documentation of Python has it.
 SPEC = re.compile(
     r"(?:(?P<fill>.)?(?P<align>[<>=^]))?(?P<sign>[-+ ]?)z?#?(?P<zero>0?)(?P<width>\d*)(?P<group>[,_]?)"
@@ -44,7 +46,7 @@ class Exact(Fraction):
 
     def __round__(self, ndigits: int | None = None) -> Any:
         """Returns an int without a number of digits, else an Exact."""
-        result = super().__round__(ndigits)  # type: ignore[misc]
+        result = super().__round__(ndigits)
         return result if ndigits is None else Exact(result)
 
     def __pos__(self) -> "Exact":
@@ -141,10 +143,37 @@ def as_fraction(value: Any) -> Fraction | None:
     if isinstance(value, decimal.Decimal):
         return Fraction(value) if value.is_finite() else None
     if hasattr(value, "item") and not isinstance(value, (str, bytes)):
-        return as_fraction(value.item()) if getattr(value, "size", 1) == 1 else None  # a number of NumPy
+        if getattr(value, "size", 1) != 1:
+            return None
+        # A number of NumPy; a short float has its own shortest decimal.
+        is_short = getattr(value, "itemsize", 8) < 8 and isinstance(value.item(), float) and math.isfinite(value)
+        return Fraction(str(value)) if is_short else as_fraction(value.item())
     if isinstance(value, float):
         return Fraction(repr(value)) if math.isfinite(value) else None
     return None
+
+
+def has_many_digits(value: Any, number: Fraction) -> bool:
+    """Whether a Python number is a float that no model can have: with more than 12 digits, as `0.1 + 0.2` and `1/3`."""
+    is_float = isinstance(value, float) or hasattr(value, "item") and isinstance(value.item(), float)
+    return is_float and number.denominator > 1 and len(str(abs(number) * 10 ** decimals(number))) > DIGITS
+
+
+def decimals(number: Fraction) -> int:
+    """Returns how many digits a decimal has after its point."""
+    return len(decimal_text(number).partition(".")[2])
+
+
+def rounded_together(computed: Iterable[Fraction], numbers: Iterable[Fraction]) -> list[Fraction]:
+    """Returns computed values rounded to the last of the 12 digits that the largest of the numbers has, so that all of
+    them can be scaled by one factor."""
+    largest = max((abs(number) for number in numbers), default=Fraction(1))
+    places = DIGITS
+    while largest >= Fraction(10) ** (DIGITS - places):
+        places -= 1
+    while 0 < largest < Fraction(10) ** (DIGITS - places - 1):
+        places += 1
+    return [round(value, places) for value in computed]
 
 
 def common_factor(values: Iterable[Fraction]) -> int:
