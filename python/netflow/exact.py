@@ -114,6 +114,12 @@ def decimal_text(number: Fraction) -> str:
     return f"{'-' if top < 0 else ''}{text[:-digits]}.{text[-digits:]}"
 
 
+def power_text(number: int) -> str:
+    """Returns a large power of ten as one, such as 10^12."""
+    digits = str(number)
+    return f"10^{len(digits) - 1}" if len(digits) > 7 and digits.rstrip("0") == "1" else digits
+
+
 def divided(number: Number, factor: int) -> Number:
     """Returns the number divided by the factor: an int if the factor is 1, else an Exact."""
     return number if factor == 1 else Exact(number, factor)

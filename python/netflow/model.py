@@ -3,7 +3,6 @@ from __future__ import annotations
 
 import copy
 import os
-import warnings
 from typing import IO, Iterator, Mapping, MutableMapping, Sequence, Union, cast
 
 from .analysis.reasons import reasons
@@ -19,6 +18,7 @@ from .reading.model import Shapes, Unparsed, parse
 from .reading.network import Network
 from .solution import Solution
 from .types import Data, Path
+from .warning import warn
 
 Text = Union[Path, IO[str], IO[bytes]]
 Source = Union[Text, Mapping[str, Data]]
@@ -94,10 +94,6 @@ class Model(MutableMapping[str, Data]):
 
     def solve(self, **sets_and_params: Data) -> Solution:
         """Solves the model and returns its best plan; the arguments are values for this call only."""
-        return self._solve(sets_and_params, 3)
-
-    def _solve(self, sets_and_params: Mapping[str, Data], level: int) -> Solution:
-        """Solves the model; warnings name the caller at this level."""
         require_options(self.objective, self.scale, self.bounds)
         values = dict(self._values)
         override(values, sets_and_params)
@@ -111,7 +107,7 @@ class Model(MutableMapping[str, Data]):
         )
         net = answer_of(instance)
         for line in [*instance.remark_lines(), *grouped_lines_of(instance)]:
-            warnings.warn(line, stacklevel=level)
+            warn(line)
         if net.cut is not None:
             raise infeasible(net)
         text = instance.model.text()
@@ -159,7 +155,7 @@ def solve(
     Raises ModelError if the model or its data have an error, Infeasible if no plan exists, DataError if Python data do
     not fit. Warns of decimals in a model or data file that may be whole numbers with grouped digits, such as 1.200.
     """
-    return Model(model, data, objective=objective, scale=scale, bounds=bounds, **sets_and_params)._solve({}, 3)
+    return Model(model, data, objective=objective, scale=scale, bounds=bounds, **sets_and_params).solve()
 
 
 def answer_of(instance: Instance) -> Network:

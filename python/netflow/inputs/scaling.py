@@ -12,7 +12,7 @@ import math
 from fractions import Fraction
 
 from ..errors import ScaleError
-from ..exact import LARGEST, common_factor, decimal_text, parse_numeral
+from ..exact import LARGEST, common_factor, decimal_text, parse_numeral, power_text
 from ..reading.model import Decl, Expr, Phrase
 from ..types import Edit
 
@@ -304,9 +304,3 @@ def scaled_value(name: str, value: Fraction, factor: int) -> int:
         more = ": use a larger unit" if factor == 1 else ""
         raise ScaleError(f"{said} is past {power_text(LARGEST)}{more}", name, factor)
     return int(found)
-
-
-def power_text(number: int) -> str:
-    """Returns a large power of ten as one, such as 10^12."""
-    digits = str(number)
-    return f"10^{len(digits) - 1}" if len(digits) > 7 and digits.rstrip("0") == "1" else digits
