@@ -43,12 +43,16 @@ class Model(MutableMapping[str, Data]):
         **sets_and_params: Data,
     ) -> None:
         self._model = input_of(model)
-        self._texts, self._values = inputs_of(data)
-        require_options(objective, scale, bounds)
-        self.objective, self.scale, self.bounds = objective, dict(scale or {}), bounds
         options = {"data": data, "objective": objective, "scale": scale, "bounds": bounds or None}
         given = {name: value for name, value in options.items() if value is not None}
+        try:
+            self._texts, self._values = inputs_of(data)
+        except TypeError:
+            require_no_parameter(self._model, given, [], {})
+            raise
         require_no_parameter(self._model, given, self._texts, self._values)
+        require_options(objective, scale, bounds)
+        self.objective, self.scale, self.bounds = objective, dict(scale or {}), bounds
         override(self._values, sets_and_params)
 
     def __getitem__(self, name: str) -> Data:
