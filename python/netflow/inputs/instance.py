@@ -57,15 +57,15 @@ class Instance:
         self.session = Session([])
         self.is_ready = self.is_rewritten = False
         self.rewriting: Rewriting | None = None
-        self.words: list[str] = []  # the words of a command that asks the same
 
     def __enter__(self) -> "Instance":
         return self
 
     def __exit__(self, _: Any, problem: Any, __: Any) -> None:
-        self.session.__exit__()
         if isinstance(problem, ProgramError):
-            problem.words = self.words
+            problem.instance = self  # which keeps its files, for the hints
+        else:
+            self.session.__exit__()
 
     def prepare(self) -> None:
         """Chooses the files that the program reads: those that were given, or rewritten ones."""
