@@ -12,7 +12,6 @@ from cases import bread_mistakes, mistakes, planner_mistakes, port_mistakes
 from lib.examples import rows
 from netflow.hints import diagnostic as diagnostics
 from netflow.hints import explanation
-from netflow.tools import explain
 from support import BREAD, TOOL_NAMES, TOOLS, TOP, run, write
 
 
