@@ -5,7 +5,7 @@ ghost use Rattle.net_data.specs.declared.statement.Statement.TheVariants as Stat
 ghost use Rattle.net_bind.specs.DataByName as named_data;
 ghost use Rattle.net_base.specs.Outcomes.{Refines, Updates};
 
-use crate::declared_names::Names;
+use crate::declared_names::DeclaredNames;
 use crate::given::{DataFor, Given, Grid, Groups, Line, NamedData};
 use net_base::{Fault, Items};
 use net_data::{
@@ -17,7 +17,7 @@ use std::alloc::{AllocError, Global};
 
 /// Adds a statement's data for the set or parameter that a token names.
 fn add<'m, 't, 's>(
-    names: &Names<'s>,
+    names: &DeclaredNames<'s>,
     is_set: bool,
     word: &Word<'t, 's>,
     default: Option<Word<'t, 's>>,
@@ -41,7 +41,7 @@ fn add<'m, 't, 's>(
 
 /// Adds the members of a set, as in `set S := a b;`.
 fn in_set<'t, 's>(
-    names: &Names<'s>,
+    names: &DeclaredNames<'s>,
     set: &SetStatement<'t, 's>,
     all: &mut Vec<DataFor<'_, 't, 's>>,
 ) -> Result<(), Fault>
@@ -62,7 +62,7 @@ fn default_word<'t, 's>(default: &Option<DefaultValue<'t, 's>>) -> Option<Word<'
 
 /// Adds the values of a parameter, as in `param p default 0 := a 1;`.
 fn in_list<'m, 't, 's>(
-    names: &Names<'s>,
+    names: &DeclaredNames<'s>,
     list: &ListStatement<'t, 's>,
     cells: &'m [Word<'t, 's>],
     all: &mut Vec<DataFor<'m, 't, 's>>,
@@ -89,7 +89,7 @@ fn in_list<'m, 't, 's>(
 
 /// Adds a table of a parameter, as in `param p : a b := c 1 2;`.
 fn in_table<'m, 't, 's>(
-    names: &Names<'s>,
+    names: &DeclaredNames<'s>,
     table: &'m TableStatement<'t, 's>,
     all: &mut Vec<DataFor<'m, 't, 's>>,
 ) -> Result<(), Fault>
@@ -104,7 +104,10 @@ fn in_table<'m, 't, 's>(
     add(names, false, &table.name, default, Given::Grid(grid), all)
 }
 
-fn set_first<'s>(names: &Names<'s>, set: &Option<NamedSet<'_, 's>>) -> Result<Option<usize>, Fault>
+fn set_first<'s>(
+    names: &DeclaredNames<'s>,
+    set: &Option<NamedSet<'_, 's>>,
+) -> Result<Option<usize>, Fault>
     ensures { Refines (named_data.set_first names.now set.now) result }
 {
     match set {
@@ -127,7 +130,7 @@ fn lesser(first: Option<usize>, place: usize) -> usize
 
 /// Looks up all names in a heading; returns the index of the one declared first.
 fn first_of<'s>(
-    names: &Names<'s>,
+    names: &DeclaredNames<'s>,
     words: &[Word<'_, 's>],
     before: Option<usize>,
 ) -> Result<Option<usize>, Fault>
@@ -159,7 +162,7 @@ fn groups_of<'m, 't, 's>(
 
 /// Adds the parameters of a heading.
 fn in_heading<'m, 't, 's>(
-    names: &Names<'s>,
+    names: &DeclaredNames<'s>,
     leader: usize,
     columns: &'m ColumnsStatement<'t, 's>,
     all: &mut Vec<DataFor<'m, 't, 's>>,
@@ -176,7 +179,7 @@ fn in_heading<'m, 't, 's>(
 
 /// Adds the set of a heading.
 fn set_headed<'m, 't, 's>(
-    names: &Names<'s>,
+    names: &DeclaredNames<'s>,
     leader: usize,
     columns: &'m ColumnsStatement<'t, 's>,
     all: &mut Vec<DataFor<'m, 't, 's>>,
@@ -195,7 +198,7 @@ fn set_headed<'m, 't, 's>(
 
 /// Adds the columns of several parameters, as in `param : S : p q := a 1 2;`.
 fn in_columns<'m, 't, 's>(
-    names: &Names<'s>,
+    names: &DeclaredNames<'s>,
     columns: &'m ColumnsStatement<'t, 's>,
     all: &mut Vec<DataFor<'m, 't, 's>>,
 ) -> Result<(), Fault>
@@ -208,7 +211,7 @@ fn in_columns<'m, 't, 's>(
 }
 
 fn in_statement<'m, 't, 's>(
-    names: &Names<'s>,
+    names: &DeclaredNames<'s>,
     statement: &'m Statement<'t, 's>,
     all: &mut Vec<DataFor<'m, 't, 's>>,
 ) -> Result<(), Fault>
@@ -228,7 +231,7 @@ fn in_statement<'m, 't, 's>(
 /// Creates empty data for each name. Fails only if memory runs out.
 fn no_data<'m, 't, 's>(
     alloc: Global,
-    names: &Names<'s>,
+    names: &DeclaredNames<'s>,
 ) -> Result<Vec<DataFor<'m, 't, 's>>, AllocError>
     ensures { IfOk result (λ all. all.items ≡ named_data.no_data names.now) }
 {
@@ -246,7 +249,7 @@ fn no_data<'m, 't, 's>(
 /// parameter as the statement requires.
 pub(crate) fn data_by_name<'m, 't, 's>(
     alloc: Global,
-    names: &Names<'s>,
+    names: &DeclaredNames<'s>,
     statements: &'m [Statement<'t, 's>],
 ) -> Result<Items<DataFor<'m, 't, 's>>, Fault>
     ensures { Refines (named_data.data_by_name names.now statements.entry.now) result }
