@@ -43,7 +43,7 @@ use Rattle.net_data.proofs.GrammarAgrees.{complete}
 
 -- ---- labels
 
-one_label : (m : written.Label) (l : meaning.Label) → l.name ≡ m.name → l.indexed ≡ m.indexed → l.key ≡ m.key → m ≡ listed_label l
+one_label : (m : written.WrittenLabel) (l : meaning.Label) → l.name ≡ m.name → l.indexed ≡ m.indexed → l.key ≡ m.key → m ≡ listed_label l
 one_label m l name indexed key = λ t. record { name = sym name t; indexed = sym indexed t; key = sym key t }
 
 node_labels : (ns : List written.Node) (vs : List meaning.Node) → AllZip IsSameNode ns vs → map (λ (n : written.Node). n.label) ns ≡ map (λ (v : meaning.Node). listed_label v.label) vs

@@ -20,7 +20,7 @@ use Rattle.net_inst.specs.declared.node_name.Group.{Group}
 use Rattle.net_expr.specs.declared.indexing.Indexing.{Indexing}
 use Rattle.net_inst.specs.declared.network_names.Declared.{Declared}
 use Rattle.net_inst.specs.Arcs.{BuiltArcs, built, arcs_at, next_arc, with_arcs, named_arcs, arc_env, arc_text}
-use Rattle.net_inst.specs.AsWritten.{Label, Node, Arc, rows_of, label_at, node_at_row, arc_at_row, arcs_with, same_label, from_end, to_end}
+use Rattle.net_inst.specs.AsWritten.{WrittenLabel, Node, Arc, rows_of, label_at, node_at_row, arc_at_row, arcs_with, same_label, from_end, to_end}
 use Rattle.net_inst.specs.Groups.{group_with}
 use Rattle.net_expr.specs.Indexings.{indexing_in}
 use Rattle.net_inst.specs.Laws.{IsPlaceOf}
@@ -33,10 +33,10 @@ use Rattle.net_inst.proofs.Labels.{IsGroup, count_is, group_more}
 use Rattle.net_inst.proofs.Placing.{end_place, place_stays, built_is}
 use Rattle.net_inst.proofs.Zips.{ok_then, ok_is, map_map, map_join, zip_join, zip_as, zip_long, distinct_front}
 
-abbrev pub node_labels : List Node → List Label
+abbrev pub node_labels : List Node → List WrittenLabel
 node_labels ns = map (λ n. n.label) ns
 
-abbrev pub arc_labels : List Arc → List Label
+abbrev pub arc_labels : List Arc → List WrittenLabel
 arc_labels all = map (λ a. a.label) all
 
 -- ---- nodes
@@ -98,7 +98,7 @@ nodes_more_are w n b c ns names d new h e =
           ranges =
               subst (AllZip HasRange (ns ++ map (node_at_row w n b c) i.rows)) (sym found.whole) (zip_join HasRange ns (map (node_at_row w n b c) i.rows) d.ranges found.more h.ranges found.ranges);
           group =
-              subst (λ (ls : List Label). IsGroup ls (names ++ (record { name = n.text; indexed = is_some b }) ∷ []) (group_with d.group n.text (length d.ranges) i)) labels
+              subst (λ (ls : List WrittenLabel). IsGroup ls (names ++ (record { name = n.text; indexed = is_some b }) ∷ []) (group_with d.group n.text (length d.ranges) i)) labels
               (group_more (node_labels ns) names d.group n b (length d.ranges) i h.group (zip_long HasRange ns d.ranges h.ranges ∙ sym (length-map ns (λ v. v.label))) (count_is w b i j));
         }))
       where
@@ -107,27 +107,27 @@ nodes_more_are w n b c ns names d new h e =
 
         labels : node_labels ns ++ map (label_at n b) i.rows ≡ node_labels (ns ++ map (node_at_row w n b c) i.rows)
         labels =
-            ap (λ (ls : List Label). node_labels ns ++ ls) (sym (map_map (λ (v : Node). v.label) (node_at_row w n b c) i.rows))
+            ap (λ (ls : List WrittenLabel). node_labels ns ++ ls) (sym (map_map (λ (v : Node). v.label) (node_at_row w n b c) i.rows))
             ∙ sym (map_join (λ (v : Node). v.label) ns (map (node_at_row w n b c) i.rows))
 
 -- ---- arcs
 
-pub record HasEnds (labels : List Label) (a : Arc) (x : Built) : Type 0 where
+pub record HasEnds (labels : List WrittenLabel) (a : Arc) (x : Built) : Type 0 where
   pub from : IsPlaceOf labels (from_end a) x.tail
   pub to : IsPlaceOf labels (to_end a) x.head
 
 -- what is drawn of an arc
-pub record IsBuiltAs (labels : List Label) (a : Arc) (x : Built) : Type 0 where
+pub record IsBuiltAs (labels : List WrittenLabel) (a : Arc) (x : Built) : Type 0 where
   pub lower : value a.env a.scope a.parts.lower ≡ Ok (One (Number x.lower))
   pub upper : value a.env a.scope a.parts.upper ≡ Ok (One (Number x.upper))
   pub ends : IsDistinct same_label labels → HasEnds labels a x
 
-pub record AreArcs (labels : List Label) (all : List Arc) (names : List Declared) (d : BuiltArcs) : Type 0 where
+pub record AreArcs (labels : List WrittenLabel) (all : List Arc) (names : List Declared) (d : BuiltArcs) : Type 0 where
   pub built : AllZip (IsBuiltAs labels) all d.arcs
   pub group : IsGroup (arc_labels all) names d.group
 
 -- more arcs behind others
-pub record AreMoreArcs (labels : List Label) (all : List Arc) (d new : BuiltArcs) : Type 0 where
+pub record AreMoreArcs (labels : List WrittenLabel) (all : List Arc) (d new : BuiltArcs) : Type 0 where
   pub more : List Built
   pub whole : new.arcs ≡ d.arcs ++ more
   pub built : AllZip (IsBuiltAs labels) all more
@@ -170,7 +170,7 @@ arcs_more_are ns node_names dn hn g w n b ps all names d new h e =
     (record {
       built = subst (AllZip (IsBuiltAs (node_labels ns)) (all ++ here)) (sym found.whole) (zip_join (IsBuiltAs (node_labels ns)) all here d.arcs found.more h.built found.built);
       group =
-          subst (λ (ls : List Label). IsGroup ls more_names (group_with by.found.group n.text (length d.arcs) by.indexing)) labels
+          subst (λ (ls : List WrittenLabel). IsGroup ls more_names (group_with by.found.group n.text (length d.arcs) by.indexing)) labels
           (subst (λ (z : Group). IsGroup (arc_labels all ++ map (label_at n b) by.indexing.rows) more_names (group_with z n.text (length d.arcs) by.indexing)) (sym found.group)
           (group_more (arc_labels all) names d.group n b (length d.arcs) by.indexing h.group (zip_long (IsBuiltAs (node_labels ns)) all d.arcs h.built ∙ sym (length-map all (λ (v : Arc). v.label))) (count_is w b by.indexing by.keys)));
     }))
@@ -192,11 +192,11 @@ arcs_more_are ns node_names dn hn g w n b ps all names d new h e =
 
     labels : arc_labels all ++ map (label_at n b) by.indexing.rows ≡ arc_labels (all ++ here)
     labels =
-        ap (λ (ls : List Label). arc_labels all ++ ls) (sym (map_map (λ (v : Arc). v.label) (arc_at_row w n b ps by.parts) by.indexing.rows))
+        ap (λ (ls : List WrittenLabel). arc_labels all ++ ls) (sym (map_map (λ (v : Arc). v.label) (arc_at_row w n b ps by.parts) by.indexing.rows))
         ∙ sym (map_join (λ (v : Arc). v.label) all here)
 
 -- behind more nodes the arcs stay
-pub arcs_stay : (labels more : List Label) (all : List Arc) (names : List Declared) (d : BuiltArcs) → AreArcs labels all names d → AreArcs (labels ++ more) all names d
+pub arcs_stay : (labels more : List WrittenLabel) (all : List Arc) (names : List Declared) (d : BuiltArcs) → AreArcs labels all names d → AreArcs (labels ++ more) all names d
 arcs_stay labels more all names d h = record {
   built = zip_as (IsBuiltAs labels) (IsBuiltAs (labels ++ more)) all d.arcs (λ a x u. record {
     lower = u.lower;

@@ -61,18 +61,18 @@ flows_same (v ∷ xs) (a ∷ all) x h =
     let rest = flows_same xs all x h.1 in
     λ t. one t ∷ rest t
 
-at_label : (r : Option (Name × Tuple)) (l : written.Label) → is_at r (as_label l) ≡ is_named l r
+at_label : (r : Option (Name × Tuple)) (l : written.WrittenLabel) → is_at r (as_label l) ≡ is_named l r
 at_label None l = refl
 at_label (Some r) l = refl
 
 -- the part of an arc in the net inflow, at one of its ends
-at_end : (v : written.Arc) (a : meaning.Arc) (x : meaning.Assignment) (l : written.Label) (r q : Option (Name × Tuple)) → IsSameArc v a → r ≡ q → (if is_at r (as_label l) then meaning.flow_on x a else pos 0) ≡ (if is_named l q then number_on x v else pos 0)
+at_end : (v : written.Arc) (a : meaning.Arc) (x : meaning.Assignment) (l : written.WrittenLabel) (r q : Option (Name × Tuple)) → IsSameArc v a → r ≡ q → (if is_at r (as_label l) then meaning.flow_on x a else pos 0) ≡ (if is_named l q then number_on x v else pos 0)
 at_end v a x l r q same e =
     ap (λ (o : Option (Name × Tuple)). if is_at o (as_label l) then meaning.flow_on x a else pos 0) e
     ∙ ap (λ (b : Bool). if b then meaning.flow_on x a else pos 0) (at_label q l)
     ∙ ap (λ (n : ℤ). if is_named l q then n else pos 0) (flow_same v a x same)
 
-inflow_same : (xs : List written.Arc) (all : List meaning.Arc) (x : meaning.Assignment) (l : written.Label) → AllZip IsSameArc xs all → meaning.net_inflow all x (as_label l) ≡ written.net_inflow xs x l
+inflow_same : (xs : List written.Arc) (all : List meaning.Arc) (x : meaning.Assignment) (l : written.WrittenLabel) → AllZip IsSameArc xs all → meaning.net_inflow all x (as_label l) ≡ written.net_inflow xs x l
 inflow_same [] [] x l h = omega (arith, ints)
 inflow_same [] (a ∷ all) x l h = absurd h
 inflow_same (v ∷ xs) [] x l h = absurd h

@@ -17,7 +17,7 @@ use Rattle.net_inst.proofs.Built.{node_labels, arc_labels}
 
 -- ---- labels
 
-abbrev pub as_label : written.Label → meaning.Label
+abbrev pub as_label : written.WrittenLabel → meaning.Label
 as_label l = record { name = l.name; indexed = l.indexed; key = l.key }
 
 node_labels_are : (ns : List written.Node) (vs : List meaning.Node) → AllZip IsSameNode ns vs → map as_label (node_labels ns) ≡ map (λ (v : meaning.Node). v.label) vs
@@ -44,12 +44,12 @@ arc_labels_are (x ∷ xs) (a ∷ all) h =
     let rest = arc_labels_are xs all h.1 in
     λ t. (record { name = name t; indexed = indexed t; key = key t }) ∷ rest t
 
-labels_apart : (ls : List written.Label) → IsDistinct written.same_label ls → IsDistinct meaning.same_label (map as_label ls)
+labels_apart : (ls : List written.WrittenLabel) → IsDistinct written.same_label ls → IsDistinct meaning.same_label (map as_label ls)
 unfolding IsDistinct
 labels_apart [] h = tt
 labels_apart (l ∷ ls) h = (go ls h.0, labels_apart ls h.1)
   where
-    go : (ms : List written.Label) → AllByRecursion (λ m. written.same_label l m ≡ false) ms → AllByRecursion (λ m. meaning.same_label (as_label l) m ≡ false) (map as_label ms)
+    go : (ms : List written.WrittenLabel) → AllByRecursion (λ m. written.same_label l m ≡ false) ms → AllByRecursion (λ m. meaning.same_label (as_label l) m ≡ false) (map as_label ms)
     go [] k = tt
     go (m ∷ ms) k = (k.0, go ms k.1)
 
@@ -69,14 +69,14 @@ or_true true = refl
 or_true false = refl
 
 -- the label at an index is that of a node
-found_at : (r : Name × Tuple) (ns : List written.Node) (vs : List meaning.Node) (i : ℕ) (l : written.Label) → AllZip IsSameNode ns vs → slice_get (node_labels ns) i ≡ Some l → l.name ≡ r.0 → l.key ≡ r.1
+found_at : (r : Name × Tuple) (ns : List written.Node) (vs : List meaning.Node) (i : ℕ) (l : written.WrittenLabel) → AllZip IsSameNode ns vs → slice_get (node_labels ns) i ≡ Some l → l.name ≡ r.0 → l.key ≡ r.1
     → list_any (λ (v : meaning.Node). is_at (Some r) v.label) vs ≡ true
 found_at r [] vs i l h e n k = absurd (let q = e in cc)
 found_at r (x ∷ ns) [] i l h e n k = absurd h
 found_at r (x ∷ ns) (v ∷ vs) zero l h e n k =
     let same : x.label ≡ l = cc in
-    let name : r.0 ≡ v.label.name = sym n ∙ ap (λ (m : written.Label). m.name) (sym same) ∙ sym h.0.name in
-    let key : r.1 ≡ v.label.key = sym k ∙ ap (λ (m : written.Label). m.key) (sym same) ∙ sym h.0.key in
+    let name : r.0 ≡ v.label.name = sym n ∙ ap (λ (m : written.WrittenLabel). m.name) (sym same) ∙ sym h.0.name in
+    let key : r.1 ≡ v.label.key = sym k ∙ ap (λ (m : written.WrittenLabel). m.key) (sym same) ∙ sym h.0.key in
     ap (λ (b : Bool). b || list_any (λ (v : meaning.Node). is_at (Some r) v.label) vs) (both_same r.0 v.label.name r.1 v.label.key name key)
 found_at r (x ∷ ns) (v ∷ vs) (suc i) l h e n k = ap (λ (b : Bool). is_at (Some r) v.label || b) (found_at r ns vs i l h.1 e n k) ∙ or_true (is_at (Some r) v.label)
 

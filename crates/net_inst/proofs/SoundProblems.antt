@@ -46,13 +46,13 @@ record IsFoundAt (r : Name × Tuple) (vs : List meaning.Node) (i : ℕ) : Type 0
   at : slice_get vs i ≡ Some node
   named : IsTrue (is_at (Some r) node.label)
 
-found_at : (r : Name × Tuple) (ns : List written.Node) (vs : List meaning.Node) (i : ℕ) (l : written.Label) → AllZip IsSameNode ns vs → slice_get (node_labels ns) i ≡ Some l → l.name ≡ r.0 → l.key ≡ r.1 → IsFoundAt r vs i
+found_at : (r : Name × Tuple) (ns : List written.Node) (vs : List meaning.Node) (i : ℕ) (l : written.WrittenLabel) → AllZip IsSameNode ns vs → slice_get (node_labels ns) i ≡ Some l → l.name ≡ r.0 → l.key ≡ r.1 → IsFoundAt r vs i
 found_at r [] vs i l h e n k = absurd (let q = e in cc)
 found_at r (x ∷ ns) [] i l h e n k = absurd h
 found_at r (x ∷ ns) (v ∷ vs) zero l h e n k =
     let same : x.label ≡ l = cc in
-    let name : r.0 ≡ v.label.name = sym n ∙ ap (λ (m : written.Label). m.name) (sym same) ∙ sym h.0.name in
-    let key : r.1 ≡ v.label.key = sym k ∙ ap (λ (m : written.Label). m.key) (sym same) ∙ sym h.0.key in
+    let name : r.0 ≡ v.label.name = sym n ∙ ap (λ (m : written.WrittenLabel). m.name) (sym same) ∙ sym h.0.name in
+    let key : r.1 ≡ v.label.key = sym k ∙ ap (λ (m : written.WrittenLabel). m.key) (sym same) ∙ sym h.0.key in
     record { node = v; at = refl; named = both_same r.0 v.label.name r.1 v.label.key name key }
 found_at r (x ∷ ns) (v ∷ vs) (suc i) l h e n k =
     let more = found_at r ns vs i l h.1 e n k in

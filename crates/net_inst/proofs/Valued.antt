@@ -28,7 +28,7 @@ use Rattle.net_inst.specs.declared.arc.Built.{Built}
 use Rattle.net_inst.specs.declared.draft.ChosenObjective.{ChosenObjective}
 use Rattle.net_inst.specs.declared.network_names.Declared.{Declared}
 use Rattle.net_inst.specs.Arcs.{BuiltArcs, priced_by, price_in, prices_in, next_arc, arcs_at, with_arcs, arc_env, arc_text}
-use Rattle.net_inst.specs.AsWritten.{Label, Arc, rows_of, arc_at_row, arcs_with, same_label, Assignment, number_on, numbers_on, amount}
+use Rattle.net_inst.specs.AsWritten.{WrittenLabel, Arc, rows_of, arc_at_row, arcs_with, same_label, Assignment, number_on, numbers_on, amount}
 use Rattle.net_inst.specs.Drafts.{part_form}
 use Rattle.net_inst.specs.Groups.{Numbers}
 use Rattle.net_inst.specs.Nodes.{BuiltNodes}
@@ -174,7 +174,7 @@ read_alike all front after x a finds distinct whole = record { alike = λ at n k
     placed : (n : Name) (key : Tuple) (v : ℕ) (k : KeyNumbers) (p : ℕ) → declared a n ≡ Some k → place_of k.index key ≡ Some p → v ≡ k.first + p → by_place all x v ≡ x n key
     placed n key v k p e i j =
         let found = found_label (map (λ v. v.label) front) a n k key p v finds distinct e i j in
-        let there : slice_get (map (λ u. u.label) all) v ≡ Some found.0 = ap (λ (l : List Arc). slice_get (map (λ u. u.label) l) v) whole ∙ ap (λ (l : List Label). slice_get l v) (map_join (λ (u : Arc). u.label) front after) ∙ get_front (map (λ u. u.label) front) (map (λ u. u.label) after) v found.0 found.1 in
+        let there : slice_get (map (λ u. u.label) all) v ≡ Some found.0 = ap (λ (l : List Arc). slice_get (map (λ u. u.label) l) v) whole ∙ ap (λ (l : List WrittenLabel). slice_get l v) (map_join (λ (u : Arc). u.label) front after) ∙ get_front (map (λ u. u.label) front) (map (λ u. u.label) after) v found.0 found.1 in
         number_of_label x all v found.0 there ∙ ap (λ (m : Name). x m found.0.key) found.2 ∙ ap (x n) found.3
 
     by_number : (at : Span) (n : Name) (key : Tuple) (v : ℕ) (k : KeyNumbers) → declared a n ≡ Some k → (o : Option ℕ) → place_of k.index key ≡ o → (r : Detail) → numbered at r k.first o ≡ Ok v → by_place all x v ≡ x n key

@@ -13,7 +13,7 @@ use Rattle.net_inst.specs.declared.arc.Built.{Built}
 use Rattle.net_inst.specs.declared.node_name.Group.{Group}
 use Rattle.net_inst.specs.declared.network_names.Declared.{Declared}
 use Rattle.net_inst.specs.Arcs.{with_arcs, arc_env}
-use Rattle.net_inst.specs.AsWritten.{Label, Node, Arc, nodes_of, arcs_of, nodes, arcs, known_after, in_order, node_declared, arc_declared, same_label}
+use Rattle.net_inst.specs.AsWritten.{WrittenLabel, Node, Arc, nodes_of, arcs_of, nodes, arcs, known_after, in_order, node_declared, arc_declared, same_label}
 use Rattle.net_inst.specs.Drafts.{Drawing, nothing, env, part_form, aimed, passed, is_chosen, with_goal, with_objective, known_more, nodes_more, arcs_more, declare, draw}
 use Rattle.net_inst.specs.Instances.{Network, with_coefficients}
 use Rattle.net_inst.specs.Laws.{IsInSides, IsRangeOf, HaveExactRanges, AreNames, AreNamesOf, HaveNames, IsBoundedAs, HaveBounds, HasEndsOf, HaveEnds}
@@ -116,7 +116,7 @@ next_is wanted w m (node t n b c z) d new h e =
         arcs =
             subst (λ (xs : List Arc). AreArcs (node_labels (m.nodes ++ nodes_of (env w d) (node t n b c z))) xs (m.arc_names ++ []) d.arcs) (sym (append-nil m.arcs))
             (subst (λ (xs : List Declared). AreArcs (node_labels (m.nodes ++ nodes_of (env w d) (node t n b c z))) m.arcs xs d.arcs) (sym (append-nil m.arc_names))
-            (subst (λ (ls : List Label). AreArcs ls m.arcs m.arc_names d.arcs) (sym (map_join (λ (v : Node). v.label) m.nodes (nodes_of (env w d) (node t n b c z))))
+            (subst (λ (ls : List WrittenLabel). AreArcs ls m.arcs m.arc_names d.arcs) (sym (map_join (λ (v : Node). v.label) m.nodes (nodes_of (env w d) (node t n b c z))))
             (arcs_stay (node_labels m.nodes) (node_labels (nodes_of (env w d) (node t n b c z))) m.arcs m.arc_names d.arcs h.arcs)));
       };
     }))
@@ -179,7 +179,7 @@ have_exact_ranges wanted w ds n e =
     let f = network_is wanted w ds n e in
     subst (AllZip IsRangeOf (nodes w ds)) (ap (λ (z : Network). z.nodes) f.whole) (zip_as HasRange IsRangeOf (nodes w ds) f.drawing.nodes.ranges range_is (all_written wanted w ds f.drawing f.is_built).nodes.ranges)
 
-names_are : (labels : List Label) (names : List Declared) (g : Group) → IsGroup labels names g → AreNames names labels g.list
+names_are : (labels : List WrittenLabel) (names : List Declared) (g : Group) → IsGroup labels names g → AreNames names labels g.list
 names_are labels names g h = record { declarations = h.declarations; keys = h.keys; ordered = h.ordered }
 
 pub have_names : HaveNames
@@ -191,7 +191,7 @@ have_names wanted w ds n e =
       arcs = names_are (arc_labels (arcs w ds)) (flat_map arc_declared ds) f.drawing.arcs.group all.arcs.group;
     })
 
-bounded : (labels : List Label) (ps : Products) (a : ℕ) (all : List Arc) (xs : List Built) → AllZip (IsBuiltAs labels) all xs → AllZip IsBoundedAs all (with_coefficients ps a xs)
+bounded : (labels : List WrittenLabel) (ps : Products) (a : ℕ) (all : List Arc) (xs : List Built) → AllZip (IsBuiltAs labels) all xs → AllZip IsBoundedAs all (with_coefficients ps a xs)
 bounded labels ps a [] [] h = tt
 bounded labels ps a [] (x ∷ xs) h = absurd h
 bounded labels ps a (y ∷ all) [] h = absurd h
@@ -203,7 +203,7 @@ have_bounds wanted w ds n e =
     let all = all_written wanted w ds f.drawing f.is_built in
     subst (AllZip IsBoundedAs (arcs w ds)) (ap (λ (z : Network). z.arcs) f.whole) (bounded (node_labels (nodes w ds)) f.drawing.arcs.form.products 0 (arcs w ds) f.drawing.arcs.arcs all.arcs.built)
 
-with_ends : (labels : List Label) → IsDistinct same_label labels → (ps : Products) (a : ℕ) (all : List Arc) (xs : List Built) → AllZip (IsBuiltAs labels) all xs → AllZip (HasEndsOf labels) all (with_coefficients ps a xs)
+with_ends : (labels : List WrittenLabel) → IsDistinct same_label labels → (ps : Products) (a : ℕ) (all : List Arc) (xs : List Built) → AllZip (IsBuiltAs labels) all xs → AllZip (HasEndsOf labels) all (with_coefficients ps a xs)
 with_ends labels distinct ps a [] [] h = tt
 with_ends labels distinct ps a [] (x ∷ xs) h = absurd h
 with_ends labels distinct ps a (y ∷ all) [] h = absurd h

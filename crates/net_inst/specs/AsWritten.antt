@@ -20,7 +20,7 @@ use Rattle.net_inst.specs.Phrases.{Parts, parts_of}
 
 -- the identity of a node or an arc: its declared name, whether it is indexed, and its key, which is
 -- empty if it is not
-pub record Label : Type 0 where
+pub record WrittenLabel : Type 0 where
   pub name : Name
   pub indexed : Bool
   pub key : Tuple
@@ -28,14 +28,14 @@ pub record Label : Type 0 where
 -- the node at a key: the sets and parameters visible to its declaration, the dummies that the key
 -- binds, and its condition
 pub record Node : Type 0 where
-  pub label : Label
+  pub label : WrittenLabel
   pub env : World
   pub scope : Scope
   pub condition : Condition
 
 -- the arc at a key, with the bounds and ends from its phrases, and all its phrases
 pub record Arc : Type 0 where
-  pub label : Label
+  pub label : WrittenLabel
   pub env : World
   pub scope : Scope
   pub parts : Parts
@@ -47,7 +47,7 @@ abbrev pub rows_of : Outcome Indexing → List Row
 rows_of (Ok i) = i.rows
 rows_of (Err r) = []
 
-abbrev pub label_at : Token → Option Braces → Row → Label
+abbrev pub label_at : Token → Option Braces → Row → WrittenLabel
 label_at n b row = record { name = n.text; indexed = is_some b; key = row.key }
 
 abbrev pub node_at_row : World → Token → Option Braces → Condition → Row → Node
@@ -101,7 +101,7 @@ arc_declared (arc t n b ps e) = (record { name = n.text; indexed = is_some b }) 
 arc_declared _ = []
 
 -- equal names and equal keys; `indexed` follows from the name, because no name is declared twice
-abbrev pub same_label : Label → Label → Bool
+abbrev pub same_label : WrittenLabel → WrittenLabel → Bool
 same_label l m = bytes_eq l.name m.name && same_tuple l.key m.key
 
 pub record AreDistinct (ns : List Node) (all : List Arc) : Type 0 where
@@ -120,7 +120,7 @@ abbrev pub numbers_on : Assignment → List Arc → List ℤ
 numbers_on x all = map (number_on x) all
 
 -- the assignment of these numbers to these labels, in order
-abbrev pub by_label : List Label → List ℤ → Assignment
+abbrev pub by_label : List WrittenLabel → List ℤ → Assignment
 by_label [] numbers n key = pos 0
 by_label (l ∷ ls) [] n key = pos 0
 by_label (l ∷ ls) (y ∷ ys) n key = if bytes_eq l.name n && same_tuple l.key key then y else by_label ls ys n key
@@ -146,17 +146,17 @@ from_end a = end_of a.env a.scope a.parts.tail
 abbrev pub to_end : Arc → Option (Name × Tuple)
 to_end a = end_of a.env a.scope a.parts.head
 
-abbrev pub is_named : Label → Option (Name × Tuple) → Bool
+abbrev pub is_named : WrittenLabel → Option (Name × Tuple) → Bool
 is_named l None = false
 is_named l (Some r) = bytes_eq r.0 l.name && same_tuple r.1 l.key
 
 -- the total value of the arcs whose end is the node; the function `end` is `from_end` or `to_end`
-abbrev pub flow_at_ends : (Arc → Option (Name × Tuple)) → Label → List Arc → Assignment → ℤ
+abbrev pub flow_at_ends : (Arc → Option (Name × Tuple)) → WrittenLabel → List Arc → Assignment → ℤ
 flow_at_ends end v [] x = pos 0
 flow_at_ends end v (a ∷ all) x = (if is_named v (end a) then number_on x a else pos 0) +ℤ flow_at_ends end v all x
 
 -- inflow minus outflow of a node
-abbrev pub net_inflow : List Arc → Assignment → Label → ℤ
+abbrev pub net_inflow : List Arc → Assignment → WrittenLabel → ℤ
 net_inflow all x v = flow_at_ends to_end v all x -ℤ flow_at_ends from_end v all x
 
 -- the value of an expression without arcs; 0 on an error, which `has_network` of `IsBuilt` excludes

@@ -19,7 +19,7 @@ use Rattle.net_inst.specs.declared.arc.Built.{Built}
 use Rattle.net_inst.specs.declared.network.Named.{Named as NamedOfCode}
 use Rattle.net_inst.specs.declared.network_names.Declared.{Declared}
 use Rattle.net_inst.specs.Lists.{Key, Listed, AreInOrder}
-use Rattle.net_inst.specs.AsWritten.{Label, Node, Arc, rows_of, known_after, nodes, arcs, node_declared, arc_declared, same_label, Assignment, numbers_on, by_label, from_end, to_end, AreDistinct, IsFeasible}
+use Rattle.net_inst.specs.AsWritten.{WrittenLabel, Node, Arc, rows_of, known_after, nodes, arcs, node_declared, arc_declared, same_label, Assignment, numbers_on, by_label, from_end, to_end, AreDistinct, IsFeasible}
 use Rattle.net_expr.specs.Indexings.{indexing_in}
 use Rattle.net_expr.specs.Rows.{keys_of}
 use Rattle.net_inst.specs.Instances.{Network, network, seen_as}
@@ -53,12 +53,12 @@ abbrev pub HaveExactRanges : Type 0
 HaveExactRanges = (wanted : Option Name) (w : World) (ds : List Declaration) (n : Network) → network wanted w ds ≡ Ok n → AllZip IsRangeOf (nodes w ds) n.nodes
 
 -- a listed key is that of the label, and its declaration is that of the label
-pub record IsKeyOf (declared : List Declared) (l : Label) (k : Key) : Type 0 where
+pub record IsKeyOf (declared : List Declared) (l : WrittenLabel) (k : Key) : Type 0 where
   pub declaration : slice_get declared k.declaration ≡ Some (record { name = l.name; indexed = l.indexed })
   pub key : k.tuple ≡ l.key
 
 -- the declared names in order, and the keys of the nodes or arcs in order, grouped by declaration
-pub record AreNames (declared : List Declared) (labels : List Label) (listed : Listed) : Type 0 where
+pub record AreNames (declared : List Declared) (labels : List WrittenLabel) (listed : Listed) : Type 0 where
   pub declarations : listed.declarations ≡ declared
   pub keys : AllZip (IsKeyOf declared) labels listed.keys
   pub ordered : AreInOrder 0 listed.keys
@@ -71,11 +71,11 @@ abbrev pub HaveNames : Type 0
 HaveNames = (wanted : Option Name) (w : World) (ds : List Declaration) (n : Network) → network wanted w ds ≡ Ok n → AreNamesOf w ds n
 
 -- the number of a node is the index of the node that the end names
-abbrev pub IsPlaceOf : List Label → Option (Name × Tuple) → Option ℕ → Type 0
+abbrev pub IsPlaceOf : List WrittenLabel → Option (Name × Tuple) → Option ℕ → Type 0
 IsPlaceOf labels None None = ⊤
 IsPlaceOf labels None (Some v) = ⊥
 IsPlaceOf labels (Some r) None = ⊥
-IsPlaceOf labels (Some r) (Some v) = (l : Label) × (slice_get labels v ≡ Some l) × (l.name ≡ r.0) × (l.key ≡ r.1)
+IsPlaceOf labels (Some r) (Some v) = (l : WrittenLabel) × (slice_get labels v ≡ Some l) × (l.name ≡ r.0) × (l.key ≡ r.1)
 
 -- the bounds are the values of the bounds as written
 pub record IsBoundedAs (a : Arc) (x : InstArc) : Type 0 where
@@ -86,7 +86,7 @@ abbrev pub HaveBounds : Type 0
 HaveBounds = (wanted : Option Name) (w : World) (ds : List Declaration) (n : Network) → network wanted w ds ≡ Ok n → AllZip IsBoundedAs (arcs w ds) n.arcs
 
 -- the ends are the nodes that are named
-pub record HasEndsOf (labels : List Label) (a : Arc) (x : InstArc) : Type 0 where
+pub record HasEndsOf (labels : List WrittenLabel) (a : Arc) (x : InstArc) : Type 0 where
   pub from : IsPlaceOf labels (from_end a) x.tail
   pub to : IsPlaceOf labels (to_end a) x.head
 
