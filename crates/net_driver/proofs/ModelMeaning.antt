@@ -83,7 +83,7 @@ answers_solve represent sound fits aims lean wanted m d a h = record { network =
     p : IsBuilt lean wanted m d a.compiled
     p = h.compiled
 
-    ns : List written.Node
+    ns : List written.WrittenNode
     ns = written.nodes p.world p.declarations
 
     xs : List written.Arc

@@ -20,7 +20,7 @@ use Rattle.net_inst.specs.declared.node_name.Group.{Group}
 use Rattle.net_expr.specs.declared.indexing.Indexing.{Indexing}
 use Rattle.net_inst.specs.declared.network_names.Declared.{Declared}
 use Rattle.net_inst.specs.Arcs.{BuiltArcs, built, arcs_at, next_arc, with_arcs, named_arcs, arc_env, arc_text}
-use Rattle.net_inst.specs.AsWritten.{WrittenLabel, Node, Arc, rows_of, label_at, node_at_row, arc_at_row, arcs_with, same_label, from_end, to_end}
+use Rattle.net_inst.specs.AsWritten.{WrittenLabel, WrittenNode, Arc, rows_of, label_at, node_at_row, arc_at_row, arcs_with, same_label, from_end, to_end}
 use Rattle.net_inst.specs.Groups.{group_with}
 use Rattle.net_expr.specs.Indexings.{indexing_in}
 use Rattle.net_inst.specs.Laws.{IsPlaceOf}
@@ -33,7 +33,7 @@ use Rattle.net_inst.proofs.Labels.{IsGroup, count_is, group_more}
 use Rattle.net_inst.proofs.Placing.{end_place, place_stays, built_is}
 use Rattle.net_inst.proofs.Zips.{ok_then, ok_is, map_map, map_join, zip_join, zip_as, zip_long, distinct_front}
 
-abbrev pub node_labels : List Node → List WrittenLabel
+abbrev pub node_labels : List WrittenNode → List WrittenLabel
 node_labels ns = map (λ n. n.label) ns
 
 abbrev pub arc_labels : List Arc → List WrittenLabel
@@ -42,15 +42,15 @@ arc_labels all = map (λ a. a.label) all
 -- ---- nodes
 
 -- a range is that of the node's condition
-pub record HasRange (n : Node) (r : Sides) : Type 0 where
+pub record HasRange (n : WrittenNode) (r : Sides) : Type 0 where
   pub is : range_in n.env n.scope n.condition ≡ Ok (Some r)
 
-pub record AreNodes (ns : List Node) (names : List Declared) (d : BuiltNodes) : Type 0 where
+pub record AreNodes (ns : List WrittenNode) (names : List Declared) (d : BuiltNodes) : Type 0 where
   pub ranges : AllZip HasRange ns d.ranges
   pub group : IsGroup (node_labels ns) names d.group
 
 -- more ranges behind others
-pub record AreMore (ns : List Node) (found new : List Sides) : Type 0 where
+pub record AreMore (ns : List WrittenNode) (found new : List Sides) : Type 0 where
   pub more : List Sides
   pub whole : new ≡ found ++ more
   pub ranges : AllZip HasRange ns more
@@ -81,7 +81,7 @@ ranges_are w n b k c (row ∷ rows) found new e =
       ranges = (record { is = one.1 }, rest.ranges);
     })
 
-pub nodes_more_are : (w : World) (n : Token) (b : Option Braces) (c : Condition) (ns : List Node) (names : List Declared) (d new : BuiltNodes) → AreNodes ns names d → with_nodes w n b c d ≡ Ok new
+pub nodes_more_are : (w : World) (n : Token) (b : Option Braces) (c : Condition) (ns : List WrittenNode) (names : List Declared) (d new : BuiltNodes) → AreNodes ns names d → with_nodes w n b c d ≡ Ok new
     → AreNodes (ns ++ map (node_at_row w n b c) (rows_of (indexing_in w b))) (names ++ (record { name = n.text; indexed = is_some b }) ∷ []) new
 nodes_more_are w n b c ns names d new h e =
     ok_then (indexing_in w b) (nodes_by w n c d) new e (λ i j k.
@@ -107,8 +107,8 @@ nodes_more_are w n b c ns names d new h e =
 
         labels : node_labels ns ++ map (label_at n b) i.rows ≡ node_labels (ns ++ map (node_at_row w n b c) i.rows)
         labels =
-            ap (λ (ls : List WrittenLabel). node_labels ns ++ ls) (sym (map_map (λ (v : Node). v.label) (node_at_row w n b c) i.rows))
-            ∙ sym (map_join (λ (v : Node). v.label) ns (map (node_at_row w n b c) i.rows))
+            ap (λ (ls : List WrittenLabel). node_labels ns ++ ls) (sym (map_map (λ (v : WrittenNode). v.label) (node_at_row w n b c) i.rows))
+            ∙ sym (map_join (λ (v : WrittenNode). v.label) ns (map (node_at_row w n b c) i.rows))
 
 -- ---- arcs
 
@@ -133,7 +133,7 @@ pub record AreMoreArcs (labels : List WrittenLabel) (all : List Arc) (d new : Bu
   pub built : AllZip (IsBuiltAs labels) all more
   pub group : new.group ≡ d.group
 
-one_arc : (ns : List Node) (names : List Declared) (dn : BuiltNodes) → AreNodes ns names dn → (w : World) (n : Token) (b : Option Braces) (k : Option ℕ) (p : Parts) (ps : List Phrase) (row : Row) (x : Built)
+one_arc : (ns : List WrittenNode) (names : List Declared) (dn : BuiltNodes) → AreNodes ns names dn → (w : World) (n : Token) (b : Option Braces) (k : Option ℕ) (p : Parts) (ps : List Phrase) (row : Row) (x : Built)
     → built dn w n k p row ≡ Ok x → IsBuiltAs (node_labels ns) (arc_at_row w n b ps p row) x
 one_arc ns names dn h w n b k p ps row x e =
     let by = built_is dn w n k p row x e in
@@ -146,7 +146,7 @@ one_arc ns names dn h w n b k p ps row x e =
       };
     }
 
-arcs_are : (ns : List Node) (names : List Declared) (dn : BuiltNodes) → AreNodes ns names dn → (g : Option ChosenObjective) (w : World) (n : Token) (b : Option Braces) (k : Option ℕ) (p : Parts) (ps : List Phrase) (rows : List Row) (d new : BuiltArcs)
+arcs_are : (ns : List WrittenNode) (names : List Declared) (dn : BuiltNodes) → AreNodes ns names dn → (g : Option ChosenObjective) (w : World) (n : Token) (b : Option Braces) (k : Option ℕ) (p : Parts) (ps : List Phrase) (rows : List Row) (d new : BuiltArcs)
     → arcs_at (arc_env g dn w) (arc_text n p ps) k rows d ≡ Ok new → AreMoreArcs (node_labels ns) (map (arc_at_row w n b ps p) rows) d new
 arcs_are ns names dn h g w n b k p ps [] d new e =
     let same = ok_is d new e in
@@ -162,7 +162,7 @@ arcs_are ns names dn h g w n b k p ps (row ∷ rows) d new e =
       group = rest.group ∙ one.group;
     })
 
-pub arcs_more_are : (ns : List Node) (node_names : List Declared) (dn : BuiltNodes) → AreNodes ns node_names dn → (g : Option ChosenObjective) (w : World) (n : Token) (b : Option Braces) (ps : List Phrase) (all : List Arc) (names : List Declared) (d new : BuiltArcs)
+pub arcs_more_are : (ns : List WrittenNode) (node_names : List Declared) (dn : BuiltNodes) → AreNodes ns node_names dn → (g : Option ChosenObjective) (w : World) (n : Token) (b : Option Braces) (ps : List Phrase) (all : List Arc) (names : List Declared) (d new : BuiltArcs)
     → AreArcs (node_labels ns) all names d → with_arcs (arc_env g dn w) n b ps d ≡ Ok new → AreArcs (node_labels ns) (all ++ arcs_with w n b ps (parts_of n ps)) (names ++ (record { name = n.text; indexed = is_some b }) ∷ []) new
 arcs_more_are ns node_names dn hn g w n b ps all names d new h e =
     subst (AreArcs (node_labels ns) (all ++ arcs_with w n b ps (parts_of n ps)) more_names) by.is_named

@@ -22,7 +22,7 @@ use Rattle.net_expr.specs.Values.{value}
 use Rattle.net_expr.specs.Worlds.{Name, World, Scope}
 use Rattle.net_linear.specs.Conditions.{number_of}
 use Rattle.net_linear.specs.Amounts.{as_number}
-use Rattle.net_inst.specs.AsWritten.{WrittenLabel, Node, Arc, nodes, arcs, same_label, Assignment, number_on, numbers_on, by_label, is_named, from_end, to_end, flow_at_ends, net_inflow, amount, IsWithin, IsMet}
+use Rattle.net_inst.specs.AsWritten.{WrittenLabel, WrittenNode, Arc, nodes, arcs, same_label, Assignment, number_on, numbers_on, by_label, is_named, from_end, to_end, flow_at_ends, net_inflow, amount, IsWithin, IsMet}
 use Rattle.net_inst.specs.Instances.{seen_as}
 use Rattle.net_inst.specs.Laws.{IsInSides, IsRangeOf, IsPlaceOf, IsBoundedAs, HasEndsOf, HaveFeasible, HaveAssignments}
 use Rattle.net_inst.specs.Nodes.{sides_of}
@@ -138,7 +138,7 @@ pub in_range_from : (r : NodeRange) (y : ℤ) → IsInSides (sides_of r) y → I
 in_range_from r y h = record { low = h.low; high = h.high }
 
 -- the v-th node and its range
-met_to : (f : ℕ → ℤ) (all : List Arc) (x : Assignment) (ns : List Node) (rs : List NodeRange) → AllZip IsRangeOf ns (map sides_of rs) → ((v : ℕ) (n : Node) → slice_get ns v ≡ Some n → net_inflow all x n.label ≡ f v) → AllByRecursion (IsMet all x) ns
+met_to : (f : ℕ → ℤ) (all : List Arc) (x : Assignment) (ns : List WrittenNode) (rs : List NodeRange) → AllZip IsRangeOf ns (map sides_of rs) → ((v : ℕ) (n : WrittenNode) → slice_get ns v ≡ Some n → net_inflow all x n.label ≡ f v) → AllByRecursion (IsMet all x) ns
     → (v : ℕ) (r : NodeRange) → slice_get rs v ≡ Some r → IsInRange r (f v)
 met_to f all x [] [] h same k v r e = absurd (let j = e in cc)
 met_to f all x [] (q ∷ rs) h same k v r e = absurd h
@@ -148,7 +148,7 @@ met_to f all x (n ∷ ns) (q ∷ rs) h same k zero r e =
     subst (λ (z : NodeRange). IsInRange z (f zero)) is (in_range_from q (f zero) (subst (IsInSides (sides_of q)) (same zero n refl) ((h.0 (net_inflow all x n.label)).1 k.0)))
 met_to f all x (n ∷ ns) (q ∷ rs) h same k (suc v) r e = met_to (λ u. f (suc u)) all x ns rs h.1 (λ u m j. same (suc u) m j) k.1 v r e
 
-met_from : (f : ℕ → ℤ) (all : List Arc) (x : Assignment) (ns : List Node) (rs : List NodeRange) → AllZip IsRangeOf ns (map sides_of rs) → ((v : ℕ) (n : Node) → slice_get ns v ≡ Some n → net_inflow all x n.label ≡ f v)
+met_from : (f : ℕ → ℤ) (all : List Arc) (x : Assignment) (ns : List WrittenNode) (rs : List NodeRange) → AllZip IsRangeOf ns (map sides_of rs) → ((v : ℕ) (n : WrittenNode) → slice_get ns v ≡ Some n → net_inflow all x n.label ≡ f v)
     → ((v : ℕ) (r : NodeRange) → slice_get rs v ≡ Some r → IsInRange r (f v)) → AllByRecursion (IsMet all x) ns
 met_from f all x [] [] h same k = tt
 met_from f all x [] (q ∷ rs) h same k = absurd h
@@ -158,9 +158,9 @@ met_from f all x (n ∷ ns) (q ∷ rs) h same k = (
   met_from (λ u. f (suc u)) all x ns rs h.1 (λ u m j. same (suc u) m j) (λ u r j. k (suc u) r j),
 )
 
-pub label_get : (ns : List Node) (v : ℕ) (n : Node) → slice_get ns v ≡ Some n → slice_get (map (λ u. u.label) ns) v ≡ Some n.label
+pub label_get : (ns : List WrittenNode) (v : ℕ) (n : WrittenNode) → slice_get ns v ≡ Some n → slice_get (map (λ u. u.label) ns) v ≡ Some n.label
 label_get [] v n e = absurd (let h = e in cc)
-label_get (m ∷ ns) zero n e = let same : m ≡ n = cc in ap (λ (z : Node). Some z.label) same
+label_get (m ∷ ns) zero n e = let same : m ≡ n = cc in ap (λ (z : WrittenNode). Some z.label) same
 label_get (m ∷ ns) (suc v) n e = label_get ns v n e
 
 pub have_feasible : HaveFeasible
@@ -184,7 +184,7 @@ have_feasible wanted w ds n e distinct x = (
     inflow : ℕ → ℤ
     inflow v = by_number.net_inflow n.instance.arcs.items (numbers_on x (arcs w ds)) v
 
-    inflows : (v : ℕ) (m : Node) → slice_get (nodes w ds) v ≡ Some m → net_inflow (arcs w ds) x m.label ≡ inflow v
+    inflows : (v : ℕ) (m : WrittenNode) → slice_get (nodes w ds) v ≡ Some m → net_inflow (arcs w ds) x m.label ≡ inflow v
     inflows v m h = inflow_is (map (λ u. u.label) (nodes w ds)) v m.label distinct.nodes (label_get (nodes w ds) v m h) (arcs w ds) n.instance.arcs.items x (have_ends wanted w ds (seen_as n) e distinct)
 
 -- ---- numbers and assignments

@@ -11,7 +11,7 @@ use Rattle.net_tree.specs.Tree.{Braces, Phrase, Declaration, set, param, check, 
 use Rattle.net_expr.specs.declared.row.Row.{Row}
 use Rattle.net_expr.specs.Worlds.{Name, World}
 use Rattle.net_inst.specs.declared.network_names.Declared.{Declared}
-use Rattle.net_inst.specs.AsWritten.{WrittenLabel, Node, Arc, rows_of, label_at, node_at_row, arc_at_row, nodes_of, arcs_with, arcs_of, known_after, in_order, node_declared, arc_declared, same_label}
+use Rattle.net_inst.specs.AsWritten.{WrittenLabel, WrittenNode, Arc, rows_of, label_at, node_at_row, arc_at_row, nodes_of, arcs_with, arcs_of, known_after, in_order, node_declared, arc_declared, same_label}
 use Rattle.net_expr.specs.Indexings.{indexing_in}
 use Rattle.net_expr.specs.Rows.{keys_of}
 use Rattle.net_inst.specs.Laws.{keys_by, HaveKeysOnce, same_name, AreDistinctAsDeclared}
@@ -130,7 +130,7 @@ rows_once n b (row ∷ rows) h =
     go (r ∷ more) i = (ap (λ (t : Bool). bytes_eq n.text n.text && t) i.0 ∙ none (bytes_eq n.text n.text), go more i.1)
 
 abbrev node_labels_of : World → Declaration → List WrittenLabel
-node_labels_of w d = map (λ (v : Node). v.label) (nodes_of w d)
+node_labels_of w d = map (λ (v : WrittenNode). v.label) (nodes_of w d)
 
 abbrev arc_labels_of : World → Declaration → List WrittenLabel
 arc_labels_of w d = map (λ (v : Arc). v.label) (arcs_of w d)
@@ -142,7 +142,7 @@ nodes_labelled = record { named = named; once = once }
     named w (set t n ps e) = tt
     named w (param t n b ps e) = tt
     named w (check t b m x e) = tt
-    named w (node t n b c e) = subst (AreOf (node_declared (node t n b c e))) (sym (map_map (λ (v : Node). v.label) (node_at_row w n b c) (rows_of (indexing_in w b)))) (rows_named n b (rows_of (indexing_in w b)) (record { name = n.text; indexed = is_some b }) refl)
+    named w (node t n b c e) = subst (AreOf (node_declared (node t n b c e))) (sym (map_map (λ (v : WrittenNode). v.label) (node_at_row w n b c) (rows_of (indexing_in w b)))) (rows_named n b (rows_of (indexing_in w b)) (record { name = n.text; indexed = is_some b }) refl)
     named w (arc t n b ps e) = tt
     named w (objective t n p e) = tt
 
@@ -150,7 +150,7 @@ nodes_labelled = record { named = named; once = once }
     once w (set t n ps e) h = none_once
     once w (param t n b ps e) h = none_once
     once w (check t b m x e) h = none_once
-    once w (node t n b c e) h = subst (IsDistinct same_label) (sym (map_map (λ (v : Node). v.label) (node_at_row w n b c) (rows_of (indexing_in w b)))) (rows_once n b (rows_of (indexing_in w b)) h)
+    once w (node t n b c e) h = subst (IsDistinct same_label) (sym (map_map (λ (v : WrittenNode). v.label) (node_at_row w n b c) (rows_of (indexing_in w b)))) (rows_once n b (rows_of (indexing_in w b)) h)
     once w (arc t n b ps e) h = none_once
     once w (objective t n p e) h = none_once
 
@@ -190,6 +190,6 @@ labels_in_order f v w k (d ∷ ds) = ap (λ (ls : List WrittenLabel). map v (f (
 
 pub are_distinct_as_declared : AreDistinctAsDeclared
 are_distinct_as_declared w ds h = record {
-  nodes = subst (IsDistinct same_label) (labels_in_order nodes_of (λ (v : Node). v.label) w 0 ds) (labelled_once node_labels_of node_declared nodes_labelled w 0 ds h.keys h.nodes);
+  nodes = subst (IsDistinct same_label) (labels_in_order nodes_of (λ (v : WrittenNode). v.label) w 0 ds) (labelled_once node_labels_of node_declared nodes_labelled w 0 ds h.keys h.nodes);
   arcs = subst (IsDistinct same_label) (labels_in_order arcs_of (λ (v : Arc). v.label) w 0 ds) (labelled_once arc_labels_of arc_declared arcs_labelled w 0 ds h.keys h.arcs);
 }

@@ -13,7 +13,7 @@ use Rattle.net_inst.specs.declared.arc.Built.{Built}
 use Rattle.net_inst.specs.declared.node_name.Group.{Group}
 use Rattle.net_inst.specs.declared.network_names.Declared.{Declared}
 use Rattle.net_inst.specs.Arcs.{with_arcs, arc_env}
-use Rattle.net_inst.specs.AsWritten.{WrittenLabel, Node, Arc, nodes_of, arcs_of, nodes, arcs, known_after, in_order, node_declared, arc_declared, same_label}
+use Rattle.net_inst.specs.AsWritten.{WrittenLabel, WrittenNode, Arc, nodes_of, arcs_of, nodes, arcs, known_after, in_order, node_declared, arc_declared, same_label}
 use Rattle.net_inst.specs.Drafts.{Drawing, nothing, env, part_form, aimed, passed, is_chosen, with_goal, with_objective, known_more, nodes_more, arcs_more, declare, draw}
 use Rattle.net_inst.specs.Instances.{Network, with_coefficients}
 use Rattle.net_inst.specs.Laws.{IsInSides, IsRangeOf, HaveExactRanges, AreNames, AreNamesOf, HaveNames, IsBoundedAs, HaveBounds, HasEndsOf, HaveEnds}
@@ -25,7 +25,7 @@ use Rattle.net_inst.proofs.Zips.{ok_then, ok_is, map_join, zip_as}
 
 -- what is written in some declarations
 pub record Lines : Type 0 where
-  pub nodes : List Node
+  pub nodes : List WrittenNode
   pub node_names : List Declared
   pub arcs : List Arc
   pub arc_names : List Declared
@@ -44,7 +44,7 @@ no_lines = record { nodes = []; node_names = []; arcs = []; arc_names = [] }
 
 after_none : (a b : Lines) → b.nodes ≡ [] → b.node_names ≡ [] → b.arcs ≡ [] → b.arc_names ≡ [] → a ≡ behind a b
 after_none a b h i j k =
-    let p = sym (append-nil a.nodes) ∙ ap (λ (x : List Node). a.nodes ++ x) (sym h) in
+    let p = sym (append-nil a.nodes) ∙ ap (λ (x : List WrittenNode). a.nodes ++ x) (sym h) in
     let q = sym (append-nil a.node_names) ∙ ap (λ (x : List Declared). a.node_names ++ x) (sym i) in
     let r = sym (append-nil a.arcs) ∙ ap (λ (x : List Arc). a.arcs ++ x) (sym j) in
     let s = sym (append-nil a.arc_names) ∙ ap (λ (x : List Declared). a.arc_names ++ x) (sym k) in
@@ -116,7 +116,7 @@ next_is wanted w m (node t n b c z) d new h e =
         arcs =
             subst (λ (xs : List Arc). AreArcs (node_labels (m.nodes ++ nodes_of (env w d) (node t n b c z))) xs (m.arc_names ++ []) d.arcs) (sym (append-nil m.arcs))
             (subst (λ (xs : List Declared). AreArcs (node_labels (m.nodes ++ nodes_of (env w d) (node t n b c z))) m.arcs xs d.arcs) (sym (append-nil m.arc_names))
-            (subst (λ (ls : List WrittenLabel). AreArcs ls m.arcs m.arc_names d.arcs) (sym (map_join (λ (v : Node). v.label) m.nodes (nodes_of (env w d) (node t n b c z))))
+            (subst (λ (ls : List WrittenLabel). AreArcs ls m.arcs m.arc_names d.arcs) (sym (map_join (λ (v : WrittenNode). v.label) m.nodes (nodes_of (env w d) (node t n b c z))))
             (arcs_stay (node_labels m.nodes) (node_labels (nodes_of (env w d) (node t n b c z))) m.arcs m.arc_names d.arcs h.arcs)));
       };
     }))
@@ -125,9 +125,9 @@ next_is wanted w m (arc t n b ps z) d new h e =
     subst (IsNext m w (arc t n b ps z) d) (ok_is (arcs_more d xs) new j) (record {
       known = refl;
       is_written = record {
-        nodes = subst (λ (ns : List Node). AreNodes ns (m.node_names ++ []) d.nodes) (sym (append-nil m.nodes)) (subst (λ (ns : List Declared). AreNodes m.nodes ns d.nodes) (sym (append-nil m.node_names)) h.nodes);
+        nodes = subst (λ (ns : List WrittenNode). AreNodes ns (m.node_names ++ []) d.nodes) (sym (append-nil m.nodes)) (subst (λ (ns : List Declared). AreNodes m.nodes ns d.nodes) (sym (append-nil m.node_names)) h.nodes);
         arcs =
-            subst (λ (ns : List Node). AreArcs (node_labels ns) (m.arcs ++ arcs_of (env w d) (arc t n b ps z)) (m.arc_names ++ arc_declared (arc t n b ps z)) xs) (sym (append-nil m.nodes))
+            subst (λ (ns : List WrittenNode). AreArcs (node_labels ns) (m.arcs ++ arcs_of (env w d) (arc t n b ps z)) (m.arc_names ++ arc_declared (arc t n b ps z)) xs) (sym (append-nil m.nodes))
             (arcs_more_are m.nodes m.node_names d.nodes h.nodes d.goal (env w d) n b ps m.arcs m.arc_names d.arcs xs h.arcs i);
       };
     }))
@@ -168,7 +168,7 @@ one_range None (Some n) y = ((λ h. record { low = for_none (λ l. l ≤ℤ y); 
 one_range (Some l) None y = ((λ h. record { low = for_some (λ m. m ≤ℤ y) l h.0; high = for_none (λ g. y ≤ℤ g) }), (λ h. (h.low l refl, tt)))
 one_range (Some l) (Some n) y = ((λ h. record { low = for_some (λ m. m ≤ℤ y) l h.0; high = for_some (λ g. y ≤ℤ g) n h.1 }), (λ h. (h.low l refl, h.high n refl)))
 
-range_is : (n : Node) (r : Sides) → HasRange n r → IsRangeOf n r
+range_is : (n : WrittenNode) (r : Sides) → HasRange n r → IsRangeOf n r
 range_is n r h y =
     let exact = range_exact n.env n.scope n.condition r h.is y in
     let words = one_range r.low r.high y in

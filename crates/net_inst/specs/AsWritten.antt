@@ -27,7 +27,7 @@ pub record WrittenLabel : Type 0 where
 
 -- the node at a key: the sets and parameters visible to its declaration, the dummies that the key
 -- binds, and its condition
-pub record Node : Type 0 where
+pub record WrittenNode : Type 0 where
   pub label : WrittenLabel
   pub env : World
   pub scope : Scope
@@ -50,14 +50,14 @@ rows_of (Err r) = []
 abbrev pub label_at : Token → Option Braces → Row → WrittenLabel
 label_at n b row = record { name = n.text; indexed = is_some b; key = row.key }
 
-abbrev pub node_at_row : World → Token → Option Braces → Condition → Row → Node
+abbrev pub node_at_row : World → Token → Option Braces → Condition → Row → WrittenNode
 node_at_row w n b c row = record { label = label_at n b row; env = w; scope = row.scope; condition = c }
 
 abbrev pub arc_at_row : World → Token → Option Braces → List Phrase → Parts → Row → Arc
 arc_at_row w n b ps p row = record { label = label_at n b row; env = w; scope = row.scope; parts = p; phrases = ps }
 
 -- the nodes of a declaration, one for each key
-abbrev pub nodes_of : World → Declaration → List Node
+abbrev pub nodes_of : World → Declaration → List WrittenNode
 nodes_of w (node t n b c e) = map (node_at_row w n b c) (rows_of (indexing_in w b))
 nodes_of w _ = []
 
@@ -85,7 +85,7 @@ in_order f w k [] = []
 in_order f w k (d ∷ ds) = f (take k w) d ++ in_order f w (known_after k d) ds
 
 -- the nodes (`nodes`) and the arcs (`arcs`) of a model in its world
-abbrev pub nodes : World → List Declaration → List Node
+abbrev pub nodes : World → List Declaration → List WrittenNode
 nodes w ds = in_order nodes_of w 0 ds
 
 abbrev pub arcs : World → List Declaration → List Arc
@@ -104,7 +104,7 @@ arc_declared _ = []
 abbrev pub same_label : WrittenLabel → WrittenLabel → Bool
 same_label l m = bytes_eq l.name m.name && same_tuple l.key m.key
 
-pub record AreDistinct (ns : List Node) (all : List Arc) : Type 0 where
+pub record AreDistinct (ns : List WrittenNode) (all : List Arc) : Type 0 where
   pub nodes : IsDistinct same_label (map (λ n. n.label) ns)
   pub arcs : IsDistinct same_label (map (λ a. a.label) all)
 
@@ -168,10 +168,10 @@ pub record IsWithin (x : Assignment) (a : Arc) : Type 0 where
   pub upper : number_on x a ≤ℤ amount a.env a.scope a.parts.upper
 
 -- the condition of the node is true for its net inflow
-abbrev pub IsMet : List Arc → Assignment → Node → Type 0
+abbrev pub IsMet : List Arc → Assignment → WrittenNode → Type 0
 IsMet all x n = Holds n.env n.scope n.condition (net_inflow all x n.label)
 
 -- each arc is within its bounds, and each node's condition is true
-pub record IsFeasible (ns : List Node) (all : List Arc) (x : Assignment) : Type 0 where
+pub record IsFeasible (ns : List WrittenNode) (all : List Arc) (x : Assignment) : Type 0 where
   pub bounds : AllByRecursion (IsWithin x) all
   pub conditions : AllByRecursion (IsMet all x) ns

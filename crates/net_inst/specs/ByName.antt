@@ -10,7 +10,7 @@ use Rattle.net_normal.specs.declared.problem.Link.{Link}
 use Rattle.net_normal.specs.declared.problem.Problem.{Problem}
 use Rattle.net_expr.specs.Worlds.{Name, World}
 use Rattle.net_inst.specs.declared.network.Named.{Named as NamedOfCode}
-use Rattle.net_inst.specs.AsWritten.{Node, Arc, nodes, arcs, AreDistinct, Assignment, numbers_on, by_label, IsFeasible}
+use Rattle.net_inst.specs.AsWritten.{WrittenNode, Arc, nodes, arcs, AreDistinct, Assignment, numbers_on, by_label, IsFeasible}
 use Rattle.net_inst.specs.Instances.{network, seen_as}
 use Rattle.net_inst.specs.Readings.{Objective, objectives, chosen, value_of}
 
@@ -22,7 +22,7 @@ up all link flows = by_label (map (λ a. a.label) all) (mapped_back link flows)
 abbrev pub Agree : List Arc → Assignment → Assignment → Type 0
 Agree all x y = numbers_on x all ≡ numbers_on y all
 
-pub record CorrespondsByName (ns : List Node) (all : List Arc) (o : Objective) (problem : Problem) (link : Link) : Type 0 where
+pub record CorrespondsByName (ns : List WrittenNode) (all : List Arc) (o : Objective) (problem : Problem) (link : Link) : Type 0 where
   -- each feasible flow maps to a feasible assignment
   pub forward : (flows : List ℤ) → IsFeasibleFlow problem flows → IsFeasible ns all (up all link flows)
   -- surjective: every feasible assignment comes from a feasible flow

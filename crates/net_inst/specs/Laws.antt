@@ -19,7 +19,7 @@ use Rattle.net_inst.specs.declared.arc.Built.{Built}
 use Rattle.net_inst.specs.declared.network.Named.{Named as NamedOfCode}
 use Rattle.net_inst.specs.declared.network_names.Declared.{Declared}
 use Rattle.net_inst.specs.Lists.{Key, Listed, AreInOrder}
-use Rattle.net_inst.specs.AsWritten.{WrittenLabel, Node, Arc, rows_of, known_after, nodes, arcs, node_declared, arc_declared, same_label, Assignment, numbers_on, by_label, from_end, to_end, AreDistinct, IsFeasible}
+use Rattle.net_inst.specs.AsWritten.{WrittenLabel, WrittenNode, Arc, rows_of, known_after, nodes, arcs, node_declared, arc_declared, same_label, Assignment, numbers_on, by_label, from_end, to_end, AreDistinct, IsFeasible}
 use Rattle.net_expr.specs.Indexings.{indexing_in}
 use Rattle.net_expr.specs.Rows.{keys_of}
 use Rattle.net_inst.specs.Instances.{Network, network, seen_as}
@@ -46,7 +46,7 @@ pub record IsInSides (r : Sides) (inflow : ℤ) : Type 0 where
 
 -- a node's range contains a number if and only if the condition as written is true for it as the
 -- net inflow
-abbrev pub IsRangeOf : Node → Sides → Type 0
+abbrev pub IsRangeOf : WrittenNode → Sides → Type 0
 IsRangeOf n r = (y : ℤ) → IsInSides r y ↔ Holds n.env n.scope n.condition y
 
 abbrev pub HaveExactRanges : Type 0
