@@ -55,7 +55,7 @@ node_labels (n ∷ ns) (v ∷ vs) h =
     let more = node_labels ns vs h.1 in
     λ t. one t ∷ more t
 
-arc_labels : (xs : List written.Arc) (all : List meaning.Arc) → AllZip IsSameArc xs all → map (λ (x : written.Arc). x.label) xs ≡ map (λ (a : meaning.Arc). listed_label a.label) all
+arc_labels : (xs : List written.WrittenArc) (all : List meaning.Arc) → AllZip IsSameArc xs all → map (λ (x : written.WrittenArc). x.label) xs ≡ map (λ (a : meaning.Arc). listed_label a.label) all
 arc_labels [] [] h = refl
 arc_labels [] (a ∷ all) h = absurd h
 arc_labels (x ∷ xs) [] h = absurd h
@@ -155,7 +155,7 @@ module _ (represent : ProblemsRepresent) (worlds : WorldsAreSound) (models : mod
 
   -- ---- solved models
 
-  printed : (c : Compiled) (ns : List written.WrittenNode) (xs : List written.Arc) (p : Objective) (o : Outcome) → IsOutcome c ns xs p o → IsPrinted c o
+  printed : (c : Compiled) (ns : List written.WrittenNode) (xs : List written.WrittenArc) (p : Objective) (o : Outcome) → IsOutcome c ns xs p o → IsPrinted c o
   printed c ns xs p (Displayed text numbers value) h = h.displayed
   printed c ns xs p (Infeasible text flags side) h = (h.violated, h.reported)
 

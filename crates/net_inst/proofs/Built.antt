@@ -20,7 +20,7 @@ use Rattle.net_inst.specs.declared.node_name.Group.{Group}
 use Rattle.net_expr.specs.declared.indexing.Indexing.{Indexing}
 use Rattle.net_inst.specs.declared.network_names.Declared.{Declared}
 use Rattle.net_inst.specs.Arcs.{BuiltArcs, built, arcs_at, next_arc, with_arcs, named_arcs, arc_env, arc_text}
-use Rattle.net_inst.specs.AsWritten.{WrittenLabel, WrittenNode, Arc, rows_of, label_at, node_at_row, arc_at_row, arcs_with, same_label, from_end, to_end}
+use Rattle.net_inst.specs.AsWritten.{WrittenLabel, WrittenNode, WrittenArc, rows_of, label_at, node_at_row, arc_at_row, arcs_with, same_label, from_end, to_end}
 use Rattle.net_inst.specs.Groups.{group_with}
 use Rattle.net_expr.specs.Indexings.{indexing_in}
 use Rattle.net_inst.specs.Laws.{IsPlaceOf}
@@ -36,7 +36,7 @@ use Rattle.net_inst.proofs.Zips.{ok_then, ok_is, map_map, map_join, zip_join, zi
 abbrev pub node_labels : List WrittenNode → List WrittenLabel
 node_labels ns = map (λ n. n.label) ns
 
-abbrev pub arc_labels : List Arc → List WrittenLabel
+abbrev pub arc_labels : List WrittenArc → List WrittenLabel
 arc_labels all = map (λ a. a.label) all
 
 -- ---- nodes
@@ -112,22 +112,22 @@ nodes_more_are w n b c ns names d new h e =
 
 -- ---- arcs
 
-pub record HasEnds (labels : List WrittenLabel) (a : Arc) (x : Built) : Type 0 where
+pub record HasEnds (labels : List WrittenLabel) (a : WrittenArc) (x : Built) : Type 0 where
   pub from : IsPlaceOf labels (from_end a) x.tail
   pub to : IsPlaceOf labels (to_end a) x.head
 
 -- what is drawn of an arc
-pub record IsBuiltAs (labels : List WrittenLabel) (a : Arc) (x : Built) : Type 0 where
+pub record IsBuiltAs (labels : List WrittenLabel) (a : WrittenArc) (x : Built) : Type 0 where
   pub lower : value a.env a.scope a.parts.lower ≡ Ok (One (Number x.lower))
   pub upper : value a.env a.scope a.parts.upper ≡ Ok (One (Number x.upper))
   pub ends : IsDistinct same_label labels → HasEnds labels a x
 
-pub record AreArcs (labels : List WrittenLabel) (all : List Arc) (names : List Declared) (d : BuiltArcs) : Type 0 where
+pub record AreArcs (labels : List WrittenLabel) (all : List WrittenArc) (names : List Declared) (d : BuiltArcs) : Type 0 where
   pub built : AllZip (IsBuiltAs labels) all d.arcs
   pub group : IsGroup (arc_labels all) names d.group
 
 -- more arcs behind others
-pub record AreMoreArcs (labels : List WrittenLabel) (all : List Arc) (d new : BuiltArcs) : Type 0 where
+pub record AreMoreArcs (labels : List WrittenLabel) (all : List WrittenArc) (d new : BuiltArcs) : Type 0 where
   pub more : List Built
   pub whole : new.arcs ≡ d.arcs ++ more
   pub built : AllZip (IsBuiltAs labels) all more
@@ -162,17 +162,17 @@ arcs_are ns names dn h g w n b k p ps (row ∷ rows) d new e =
       group = rest.group ∙ one.group;
     })
 
-pub arcs_more_are : (ns : List WrittenNode) (node_names : List Declared) (dn : BuiltNodes) → AreNodes ns node_names dn → (g : Option ChosenObjective) (w : World) (n : Token) (b : Option Braces) (ps : List Phrase) (all : List Arc) (names : List Declared) (d new : BuiltArcs)
+pub arcs_more_are : (ns : List WrittenNode) (node_names : List Declared) (dn : BuiltNodes) → AreNodes ns node_names dn → (g : Option ChosenObjective) (w : World) (n : Token) (b : Option Braces) (ps : List Phrase) (all : List WrittenArc) (names : List Declared) (d new : BuiltArcs)
     → AreArcs (node_labels ns) all names d → with_arcs (arc_env g dn w) n b ps d ≡ Ok new → AreArcs (node_labels ns) (all ++ arcs_with w n b ps (parts_of n ps)) (names ++ (record { name = n.text; indexed = is_some b }) ∷ []) new
 arcs_more_are ns node_names dn hn g w n b ps all names d new h e =
     subst (AreArcs (node_labels ns) (all ++ arcs_with w n b ps (parts_of n ps)) more_names) by.is_named
-    (subst (λ (xs : List Arc). AreArcs (node_labels ns) (all ++ xs) more_names (named_arcs n.text (length d.arcs) by.indexing by.found)) (sym written)
+    (subst (λ (xs : List WrittenArc). AreArcs (node_labels ns) (all ++ xs) more_names (named_arcs n.text (length d.arcs) by.indexing by.found)) (sym written)
     (record {
       built = subst (AllZip (IsBuiltAs (node_labels ns)) (all ++ here)) (sym found.whole) (zip_join (IsBuiltAs (node_labels ns)) all here d.arcs found.more h.built found.built);
       group =
           subst (λ (ls : List WrittenLabel). IsGroup ls more_names (group_with by.found.group n.text (length d.arcs) by.indexing)) labels
           (subst (λ (z : Group). IsGroup (arc_labels all ++ map (label_at n b) by.indexing.rows) more_names (group_with z n.text (length d.arcs) by.indexing)) (sym found.group)
-          (group_more (arc_labels all) names d.group n b (length d.arcs) by.indexing h.group (zip_long (IsBuiltAs (node_labels ns)) all d.arcs h.built ∙ sym (length-map all (λ (v : Arc). v.label))) (count_is w b by.indexing by.keys)));
+          (group_more (arc_labels all) names d.group n b (length d.arcs) by.indexing h.group (zip_long (IsBuiltAs (node_labels ns)) all d.arcs h.built ∙ sym (length-map all (λ (v : WrittenArc). v.label))) (count_is w b by.indexing by.keys)));
     }))
   where
     by : AreArcsBy g dn w n b ps d new
@@ -181,7 +181,7 @@ arcs_more_are ns node_names dn hn g w n b ps all names d new h e =
     more_names : List Declared
     more_names = names ++ (record { name = n.text; indexed = is_some b }) ∷ []
 
-    here : List Arc
+    here : List WrittenArc
     here = map (arc_at_row w n b ps by.parts) by.indexing.rows
 
     found : AreMoreArcs (node_labels ns) here d by.found
@@ -192,11 +192,11 @@ arcs_more_are ns node_names dn hn g w n b ps all names d new h e =
 
     labels : arc_labels all ++ map (label_at n b) by.indexing.rows ≡ arc_labels (all ++ here)
     labels =
-        ap (λ (ls : List WrittenLabel). arc_labels all ++ ls) (sym (map_map (λ (v : Arc). v.label) (arc_at_row w n b ps by.parts) by.indexing.rows))
-        ∙ sym (map_join (λ (v : Arc). v.label) all here)
+        ap (λ (ls : List WrittenLabel). arc_labels all ++ ls) (sym (map_map (λ (v : WrittenArc). v.label) (arc_at_row w n b ps by.parts) by.indexing.rows))
+        ∙ sym (map_join (λ (v : WrittenArc). v.label) all here)
 
 -- behind more nodes the arcs stay
-pub arcs_stay : (labels more : List WrittenLabel) (all : List Arc) (names : List Declared) (d : BuiltArcs) → AreArcs labels all names d → AreArcs (labels ++ more) all names d
+pub arcs_stay : (labels more : List WrittenLabel) (all : List WrittenArc) (names : List Declared) (d : BuiltArcs) → AreArcs labels all names d → AreArcs (labels ++ more) all names d
 arcs_stay labels more all names d h = record {
   built = zip_as (IsBuiltAs labels) (IsBuiltAs (labels ++ more)) all d.arcs (λ a x u. record {
     lower = u.lower;

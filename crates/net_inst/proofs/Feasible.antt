@@ -22,7 +22,7 @@ use Rattle.net_expr.specs.Values.{value}
 use Rattle.net_expr.specs.Worlds.{Name, World, Scope}
 use Rattle.net_linear.specs.Conditions.{number_of}
 use Rattle.net_linear.specs.Amounts.{as_number}
-use Rattle.net_inst.specs.AsWritten.{WrittenLabel, WrittenNode, Arc, nodes, arcs, same_label, Assignment, number_on, numbers_on, by_label, is_named, from_end, to_end, flow_at_ends, net_inflow, amount, IsWithin, IsMet}
+use Rattle.net_inst.specs.AsWritten.{WrittenLabel, WrittenNode, WrittenArc, nodes, arcs, same_label, Assignment, number_on, numbers_on, by_label, is_named, from_end, to_end, flow_at_ends, net_inflow, amount, IsWithin, IsMet}
 use Rattle.net_inst.specs.Instances.{seen_as}
 use Rattle.net_inst.specs.Laws.{IsInSides, IsRangeOf, IsPlaceOf, IsBoundedAs, HasEndsOf, HaveFeasible, HaveAssignments}
 use Rattle.net_inst.specs.Nodes.{sides_of}
@@ -85,19 +85,19 @@ named_as labels v l (Some r) (Some u) d e h = ap (λ (n : Name). bytes_eq n l.na
 choices : (b c : Bool) (y : ℤ) (m n : ℤ) → b ≡ c → m ≡ n → (if b then y else pos 0) +ℤ m ≡ (if c then y else pos 0) +ℤ n
 choices b c y m n e f = ap (λ (t : Bool). (if t then y else pos 0) +ℤ m) e ∙ ap (λ (z : ℤ). (if c then y else pos 0) +ℤ z) f
 
-brought : (labels : List WrittenLabel) (v : ℕ) (l : WrittenLabel) → IsDistinct same_label labels → slice_get labels v ≡ Some l → (all : List Arc) (xs : List InstArc) (x : Assignment) → AllZip (HasEndsOf labels) all xs → flow_at_ends to_end l all x ≡ flow_on (enters v) xs (numbers_on x all)
+brought : (labels : List WrittenLabel) (v : ℕ) (l : WrittenLabel) → IsDistinct same_label labels → slice_get labels v ≡ Some l → (all : List WrittenArc) (xs : List InstArc) (x : Assignment) → AllZip (HasEndsOf labels) all xs → flow_at_ends to_end l all x ≡ flow_on (enters v) xs (numbers_on x all)
 brought labels v l d e [] [] x h = refl
 brought labels v l d e [] (q ∷ xs) x h = absurd h
 brought labels v l d e (a ∷ all) [] x h = absurd h
 brought labels v l d e (a ∷ all) (q ∷ xs) x h = choices (is_named l (to_end a)) (is_node v q.head) (number_on x a) _ _ (named_as labels v l (to_end a) q.head d e h.0.to) (brought labels v l d e all xs x h.1)
 
-taken : (labels : List WrittenLabel) (v : ℕ) (l : WrittenLabel) → IsDistinct same_label labels → slice_get labels v ≡ Some l → (all : List Arc) (xs : List InstArc) (x : Assignment) → AllZip (HasEndsOf labels) all xs → flow_at_ends from_end l all x ≡ flow_on (leaves v) xs (numbers_on x all)
+taken : (labels : List WrittenLabel) (v : ℕ) (l : WrittenLabel) → IsDistinct same_label labels → slice_get labels v ≡ Some l → (all : List WrittenArc) (xs : List InstArc) (x : Assignment) → AllZip (HasEndsOf labels) all xs → flow_at_ends from_end l all x ≡ flow_on (leaves v) xs (numbers_on x all)
 taken labels v l d e [] [] x h = refl
 taken labels v l d e [] (q ∷ xs) x h = absurd h
 taken labels v l d e (a ∷ all) [] x h = absurd h
 taken labels v l d e (a ∷ all) (q ∷ xs) x h = choices (is_named l (from_end a)) (is_node v q.tail) (number_on x a) _ _ (named_as labels v l (from_end a) q.tail d e h.0.from) (taken labels v l d e all xs x h.1)
 
-pub inflow_is : (labels : List WrittenLabel) (v : ℕ) (l : WrittenLabel) → IsDistinct same_label labels → slice_get labels v ≡ Some l → (all : List Arc) (xs : List InstArc) (x : Assignment) → AllZip (HasEndsOf labels) all xs → net_inflow all x l ≡ by_number.net_inflow xs (numbers_on x all) v
+pub inflow_is : (labels : List WrittenLabel) (v : ℕ) (l : WrittenLabel) → IsDistinct same_label labels → slice_get labels v ≡ Some l → (all : List WrittenArc) (xs : List InstArc) (x : Assignment) → AllZip (HasEndsOf labels) all xs → net_inflow all x l ≡ by_number.net_inflow xs (numbers_on x all) v
 inflow_is labels v l d e all xs x h = ap (λ (m : ℤ). m -ℤ flow_at_ends from_end l all x) (brought labels v l d e all xs x h) ∙ ap (λ (m : ℤ). flow_on (enters v) xs (numbers_on x all) -ℤ m) (taken labels v l d e all xs x h)
 
 -- ---- bounds
@@ -105,7 +105,7 @@ inflow_is labels v l d e all xs x h = ap (λ (m : ℤ). m -ℤ flow_at_ends from
 pub amount_of : (w : World) (s : Scope) (t : Tree) (n : ℤ) → value w s t ≡ Ok (One (Number n)) → amount w s t ≡ n
 amount_of w s t n e = ap (λ (o : Outcome Value). number_of (and_then o (λ v. Ok (as_number v)))) e
 
-within_to : (x : Assignment) (all : List Arc) (xs : List InstArc) → AllZip IsBoundedAs all xs → AllByRecursion (IsWithin x) all → AllZip IsWithinBounds xs (numbers_on x all)
+within_to : (x : Assignment) (all : List WrittenArc) (xs : List InstArc) → AllZip IsBoundedAs all xs → AllByRecursion (IsWithin x) all → AllZip IsWithinBounds xs (numbers_on x all)
 within_to x [] [] h k = tt
 within_to x [] (q ∷ xs) h k = absurd h
 within_to x (a ∷ all) [] h k = absurd h
@@ -117,7 +117,7 @@ within_to x (a ∷ all) (q ∷ xs) h k = (
   within_to x all xs h.1 k.1,
 )
 
-within_from : (x : Assignment) (all : List Arc) (xs : List InstArc) → AllZip IsBoundedAs all xs → AllZip IsWithinBounds xs (numbers_on x all) → AllByRecursion (IsWithin x) all
+within_from : (x : Assignment) (all : List WrittenArc) (xs : List InstArc) → AllZip IsBoundedAs all xs → AllZip IsWithinBounds xs (numbers_on x all) → AllByRecursion (IsWithin x) all
 within_from x [] [] h k = tt
 within_from x [] (q ∷ xs) h k = absurd h
 within_from x (a ∷ all) [] h k = absurd h
@@ -138,7 +138,7 @@ pub in_range_from : (r : NodeRange) (y : ℤ) → IsInSides (sides_of r) y → I
 in_range_from r y h = record { low = h.low; high = h.high }
 
 -- the v-th node and its range
-met_to : (f : ℕ → ℤ) (all : List Arc) (x : Assignment) (ns : List WrittenNode) (rs : List NodeRange) → AllZip IsRangeOf ns (map sides_of rs) → ((v : ℕ) (n : WrittenNode) → slice_get ns v ≡ Some n → net_inflow all x n.label ≡ f v) → AllByRecursion (IsMet all x) ns
+met_to : (f : ℕ → ℤ) (all : List WrittenArc) (x : Assignment) (ns : List WrittenNode) (rs : List NodeRange) → AllZip IsRangeOf ns (map sides_of rs) → ((v : ℕ) (n : WrittenNode) → slice_get ns v ≡ Some n → net_inflow all x n.label ≡ f v) → AllByRecursion (IsMet all x) ns
     → (v : ℕ) (r : NodeRange) → slice_get rs v ≡ Some r → IsInRange r (f v)
 met_to f all x [] [] h same k v r e = absurd (let j = e in cc)
 met_to f all x [] (q ∷ rs) h same k v r e = absurd h
@@ -148,7 +148,7 @@ met_to f all x (n ∷ ns) (q ∷ rs) h same k zero r e =
     subst (λ (z : NodeRange). IsInRange z (f zero)) is (in_range_from q (f zero) (subst (IsInSides (sides_of q)) (same zero n refl) ((h.0 (net_inflow all x n.label)).1 k.0)))
 met_to f all x (n ∷ ns) (q ∷ rs) h same k (suc v) r e = met_to (λ u. f (suc u)) all x ns rs h.1 (λ u m j. same (suc u) m j) k.1 v r e
 
-met_from : (f : ℕ → ℤ) (all : List Arc) (x : Assignment) (ns : List WrittenNode) (rs : List NodeRange) → AllZip IsRangeOf ns (map sides_of rs) → ((v : ℕ) (n : WrittenNode) → slice_get ns v ≡ Some n → net_inflow all x n.label ≡ f v)
+met_from : (f : ℕ → ℤ) (all : List WrittenArc) (x : Assignment) (ns : List WrittenNode) (rs : List NodeRange) → AllZip IsRangeOf ns (map sides_of rs) → ((v : ℕ) (n : WrittenNode) → slice_get ns v ≡ Some n → net_inflow all x n.label ≡ f v)
     → ((v : ℕ) (r : NodeRange) → slice_get rs v ≡ Some r → IsInRange r (f v)) → AllByRecursion (IsMet all x) ns
 met_from f all x [] [] h same k = tt
 met_from f all x [] (q ∷ rs) h same k = absurd h
@@ -189,7 +189,7 @@ have_feasible wanted w ds n e distinct x = (
 
 -- ---- numbers and assignments
 
-apart_stays : (l : WrittenLabel) (y : ℤ) (ls : List WrittenLabel) (ys : List ℤ) (all : List Arc) → AllByRecursion (λ m. same_label l m ≡ false) (map (λ a. a.label) all) → numbers_on (by_label (l ∷ ls) (y ∷ ys)) all ≡ numbers_on (by_label ls ys) all
+apart_stays : (l : WrittenLabel) (y : ℤ) (ls : List WrittenLabel) (ys : List ℤ) (all : List WrittenArc) → AllByRecursion (λ m. same_label l m ≡ false) (map (λ a. a.label) all) → numbers_on (by_label (l ∷ ls) (y ∷ ys)) all ≡ numbers_on (by_label ls ys) all
 apart_stays l y ls ys [] h = refl
 apart_stays l y ls ys (a ∷ all) h =
     let rest = apart_stays l y ls ys all h.1 in
@@ -201,7 +201,7 @@ have_assignments [] (y ∷ ys) d l = absurd (let e = l in omega arith)
 have_assignments (a ∷ all) [] d l = absurd (let e = l in omega arith)
 have_assignments (a ∷ all) (y ∷ ys) d l =
     let own = both a.label a.label refl refl in
-    let labels = map (λ (b : Arc). b.label) all in
+    let labels = map (λ (b : WrittenArc). b.label) all in
     let rest = have_assignments all ys (IsDistinct-tail same_label a.label labels d) (omega (arith, l)) in
     ap (λ (b : Bool). (if b then y else by_label labels ys a.label.name a.label.key) ∷ numbers_on (by_label (a.label ∷ labels) (y ∷ ys)) all) own
     ∙ ap (◌∷◌ y) (apart_stays a.label y labels ys all (IsDistinct-head same_label a.label labels d) ∙ rest)

@@ -11,7 +11,7 @@ use Rattle.net_tree.specs.Tree.{Braces, Phrase, Declaration, set, param, check, 
 use Rattle.net_expr.specs.declared.row.Row.{Row}
 use Rattle.net_expr.specs.Worlds.{Name, World}
 use Rattle.net_inst.specs.declared.network_names.Declared.{Declared}
-use Rattle.net_inst.specs.AsWritten.{WrittenLabel, WrittenNode, Arc, rows_of, label_at, node_at_row, arc_at_row, nodes_of, arcs_with, arcs_of, known_after, in_order, node_declared, arc_declared, same_label}
+use Rattle.net_inst.specs.AsWritten.{WrittenLabel, WrittenNode, WrittenArc, rows_of, label_at, node_at_row, arc_at_row, nodes_of, arcs_with, arcs_of, known_after, in_order, node_declared, arc_declared, same_label}
 use Rattle.net_expr.specs.Indexings.{indexing_in}
 use Rattle.net_expr.specs.Rows.{keys_of}
 use Rattle.net_inst.specs.Laws.{keys_by, HaveKeysOnce, same_name, AreDistinctAsDeclared}
@@ -133,7 +133,7 @@ abbrev node_labels_of : World → Declaration → List WrittenLabel
 node_labels_of w d = map (λ (v : WrittenNode). v.label) (nodes_of w d)
 
 abbrev arc_labels_of : World → Declaration → List WrittenLabel
-arc_labels_of w d = map (λ (v : Arc). v.label) (arcs_of w d)
+arc_labels_of w d = map (λ (v : WrittenArc). v.label) (arcs_of w d)
 
 nodes_labelled : Labels node_labels_of node_declared
 nodes_labelled = record { named = named; once = once }
@@ -157,10 +157,10 @@ nodes_labelled = record { named = named; once = once }
 arcs_labelled : Labels arc_labels_of arc_declared
 arcs_labelled = record { named = named; once = once }
   where
-    by_parts : (w : World) (n : Token) (b : Option Braces) (ps : List Phrase) (p : Parts) → map (label_at n b) (rows_of (indexing_in w b)) ≡ map (λ (v : Arc). v.label) (map (arc_at_row w n b ps p) (rows_of (indexing_in w b)))
-    by_parts w n b ps p = sym (map_map (λ (v : Arc). v.label) (arc_at_row w n b ps p) (rows_of (indexing_in w b)))
+    by_parts : (w : World) (n : Token) (b : Option Braces) (ps : List Phrase) (p : Parts) → map (label_at n b) (rows_of (indexing_in w b)) ≡ map (λ (v : WrittenArc). v.label) (map (arc_at_row w n b ps p) (rows_of (indexing_in w b)))
+    by_parts w n b ps p = sym (map_map (λ (v : WrittenArc). v.label) (arc_at_row w n b ps p) (rows_of (indexing_in w b)))
 
-    named_with : (w : World) (n : Token) (b : Option Braces) (ps : List Phrase) (d : Declared) → d.name ≡ n.text → (o : Outcome Parts) → AreOf (d ∷ []) (map (λ (v : Arc). v.label) (arcs_with w n b ps o))
+    named_with : (w : World) (n : Token) (b : Option Braces) (ps : List Phrase) (d : Declared) → d.name ≡ n.text → (o : Outcome Parts) → AreOf (d ∷ []) (map (λ (v : WrittenArc). v.label) (arcs_with w n b ps o))
     named_with w n b ps d e (Ok p) = subst (AreOf (d ∷ [])) (by_parts w n b ps p) (rows_named n b (rows_of (indexing_in w b)) d e)
     named_with w n b ps d e (Err r) = tt
 
@@ -172,7 +172,7 @@ arcs_labelled = record { named = named; once = once }
     named w (arc t n b ps e) = named_with w n b ps (record { name = n.text; indexed = is_some b }) refl (parts_of n ps)
     named w (objective t n p e) = tt
 
-    once_with : (w : World) (n : Token) (b : Option Braces) (ps : List Phrase) (o : Outcome Parts) → IsDistinct same_tuple (keys_of (rows_of (indexing_in w b))) → IsDistinct same_label (map (λ (v : Arc). v.label) (arcs_with w n b ps o))
+    once_with : (w : World) (n : Token) (b : Option Braces) (ps : List Phrase) (o : Outcome Parts) → IsDistinct same_tuple (keys_of (rows_of (indexing_in w b))) → IsDistinct same_label (map (λ (v : WrittenArc). v.label) (arcs_with w n b ps o))
     once_with w n b ps (Ok p) h = subst (IsDistinct same_label) (by_parts w n b ps p) (rows_once n b (rows_of (indexing_in w b)) h)
     once_with w n b ps (Err r) h = none_once
 
@@ -191,5 +191,5 @@ labels_in_order f v w k (d ∷ ds) = ap (λ (ls : List WrittenLabel). map v (f (
 pub are_distinct_as_declared : AreDistinctAsDeclared
 are_distinct_as_declared w ds h = record {
   nodes = subst (IsDistinct same_label) (labels_in_order nodes_of (λ (v : WrittenNode). v.label) w 0 ds) (labelled_once node_labels_of node_declared nodes_labelled w 0 ds h.keys h.nodes);
-  arcs = subst (IsDistinct same_label) (labels_in_order arcs_of (λ (v : Arc). v.label) w 0 ds) (labelled_once arc_labels_of arc_declared arcs_labelled w 0 ds h.keys h.arcs);
+  arcs = subst (IsDistinct same_label) (labels_in_order arcs_of (λ (v : WrittenArc). v.label) w 0 ds) (labelled_once arc_labels_of arc_declared arcs_labelled w 0 ds h.keys h.arcs);
 }

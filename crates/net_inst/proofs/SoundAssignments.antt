@@ -49,10 +49,10 @@ use Rattle.net_inst.proofs.Zips.{ok_then}
 
 -- ---- flows
 
-pub flow_same : (v : written.Arc) (a : meaning.Arc) (x : meaning.Assignment) → IsSameArc v a → meaning.flow_on x a ≡ number_on x v
+pub flow_same : (v : written.WrittenArc) (a : meaning.Arc) (x : meaning.Assignment) → IsSameArc v a → meaning.flow_on x a ≡ number_on x v
 flow_same v a x same = ap (λ (m : Name). x m a.label.key) same.name ∙ ap (x v.label.name) same.key
 
-pub flows_same : (xs : List written.Arc) (all : List meaning.Arc) (x : meaning.Assignment) → AllZip IsSameArc xs all → map (meaning.flow_on x) all ≡ map (number_on x) xs
+pub flows_same : (xs : List written.WrittenArc) (all : List meaning.Arc) (x : meaning.Assignment) → AllZip IsSameArc xs all → map (meaning.flow_on x) all ≡ map (number_on x) xs
 flows_same [] [] x h = refl
 flows_same [] (a ∷ all) x h = absurd h
 flows_same (v ∷ xs) [] x h = absurd h
@@ -66,13 +66,13 @@ at_label None l = refl
 at_label (Some r) l = refl
 
 -- the part of an arc in the net inflow, at one of its ends
-at_end : (v : written.Arc) (a : meaning.Arc) (x : meaning.Assignment) (l : written.WrittenLabel) (r q : Option (Name × Tuple)) → IsSameArc v a → r ≡ q → (if is_at r (as_label l) then meaning.flow_on x a else pos 0) ≡ (if is_named l q then number_on x v else pos 0)
+at_end : (v : written.WrittenArc) (a : meaning.Arc) (x : meaning.Assignment) (l : written.WrittenLabel) (r q : Option (Name × Tuple)) → IsSameArc v a → r ≡ q → (if is_at r (as_label l) then meaning.flow_on x a else pos 0) ≡ (if is_named l q then number_on x v else pos 0)
 at_end v a x l r q same e =
     ap (λ (o : Option (Name × Tuple)). if is_at o (as_label l) then meaning.flow_on x a else pos 0) e
     ∙ ap (λ (b : Bool). if b then meaning.flow_on x a else pos 0) (at_label q l)
     ∙ ap (λ (n : ℤ). if is_named l q then n else pos 0) (flow_same v a x same)
 
-inflow_same : (xs : List written.Arc) (all : List meaning.Arc) (x : meaning.Assignment) (l : written.WrittenLabel) → AllZip IsSameArc xs all → meaning.net_inflow all x (as_label l) ≡ written.net_inflow xs x l
+inflow_same : (xs : List written.WrittenArc) (all : List meaning.Arc) (x : meaning.Assignment) (l : written.WrittenLabel) → AllZip IsSameArc xs all → meaning.net_inflow all x (as_label l) ≡ written.net_inflow xs x l
 inflow_same [] [] x l h = omega (arith, ints)
 inflow_same [] (a ∷ all) x l h = absurd h
 inflow_same (v ∷ xs) [] x l h = absurd h
@@ -83,7 +83,7 @@ inflow_same (v ∷ xs) (a ∷ all) x l h = omega (arith, ints, at_end v a x l a.
 abbrev Bounded : meaning.Assignment → meaning.Arc → Type 0
 Bounded x a = (a.lower ≤ℤ meaning.flow_on x a) × (meaning.flow_on x a ≤ℤ a.upper)
 
-bounds_to : (xs : List written.Arc) (all : List meaning.Arc) (is : List InstArc) (x : meaning.Assignment) → AllZip IsSameArc xs all → AllZip HasBounds all is → AllZip IsBoundedAs xs is → AllByRecursion (Bounded x) all → AllByRecursion (IsWithin x) xs
+bounds_to : (xs : List written.WrittenArc) (all : List meaning.Arc) (is : List InstArc) (x : meaning.Assignment) → AllZip IsSameArc xs all → AllZip HasBounds all is → AllZip IsBoundedAs xs is → AllByRecursion (Bounded x) all → AllByRecursion (IsWithin x) xs
 bounds_to [] all is x same has ok h = tt
 bounds_to (v ∷ xs) [] is x same has ok h = absurd same
 bounds_to (v ∷ xs) (a ∷ all) [] x same has ok h = absurd has
@@ -95,7 +95,7 @@ bounds_to (v ∷ xs) (a ∷ all) (i ∷ is) x same has ok h =
       bounds_to xs all is x same.1 has.1 ok.1 h.1,
     )
 
-bounds_from : (xs : List written.Arc) (all : List meaning.Arc) (is : List InstArc) (x : meaning.Assignment) → AllZip IsSameArc xs all → AllZip HasBounds all is → AllZip IsBoundedAs xs is → AllByRecursion (IsWithin x) xs → AllByRecursion (Bounded x) all
+bounds_from : (xs : List written.WrittenArc) (all : List meaning.Arc) (is : List InstArc) (x : meaning.Assignment) → AllZip IsSameArc xs all → AllZip HasBounds all is → AllZip IsBoundedAs xs is → AllByRecursion (IsWithin x) xs → AllByRecursion (Bounded x) all
 bounds_from [] [] is x same has ok h = tt
 bounds_from [] (a ∷ all) is x same has ok h = absurd same
 bounds_from (v ∷ xs) [] is x same has ok h = absurd same
@@ -157,7 +157,7 @@ label_is n v same =
     let key = same.key in
     λ t. record { name = name t; indexed = indexed t; key = key t }
 
-module _ (xs : List written.Arc) (all : List meaning.Arc) (x : meaning.Assignment) (arcs : AllZip IsSameArc xs all) where
+module _ (xs : List written.WrittenArc) (all : List meaning.Arc) (x : meaning.Assignment) (arcs : AllZip IsSameArc xs all) where
   abbrev Satisfied : meaning.Node → Type 0
   Satisfied v = IsSatisfied v.env v.condition (meaning.net_inflow all x v.label)
 

@@ -32,7 +32,7 @@ node_labels_are (x ∷ ns) (v ∷ vs) h =
     let rest = node_labels_are ns vs h.1 in
     λ t. (record { name = name t; indexed = indexed t; key = key t }) ∷ rest t
 
-arc_labels_are : (xs : List written.Arc) (all : List meaning.Arc) → AllZip IsSameArc xs all → map as_label (arc_labels xs) ≡ map (λ (a : meaning.Arc). a.label) all
+arc_labels_are : (xs : List written.WrittenArc) (all : List meaning.Arc) → AllZip IsSameArc xs all → map as_label (arc_labels xs) ≡ map (λ (a : meaning.Arc). a.label) all
 arc_labels_are [] [] h = refl
 arc_labels_are [] (a ∷ all) h = absurd h
 arc_labels_are (x ∷ xs) [] h = absurd h
@@ -56,7 +56,7 @@ labels_apart (l ∷ ls) h = (go ls h.0, labels_apart ls h.1)
 pub nodes_apart : (ns : List written.WrittenNode) (vs : List meaning.Node) → AllZip IsSameNode ns vs → IsDistinct written.same_label (node_labels ns) → IsDistinct meaning.same_label (map (λ (v : meaning.Node). v.label) vs)
 nodes_apart ns vs same h = subst (IsDistinct meaning.same_label) (node_labels_are ns vs same) (labels_apart (node_labels ns) h)
 
-pub arcs_apart : (xs : List written.Arc) (all : List meaning.Arc) → AllZip IsSameArc xs all → IsDistinct written.same_label (arc_labels xs) → IsDistinct meaning.same_label (map (λ (a : meaning.Arc). a.label) all)
+pub arcs_apart : (xs : List written.WrittenArc) (all : List meaning.Arc) → AllZip IsSameArc xs all → IsDistinct written.same_label (arc_labels xs) → IsDistinct meaning.same_label (map (λ (a : meaning.Arc). a.label) all)
 arcs_apart xs all same h = subst (IsDistinct meaning.same_label) (arc_labels_are xs all same) (labels_apart (arc_labels xs) h)
 
 -- ---- ends
@@ -89,7 +89,7 @@ at_node ns vs same (Some r) (Some i) p = found_at r ns vs i p.0 same p.1 p.2 p.3
 abbrev pub HasEnd : meaning.Arc → Type 0
 HasEnd a = IsTrue (is_some a.from || is_some a.to)
 
-pub ends_are_nodes : (ns : List written.WrittenNode) (vs : List meaning.Node) (xs : List written.Arc) (all : List meaning.Arc) (is : List InstArc) → AllZip IsSameNode ns vs → AllZip IsSameArc xs all → AllZip (HasEndsOf (node_labels ns)) xs is
+pub ends_are_nodes : (ns : List written.WrittenNode) (vs : List meaning.Node) (xs : List written.WrittenArc) (all : List meaning.Arc) (is : List InstArc) → AllZip IsSameNode ns vs → AllZip IsSameArc xs all → AllZip (HasEndsOf (node_labels ns)) xs is
     → AllByRecursion HasEnd all → AllByRecursion (λ (a : meaning.Arc). IsNodeAt vs a.from × IsNodeAt vs a.to × IsTrue (is_some a.from || is_some a.to)) all
 ends_are_nodes ns vs xs [] is nodes same ends h = tt
 ends_are_nodes ns vs [] (a ∷ all) is nodes same ends h = absurd same

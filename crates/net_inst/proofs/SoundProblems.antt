@@ -73,7 +73,7 @@ record HasNodes (vs : List meaning.Node) (outside : ℕ) (a : meaning.Arc) (x : 
   from : IsNodeNumber vs a.from (unwrap_or x.tail outside)
   to : IsNodeNumber vs a.to (unwrap_or x.head outside)
 
-have_nodes : (ns : List written.WrittenNode) (vs : List meaning.Node) (xs : List written.Arc) (all : List meaning.Arc) (is : List InstArc) → AllZip IsSameNode ns vs → AllZip IsSameArc xs all → AllZip (HasEndsOf (node_labels ns)) xs is → AllZip (HasNodes vs (length vs)) all is
+have_nodes : (ns : List written.WrittenNode) (vs : List meaning.Node) (xs : List written.WrittenArc) (all : List meaning.Arc) (is : List InstArc) → AllZip IsSameNode ns vs → AllZip IsSameArc xs all → AllZip (HasEndsOf (node_labels ns)) xs is → AllZip (HasNodes vs (length vs)) all is
 have_nodes ns vs [] [] [] nodes same ends = tt
 have_nodes ns vs [] [] (i ∷ is) nodes same ends = absurd ends
 have_nodes ns vs [] (a ∷ all) is nodes same ends = absurd same

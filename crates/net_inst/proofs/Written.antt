@@ -13,7 +13,7 @@ use Rattle.net_inst.specs.declared.arc.Built.{Built}
 use Rattle.net_inst.specs.declared.node_name.Group.{Group}
 use Rattle.net_inst.specs.declared.network_names.Declared.{Declared}
 use Rattle.net_inst.specs.Arcs.{with_arcs, arc_env}
-use Rattle.net_inst.specs.AsWritten.{WrittenLabel, WrittenNode, Arc, nodes_of, arcs_of, nodes, arcs, known_after, in_order, node_declared, arc_declared, same_label}
+use Rattle.net_inst.specs.AsWritten.{WrittenLabel, WrittenNode, WrittenArc, nodes_of, arcs_of, nodes, arcs, known_after, in_order, node_declared, arc_declared, same_label}
 use Rattle.net_inst.specs.Drafts.{Drawing, nothing, env, part_form, aimed, passed, is_chosen, with_goal, with_objective, known_more, nodes_more, arcs_more, declare, draw}
 use Rattle.net_inst.specs.Instances.{Network, with_coefficients}
 use Rattle.net_inst.specs.Laws.{IsInSides, IsRangeOf, HaveExactRanges, AreNames, AreNamesOf, HaveNames, IsBoundedAs, HaveBounds, HasEndsOf, HaveEnds}
@@ -27,7 +27,7 @@ use Rattle.net_inst.proofs.Zips.{ok_then, ok_is, map_join, zip_as}
 pub record Lines : Type 0 where
   pub nodes : List WrittenNode
   pub node_names : List Declared
-  pub arcs : List Arc
+  pub arcs : List WrittenArc
   pub arc_names : List Declared
 
 abbrev pub lines_of : World → Declaration → Lines
@@ -46,7 +46,7 @@ after_none : (a b : Lines) → b.nodes ≡ [] → b.node_names ≡ [] → b.arcs
 after_none a b h i j k =
     let p = sym (append-nil a.nodes) ∙ ap (λ (x : List WrittenNode). a.nodes ++ x) (sym h) in
     let q = sym (append-nil a.node_names) ∙ ap (λ (x : List Declared). a.node_names ++ x) (sym i) in
-    let r = sym (append-nil a.arcs) ∙ ap (λ (x : List Arc). a.arcs ++ x) (sym j) in
+    let r = sym (append-nil a.arcs) ∙ ap (λ (x : List WrittenArc). a.arcs ++ x) (sym j) in
     let s = sym (append-nil a.arc_names) ∙ ap (λ (x : List Declared). a.arc_names ++ x) (sym k) in
     λ t. record { nodes = p t; node_names = q t; arcs = r t; arc_names = s t }
 
@@ -114,7 +114,7 @@ next_is wanted w m (node t n b c z) d new h e =
       is_written = record {
         nodes = nodes_more_are (env w d) n b c m.nodes m.node_names d.nodes ns h.nodes i;
         arcs =
-            subst (λ (xs : List Arc). AreArcs (node_labels (m.nodes ++ nodes_of (env w d) (node t n b c z))) xs (m.arc_names ++ []) d.arcs) (sym (append-nil m.arcs))
+            subst (λ (xs : List WrittenArc). AreArcs (node_labels (m.nodes ++ nodes_of (env w d) (node t n b c z))) xs (m.arc_names ++ []) d.arcs) (sym (append-nil m.arcs))
             (subst (λ (xs : List Declared). AreArcs (node_labels (m.nodes ++ nodes_of (env w d) (node t n b c z))) m.arcs xs d.arcs) (sym (append-nil m.arc_names))
             (subst (λ (ls : List WrittenLabel). AreArcs ls m.arcs m.arc_names d.arcs) (sym (map_join (λ (v : WrittenNode). v.label) m.nodes (nodes_of (env w d) (node t n b c z))))
             (arcs_stay (node_labels m.nodes) (node_labels (nodes_of (env w d) (node t n b c z))) m.arcs m.arc_names d.arcs h.arcs)));
@@ -191,7 +191,7 @@ have_names wanted w ds n e =
       arcs = names_are (arc_labels (arcs w ds)) (flat_map arc_declared ds) f.drawing.arcs.group all.arcs.group;
     })
 
-bounded : (labels : List WrittenLabel) (ps : Products) (a : ℕ) (all : List Arc) (xs : List Built) → AllZip (IsBuiltAs labels) all xs → AllZip IsBoundedAs all (with_coefficients ps a xs)
+bounded : (labels : List WrittenLabel) (ps : Products) (a : ℕ) (all : List WrittenArc) (xs : List Built) → AllZip (IsBuiltAs labels) all xs → AllZip IsBoundedAs all (with_coefficients ps a xs)
 bounded labels ps a [] [] h = tt
 bounded labels ps a [] (x ∷ xs) h = absurd h
 bounded labels ps a (y ∷ all) [] h = absurd h
@@ -203,7 +203,7 @@ have_bounds wanted w ds n e =
     let all = all_written wanted w ds f.drawing f.is_built in
     subst (AllZip IsBoundedAs (arcs w ds)) (ap (λ (z : Network). z.arcs) f.whole) (bounded (node_labels (nodes w ds)) f.drawing.arcs.form.products 0 (arcs w ds) f.drawing.arcs.arcs all.arcs.built)
 
-with_ends : (labels : List WrittenLabel) → IsDistinct same_label labels → (ps : Products) (a : ℕ) (all : List Arc) (xs : List Built) → AllZip (IsBuiltAs labels) all xs → AllZip (HasEndsOf labels) all (with_coefficients ps a xs)
+with_ends : (labels : List WrittenLabel) → IsDistinct same_label labels → (ps : Products) (a : ℕ) (all : List WrittenArc) (xs : List Built) → AllZip (IsBuiltAs labels) all xs → AllZip (HasEndsOf labels) all (with_coefficients ps a xs)
 with_ends labels distinct ps a [] [] h = tt
 with_ends labels distinct ps a [] (x ∷ xs) h = absurd h
 with_ends labels distinct ps a (y ∷ all) [] h = absurd h

@@ -65,7 +65,7 @@ pub record IsSameNode (v : written.WrittenNode) (a : meaning.Node) : Type 0 wher
   pub env : a.env ≡ env_of v.env v.scope
 
 -- an arc as written and its meaning have the same label and the same ends
-pub record IsSameArc (v : written.Arc) (a : meaning.Arc) : Type 0 where
+pub record IsSameArc (v : written.WrittenArc) (a : meaning.Arc) : Type 0 where
   pub name : a.label.name ≡ v.label.name
   pub indexed : a.label.indexed ≡ v.label.indexed
   pub key : a.label.key ≡ v.label.key
