@@ -16,7 +16,7 @@ use Rattle.net_data.specs.declared.statement.Statement.{Statement}
 use Rattle.net_data.specs.declared.statement.Statement.TheVariants.{Set, List as Listed, Table, Columns}
 use Rattle.net_data.specs.declared.statement.TableStatement.{TableStatement}
 use Rattle.net_data.specs.declared.statement.Transposed.{Transposed}
-use Rattle.net_data.specs.Rows.{Row, points, row_of, rows, groups_from, groups, row_across, table_rows}
+use Rattle.net_data.specs.Rows.{DataRow, points, row_of, rows, groups_from, groups, row_across, table_rows}
 use Rattle.net_sets.specs.declared.member.Member.{Member}
 use Rattle.net_sets.specs.Sets.{Tuple}
 use Rattle.net_expr.specs.Worlds.{Name}
@@ -117,7 +117,7 @@ all_cut P n ts h = go (nat_eq n 0)
 
 -- ---- the rows of the statements
 
-abbrev pub given_of : ℕ → NamedData → List Row
+abbrev pub given_of : ℕ → NamedData → List DataRow
 given_of size m = rows_given size m.given
 
 line_is : (transposed : Option Transposed) (columns line : List Token) → rows_across (is_some transposed) columns line ≡ row_across transposed columns line
@@ -142,7 +142,7 @@ column_is : (size l place : ℕ) (c : ColumnsStatement) → place < length c.nam
 column_is size l place c h = ap (flat_map (λ group. row_of (take size group) (slice_get group (size + place)))) (cut_is (size + length c.names) (size + length c.names) c.cells refl (omega (arith, h)))
 
 -- the data of one part, if its name is n
-part_rows : (size : ℕ) (b : Bool) (m : NamedData) (rows : List Row) → given_of size m ≡ rows → flat_map (given_of size) (if b then m ∷ [] else []) ≡ (if b then rows else [])
+part_rows : (size : ℕ) (b : Bool) (m : NamedData) (rows : List DataRow) → given_of size m ≡ rows → flat_map (given_of size) (if b then m ∷ [] else []) ≡ (if b then rows else [])
 part_rows size true m rows e = append-nil (given_of size m) ∙ e
 part_rows size false m rows e = refl
 
@@ -163,7 +163,7 @@ set_rows_none size l values cells n (Some s) h = ap (λ b. if b then named s.nam
 statement_rows : (ds : Declared) (i size : ℕ) (n : Name) (s : Statement) → NamesNoSet n s → flat_map (given_of size) (data_in ds i n s) ≡ rows_of size n s
 statement_rows ds i size n (Set s) h = part_rows size (bytes_eq s.name.text n) (named s.name None (given.Members s.items)) [] refl ∙ none_so (bytes_eq s.name.text n)
   where
-    none_so : (b : Bool) → (let l : List Row = if b then [] else [] in l) ≡ []
+    none_so : (b : Bool) → (let l : List DataRow = if b then [] else [] in l) ≡ []
     none_so true = refl
     none_so false = refl
 statement_rows ds i size n (Listed l) h =

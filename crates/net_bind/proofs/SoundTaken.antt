@@ -16,7 +16,7 @@ use Rattle.net_data.specs.declared.statement.NamedSet.{NamedSet}
 use Rattle.net_data.specs.declared.statement.Statement.{Statement}
 use Rattle.net_data.specs.declared.statement.Statement.TheVariants.{Set, List as Listed, Table, Columns}
 use Rattle.net_data.specs.Meaning.{IsDefault, IsStatement}
-use Rattle.net_data.specs.Rows.{Row, points, row_of}
+use Rattle.net_data.specs.Rows.{DataRow, points, row_of}
 use Rattle.net_data.specs.Tests.{is_member, stands_for_member}
 use Rattle.net_expr.specs.Worlds.{Name}
 use Rattle.net_expr.proofs.Walked.{all_join}
@@ -103,7 +103,7 @@ default_members (m ∷ ms) h = go m.default h.0.1 (default_members ms h.1)
 
 -- ---- rows that have this number of members, and a value
 
-pub record IsWhole (size : ℕ) (r : Row) : Type 0 where
+pub record IsWhole (size : ℕ) (r : DataRow) : Type 0 where
   pub long : length r.keys ≡ size
   pub members : AllByRecursion IsMember r.keys
   pub value : IsMember r.value
@@ -112,7 +112,7 @@ cell_whole : (size : ℕ) (key : List Token) (v : Option Token) → length key �
 cell_whole size key None l h k = tt
 cell_whole size key (Some x) l h k = go (points x.kind) refl
   where
-    row : Row
+    row : DataRow
     row = record { keys = key; value = x }
 
     go : (b : Bool) → points x.kind ≡ b → AllByRecursion (IsWhole size) (if b then [] else row ∷ [])

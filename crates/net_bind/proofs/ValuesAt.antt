@@ -12,7 +12,7 @@ use Rattle.net_sets.specs.declared.member.Member.{Member}
 use Rattle.net_sets.specs.Limits.{tuples_limit}
 use Rattle.net_sets.specs.Sets.{Tuple, same_tuple, has, at_key}
 use Rattle.net_sets.proofs.Sames.{same_itself, same_turned}
-use Rattle.net_data.specs.Rows.{Row as DataRow, points, row_of}
+use Rattle.net_data.specs.Rows.{DataRow, points, row_of}
 use Rattle.net_tree.specs.Tree.{Braces, Phrase}
 use Rattle.net_expr.specs.declared.indexing.Indexing.{Indexing}
 use Rattle.net_expr.specs.declared.row.Row.{Row}

@@ -3,7 +3,7 @@
 use Rattle.std.specs.Prelude.{◌≡◌, ℕ, ◌+◌, true, Bool, List, [], ◌∷◌, length, map, take, slice_get, Option, None, Some, Ok}
 use Rattle.std.specs.List.{AllByRecursion, IsDistinct, flat_map, zip}
 use Rattle.net_lex.specs.declared.token.Token.{Token}
-use Rattle.net_data.specs.Rows.{Row as DataRow, row_of}
+use Rattle.net_data.specs.Rows.{DataRow, row_of}
 use Rattle.net_sets.specs.declared.member.Member.{Member}
 use Rattle.net_sets.specs.Sets.{Tuple, same_tuple, has, at_key}
 use Rattle.net_tree.specs.Tree.{Braces, Phrase}
