@@ -23,8 +23,8 @@ use Rattle.net_expr.specs.Worlds.{Name}
 use Rattle.net_tree.proofs.Numerals.{value_is}
 use Rattle.net_expr.proofs.Walked.{all_join}
 use Rattle.net_meaning.specs.World.{IsDataValueOf, IsDataValue, AreDataValues, rows_at, rows_of, is_set_named, default_token, default_in, count_name, mentions_in, mentions, data_rows, data_defaults}
-use Rattle.net_bind.specs.declared.given.Given.{Given}
-use Rattle.net_bind.specs.declared.given.Given.TheVariants as given
+use Rattle.net_bind.specs.declared.given.DataContent.{DataContent}
+use Rattle.net_bind.specs.declared.given.DataContent.TheVariants as given
 use Rattle.net_bind.specs.declared.given.NamedData.{NamedData}
 use Rattle.net_bind.specs.Cells.{number_or_name, member_of, member_in}
 use Rattle.net_bind.specs.DataByName.{default_word, given_cells, grouped, gridded, named}
@@ -213,7 +213,7 @@ set_defaults l values cells n (Some s) = go (bytes_eq s.name.text n)
     go true = refl
     go false = refl
 
-part_defaults : (word : Token) (d : Option DefaultValue) (g : Given) (b : Bool) → defaults_of (if b then named word (default_word d) g ∷ [] else []) ≡ cons_option (if b then default_token d else None) []
+part_defaults : (word : Token) (d : Option DefaultValue) (g : DataContent) (b : Bool) → defaults_of (if b then named word (default_word d) g ∷ [] else []) ≡ cons_option (if b then default_token d else None) []
 part_defaults word None g true = refl
 part_defaults word (Some d) g true = refl
 part_defaults word d g false = refl

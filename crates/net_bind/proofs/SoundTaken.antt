@@ -20,8 +20,8 @@ use Rattle.net_data.specs.Rows.{DataRow, points, row_of}
 use Rattle.net_data.specs.Tests.{is_member, stands_for_member}
 use Rattle.net_expr.specs.Worlds.{Name}
 use Rattle.net_expr.proofs.Walked.{all_join}
-use Rattle.net_bind.specs.declared.given.Given.{Given}
-use Rattle.net_bind.specs.declared.given.Given.TheVariants as given
+use Rattle.net_bind.specs.declared.given.DataContent.{DataContent}
+use Rattle.net_bind.specs.declared.given.DataContent.TheVariants as given
 use Rattle.net_bind.specs.declared.given.NamedData.{NamedData}
 use Rattle.net_bind.specs.DataByName.{default_word, given_cells, grouped, gridded, named}
 use Rattle.net_bind.specs.DataFor.{leader, headed_for, set_for, data_in, data_for}
@@ -37,7 +37,7 @@ use Rattle.net_bind.proofs.SoundRows.{IsMember, all_flat, all_take, all_at, all_
 -- ---- the tokens of the data
 
 -- the columns of a table are members, and numerals have values
-abbrev pub HasMembers : Given → Type 0
+abbrev pub HasMembers : DataContent → Type 0
 HasMembers (given.Members ts) = Unit {0}
 HasMembers (given.Groups g) = AllByRecursion HasValue g.cells
 HasMembers (given.Grid g) = AllByRecursion IsMember g.columns × AllByRecursion HasValue g.cells
@@ -176,7 +176,7 @@ two word n u e = go (nat_eq n 2) refl e
     go true f k = eqb-true n 2 f
     go false f k = cc
 
-pub rows_whole : (widths : List ℕ) (size : ℕ) (word : Token) (g : Given) (u : Unit {0}) → shaped widths size word g ≡ Ok u → HasMembers g → AllByRecursion (IsWhole size) (rows_given size g)
+pub rows_whole : (widths : List ℕ) (size : ℕ) (word : Token) (g : DataContent) (u : Unit {0}) → shaped widths size word g ≡ Ok u → HasMembers g → AllByRecursion (IsWhole size) (rows_given size g)
 rows_whole widths size word (given.Members ts) u e h = tt
 rows_whole widths size word (given.Groups g) u e h =
     then_ok (agrees word (leading_size widths g.leader size) size) (λ v. whole_groups word.span size (size + g.values) (cut (size + g.values) g.cells)) u e (λ v i k.

@@ -6,7 +6,7 @@ ghost use Rattle.net_bind.specs.DataByName as named_data;
 ghost use Rattle.net_base.specs.Outcomes.{Refines, Updates};
 
 use crate::declared_names::DeclaredNames;
-use crate::given::{DataFor, Given, Grid, Groups, Line, NamedData};
+use crate::given::{DataContent, DataFor, Grid, Groups, Line, NamedData};
 use net_base::{Fault, Items};
 use net_data::{
     ColumnsStatement, DefaultValue, ListStatement, NamedSet, SetStatement, Statement,
@@ -21,7 +21,7 @@ fn add<'m, 't, 's>(
     is_set: bool,
     word: &Word<'t, 's>,
     default: Option<Word<'t, 's>>,
-    given: Given<'m, 't, 's>,
+    given: DataContent<'m, 't, 's>,
     all: &mut Vec<DataFor<'m, 't, 's>>,
 ) -> Result<(), Fault>
     ensures { Updates (named_data.with_named names.now is_set word.now (λ i. named_data.named word.now default.entry given.entry) all.old.items)
@@ -47,7 +47,7 @@ fn in_set<'t, 's>(
 ) -> Result<(), Fault>
     ensures { Updates (named_data.in_statement names.now (Statements.Set set.now) all.old.items) result all.new.items }
 {
-    let given = Given::Members(set.items.copied());
+    let given = DataContent::Members(set.items.copied());
     add(names, true, &set.name, None, given, all)
 }
 
@@ -82,7 +82,7 @@ fn in_list<'m, 't, 's>(
         false,
         &list.name,
         default,
-        Given::Groups(groups),
+        DataContent::Groups(groups),
         all,
     )
 }
@@ -101,7 +101,14 @@ fn in_table<'m, 't, 's>(
         cells: Line::new(table.cells.as_slice()),
     };
     let default = default_word(&table.default);
-    add(names, false, &table.name, default, Given::Grid(grid), all)
+    add(
+        names,
+        false,
+        &table.name,
+        default,
+        DataContent::Grid(grid),
+        all,
+    )
 }
 
 fn set_first<'s>(
@@ -149,10 +156,10 @@ fn groups_of<'m, 't, 's>(
     leader: usize,
     place: usize,
     columns: &'m ColumnsStatement<'t, 's>,
-) -> Given<'m, 't, 's>
+) -> DataContent<'m, 't, 's>
     ensures { result ≡ named_data.grouped leader (length columns.entry.now.names) place columns.entry.now.cells }
 {
-    Given::Groups(Groups {
+    DataContent::Groups(Groups {
         leader,
         values: columns.names.as_slice().len(),
         place,
