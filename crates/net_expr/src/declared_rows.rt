@@ -20,7 +20,7 @@ use crate::scope::{Scope, is_same_name};
 use crate::world::Env;
 use net_base::{Excerpt, Items};
 use net_sets::{ARITY_LIMIT, Cow, KeyList, TUPLES_LIMIT, TupleSet, narrowest, widest};
-use net_tree::{Braces, Expr, Link, sides_of};
+use net_tree::{Braces, Expr, LinkedOperand, sides_of};
 use std::alloc::{AllocError, Global};
 
 /// An item over a declared set.
@@ -65,7 +65,7 @@ fn add_dummy<'s>(
 /// Adds the names of new dummies, and returns whether all components are some.
 fn add_dummies<'s>(
     env: &Env<'_, 's>,
-    components: &[Link<'s>],
+    components: &[LinkedOperand<'s>],
     names: &mut Vec<Excerpt<'s>>,
 ) -> Result<bool, AllocError>
     ensures { IfOk result (λ added. IsTrue added → AreNewDummies env.now (links_of components.now) names.old.items names.new.items) }
