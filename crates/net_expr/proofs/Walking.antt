@@ -7,7 +7,7 @@ use Rattle.net_base.specs.declared.diagnostic.Span.{Span}
 use Rattle.net_lex.specs.declared.token.Token.{Token}
 use Rattle.net_sets.specs.Sets.{Tuple}
 use Rattle.net_tree.specs.declared.expr.LinkedOperand.{LinkedOperand, out-LinkedOperand}
-use Rattle.net_tree.specs.declared.operator.Words.{Words as Operator}
+use Rattle.net_tree.specs.declared.operator.OperatorWords.{OperatorWords as Operator}
 use Rattle.net_tree.specs.Spans.{span_of, span_between}
 use Rattle.net_tree.specs.Tree.{Tree, Links, Part, Braces, indexed, tuple, negated, signed, reduced, chain, choice, none, link, filled, absent, part}
 use Rattle.net_tree.specs.View.{tree, links_of}

@@ -4,7 +4,7 @@
 ghost use Rattle.std.specs.Prelude.{◌≡◌, ◌≤◌, IsTrue, map, IfOk, Ok, Some};
 ghost use Rattle.std.specs.Option.{IfSome};
 ghost use Rattle.net_lex.specs.declared.token.Token.{Token};
-ghost use Rattle.net_tree.specs.declared.operator.Words.{Words};
+ghost use Rattle.net_tree.specs.declared.operator.OperatorWords.{OperatorWords};
 ghost use Rattle.net_tree.specs.Tree.{filled, link, none, absent};
 ghost use Rattle.net_tree.specs.View.{braces_of, links_of, tree};
 ghost use Rattle.net_sets.specs.Limits.{arity_limit};
@@ -273,7 +273,7 @@ fn two_sets<'s>(
     first: &Expr<'s>,
     second: &Expr<'s>,
 ) -> Result<Option<Indexing<'s>>, AllocError>
-    ensures { (o c : Token) (q : Words) → IfOk result (λ found. IfSome found (λ i. indexing_in env.now (Some (filled o (tree first.now)
+    ensures { (o c : Token) (q : OperatorWords) → IfOk result (λ found. IfSome found (λ i. indexing_in env.now (Some (filled o (tree first.now)
         (link q (tree second.now) none) absent c)) ≡ Ok i)) }
 {
     let mut names = Vec::new(alloc);

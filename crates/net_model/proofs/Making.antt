@@ -6,7 +6,7 @@ use Rattle.net_tree.specs.declared.expr.Expr.{Expr}
 use Rattle.net_tree.specs.declared.expr.Expr.TheVariants as e
 use Rattle.net_tree.specs.declared.expr.Braces.TheVariants as b
 use Rattle.net_tree.specs.declared.expr.LinkedOperand.{LinkedOperand, roll-LinkedOperand}
-use Rattle.net_tree.specs.declared.operator.Words.{Words as Operator}
+use Rattle.net_tree.specs.declared.operator.OperatorWords.{OperatorWords as Operator}
 use Rattle.net_tree.specs.declared.expr.Braces.TheFolds.{fold-roll-Operands, fold-roll-LinkedOperand}
 use Rattle.net_tree.specs.declared.expr.Part.{Part}
 use Rattle.net_tree.specs.declared.expr.Operands.{roll-Operands, out-Operands}

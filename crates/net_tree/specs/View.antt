@@ -1,7 +1,7 @@
 -- The syntax trees of the code, as trees of the specification.
 use Rattle.std.specs.Prelude.{List, [], ◌∷◌, Option, None, Some, map}
 use Rattle.net_lex.specs.declared.token.Token.{Token}
-use Rattle.net_tree.specs.declared.operator.Words.{Words as Operator}
+use Rattle.net_tree.specs.declared.operator.OperatorWords.{OperatorWords as Operator}
 use Rattle.net_tree.specs.declared.expr.Expr.{Expr}
 use Rattle.net_tree.specs.declared.expr.Operands.{Operands}
 use Rattle.net_tree.specs.declared.expr.LinkedOperand.{LinkedOperand}
