@@ -3,11 +3,17 @@ import re
 
 FAULT = re.compile(rb"E\d\d \w+ (model|data|problem|certificate) (\d+)(?::(\d+))?(?: [^\n]*)?\n")
 # The texts that a call reads, in order.
-TEXTS = {"compile": ("model", "data"), "solve": ("model", "data"), "min": ("problem",), "check": ("problem", "certificate")}
+TEXTS = {
+    "compile": ("model", "data"),
+    "solve": ("model", "data"),
+    "min": ("problem",),
+    "check": ("problem", "certificate"),
+}
 
 
 def is_inside(text, line, column):
-    """Whether a position is in a text, or at its end. Columns count bytes; without a column the end is one line past the last."""
+    """Whether a position is in a text, or at its end. Columns count bytes; without a column the end is one line past
+    the last."""
     lines = text.split(b"\n")
     if column is None:
         return 1 <= line <= len(lines) + (lines[-1] != b"")

@@ -3,7 +3,8 @@ import pathlib
 import re
 import shutil
 
-TOP = pathlib.Path(__file__).resolve().parent.parent
+from lib.command import TOP
+
 USE = re.compile(r"(?m)^\s*(?:pub )?use (\w+)::")
 TITLE = "Notices of the libraries that are linked into the program netflow\n"
 
@@ -26,13 +27,13 @@ def crates_of_program():
         name, colon, others = line.split("#")[0].partition(":")
         if colon:
             uses[name.strip()] = others.split()
-    found, line = set(), ["netflow"]
-    while line:
-        name = line.pop()
+    found, waiting = set(), ["netflow"]
+    while waiting:
+        name = waiting.pop()
         if name not in found:
             found.add(name)
-            line += uses.get(name, [])
-    return {it for it in found if it not in uses} | {"std"}
+            waiting += uses.get(name, [])
+    return {name for name in found if name not in uses} | {"std"}
 
 
 def linked(folder):
@@ -44,7 +45,11 @@ def linked(folder):
             continue
         found.add(name)
         for path in (folder / name / "src").rglob("*.rt"):
-            line += [it for it in USE.findall(path.read_text(encoding="utf-8", errors="replace")) if it not in found and (folder / it).is_dir()]
+            line += [
+                name
+                for name in USE.findall(path.read_text(encoding="utf-8", errors="replace"))
+                if name not in found and (folder / name).is_dir()
+            ]
     return sorted(found)
 
 
@@ -53,14 +58,16 @@ def notices():
     folder = libraries_folder()
     if folder is None:
         return TITLE + "\nThe toolchain was not found when this archive was made, so its notices are missing.\n"
-    texts = {}
+    texts: dict[str, list[str]] = {}
     for name in linked(folder):
         for path in sorted((folder / name).glob("LICENSE*")):
-            texts.setdefault(path.read_text(encoding="utf-8", errors="replace").strip(), []).append(f"{name} ({path.name})")
-    names = sorted({it.split(" ")[0] for users in texts.values() for it in users})
-    without = [it for it in linked(folder) if it not in names]
+            texts.setdefault(path.read_text(encoding="utf-8", errors="replace").strip(), []).append(
+                f"{name} ({path.name})"
+            )
+    names = sorted({user.split(" ")[0] for users in texts.values() for user in users})
+    without = [name for name in linked(folder) if name not in names]
     parts = [TITLE, f"\nLibraries: {', '.join(names)}.\n"]
     parts += [f"Without a notice of their own in the toolchain: {', '.join(without)}.\n"] if without else []
-    for text, users in sorted(texts.items(), key=lambda it: it[1]):
+    for text, users in sorted(texts.items(), key=lambda item: item[1]):
         parts.append(f"\n{'=' * 100}\n{', '.join(users)}\n{'=' * 100}\n\n{text}\n")
     return "".join(parts)

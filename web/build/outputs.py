@@ -7,7 +7,7 @@ import hashlib
 import pathlib
 import sys
 
-from build import page
+from web.build import page
 
 TOP = page.TOP
 OUT = TOP / "web" / "out"

@@ -3,8 +3,8 @@ import base64
 import json
 import subprocess
 
-from build import outputs
-from tests import browsers
+from web.build import outputs
+from web.tests import browsers
 
 HERE = outputs.TOP / "web" / "tests"
 

@@ -6,7 +6,7 @@ import subprocess
 import sys
 import tempfile
 
-from tests import cases
+from web.tests import cases
 
 TOP = cases.TOP
 
@@ -29,7 +29,6 @@ class Twin:
 
 def compare():
     """Returns how much was compared, and complaints."""
-    sys.path.insert(0, str(TOP / "python"))
     twin, complaints = Twin(), []
     try:
         counts = [compare_drawings(twin, complaints), compare_headings(twin, complaints), compare_tables(twin, complaints)]
