@@ -82,6 +82,7 @@ Tools:
   netflow-why       why there is no plan, and what one more unit costs
   netflow-report    a plan as a page for the browser
   netflow-sheet     data from spreadsheets, and plans for them
+  netflow-convert   models with variables, as nodes and arcs
 
 Documents: the folder docs (installed: share/doc/netflow), and man netflow";
 
