@@ -105,7 +105,7 @@ TITLES = (
     ("set S; # no title\n", ""),
     ("# Costs of 3.5 (see p. 4). More", "Costs of 3.5 (see p. 4)"),
     ("# one\n\n# two", "one"),
-    ("# " + "word " * 40, "word " * 19 + "word\u2026"),
+    ("# " + "word " * 40, "word " * 39 + "word"),
 )
 
 

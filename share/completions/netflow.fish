@@ -63,7 +63,9 @@ complete -c netflow-sheet -n "__fish_seen_subcommand_from list" -l set -x -d "Th
 complete -c netflow-sheet -n "__fish_seen_subcommand_from grid" -l turned -d "Rows by the second key"
 complete -c netflow-sheet -n "__fish_seen_subcommand_from list grid" -l scale -x -d "Multiply values: NAME=FACTOR"
 complete -c netflow-sheet -n "__fish_seen_subcommand_from list grid" -l comma -d "Decimals have a comma"
-for tool in netflow-plan netflow-why netflow-explain netflow-report netflow-sheet
+complete -c netflow-convert -l output -x -a "(__fish_complete_directories)" -d "Where the new files are written"
+complete -c netflow-convert -l force -d "Replace files that exist"
+for tool in netflow-plan netflow-why netflow-explain netflow-report netflow-sheet netflow-convert
     complete -c $tool -l version -d "Print the version"
     complete -c $tool -s h -l help -d "Print help"
 end
