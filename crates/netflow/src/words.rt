@@ -218,7 +218,7 @@ fn bare_command<'a>(alloc: Global) -> Command<'a>
         .about(ABOUT)
         .after_help(STATUSES)
         .subcommand_required(true)
-        .arg_required_else_help(false)
+        .arg_required_else_help(true)
 }
 
 /// Adds a subcommand, unless memory ran out for either command.
