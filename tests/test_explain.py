@@ -12,7 +12,7 @@ from cases import bread_mistakes, mistakes, planner_mistakes, port_mistakes
 from lib.examples import rows
 from netflow.hints import diagnostic as diagnostics
 from netflow.tools import explain
-from support import BREAD, TOOLS, TOP, run, write
+from support import BREAD, TOOL_NAMES, TOOLS, TOP, run, write
 
 
 def test_catalogue():
@@ -278,7 +278,7 @@ def test_file_as_standard_input():
 @pytest.mark.parametrize(
     "end, status, has_message", [(">/dev/full", 4, True), (">&-", 4, True), ("| head -n 1", 0, False)]
 )
-@pytest.mark.parametrize("name", ["netflow-why", "netflow-report", "netflow-sheet", "netflow-explain"])
+@pytest.mark.parametrize("name", TOOL_NAMES)
 def test_standard_output(name, end, status, has_message):
     """Standard output that is full, closed, or a pipe without a reader."""
     kind = ["plan"] if name == "netflow-sheet" else []

@@ -133,8 +133,8 @@ STAGES = [
     ("meaning", ["net_meaning"]),
     ("model as written", ["net_inst", "net_linear"]),
     ("problem", ["net_normal", "net_check", "net_dimacs", "net_report"]),
-    ("text to declarations", ["net_lex", "net_tree", "net_model", "net_resolve", "net_data"]),
-    ("sets and parameters", ["net_eval"]),
+    ("text to declarations", ["net_lex", "net_tree", "net_model", "net_names", "net_data"]),
+    ("sets and parameters", ["net_bind"]),
     ("values", ["net_expr", "net_sets"]),
     ("errors", ["net_base"]),
 ]

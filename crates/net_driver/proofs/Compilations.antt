@@ -9,7 +9,7 @@ use Rattle.net_model.specs.GrammarLaws as model_laws
 use Rattle.net_model.specs.GrammarOfDeclarations.{IsModel}
 use Rattle.net_data.specs.GrammarLaws as data_laws
 use Rattle.net_expr.specs.Worlds.{Name}
-use Rattle.net_eval.specs.Soundness.{WorldsAreSound}
+use Rattle.net_bind.specs.Soundness.{WorldsAreSound}
 use Rattle.net_meaning.specs.Network as meaning
 use Rattle.net_meaning.specs.Network.{IsNetwork, IsEvaluated}
 use Rattle.net_meaning.specs.Represents.{Represents}
@@ -37,7 +37,7 @@ use Rattle.net_inst.proofs.SoundProblems.{problems_represent}
 use Rattle.net_inst.proofs.SoundAssignments.{assignments_are_sound}
 use Rattle.net_inst.proofs.Feasible.{have_feasible}
 use Rattle.net_inst.proofs.Aiming.{have_objective}
-use Rattle.net_eval.proofs.SoundWorlds.{worlds_are_sound}
+use Rattle.net_bind.proofs.SoundWorlds.{worlds_are_sound}
 use Rattle.net_model.proofs.GrammarModelsComplete.{model-complete}
 use Rattle.net_data.proofs.GrammarAgrees.{complete}
 

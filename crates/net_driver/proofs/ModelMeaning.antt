@@ -9,7 +9,7 @@ use Rattle.net_tree.specs.Syntax.{Declaration}
 use Rattle.net_normal.specs.Assignments.{IsFeasibleAssignment, value_of}
 use Rattle.net_expr.specs.SetValues.{HasSets}
 use Rattle.net_expr.specs.Worlds.{Name, World}
-use Rattle.net_eval.proofs.HeldEntries.{have_sets}
+use Rattle.net_bind.proofs.HeldEntries.{have_sets}
 use Rattle.net_meaning.specs.Network as meaning
 use Rattle.net_meaning.specs.Network.{flow_on}
 use Rattle.net_meaning.specs.Represents.{by_label}

@@ -12,7 +12,7 @@ ghost use Rattle.net_model.specs.declared.model_parser.ParseError.TheVariants.{O
 use crate::expressions::unary_of;
 use crate::model_parser::ParseError;
 use crate::stored::{Carried, Stored, boxed, push};
-use crate::token_cursor::{Cursor, operator_at};
+use crate::token_cursor::{TokenCursor, operator_at};
 use net_base::Items;
 use net_tree::{Expr, Link, Operands, Operator, precedence};
 use std::alloc::Global;
@@ -23,7 +23,7 @@ pub(crate) fn climb_to<'t, 's>(
     alloc: Global,
     depth: u8,
     max_precedence: u8,
-    tokens: &mut Cursor<'t, 's>,
+    tokens: &mut TokenCursor<'t, 's>,
 ) -> Result<Stored<Expr<'s>>, ParseError>
     ensures value { Gives tree result tokens.new (grammar.climb max_precedence (unary (nested depth)) tokens.old) }
     ensures shorter { IfOk result (λ x. length tokens.new < length tokens.old) }
@@ -42,7 +42,7 @@ fn chain_of<'t, 's>(
     alloc: Global,
     depth: u8,
     max_precedence: u8,
-    tokens: &mut Cursor<'t, 's>,
+    tokens: &mut TokenCursor<'t, 's>,
 ) -> Result<Stored<Expr<'s>>, ParseError>
     ensures value { Gives tree result tokens.new (grammar.chain_at max_precedence (grammar.climb max_precedence (unary (nested depth))) tokens.old) }
     ensures shorter { IfOk result (λ x. length tokens.new < length tokens.old) }
@@ -58,7 +58,7 @@ fn chain_links<'t, 's>(
     alloc: Global,
     depth: u8,
     max_precedence: u8,
-    tokens: &mut Cursor<'t, 's>,
+    tokens: &mut TokenCursor<'t, 's>,
 ) -> Result<Carried<Items<Link<'s>>>, ParseError>
     ensures value { Gives links_of result tokens.new (grammar.all_links max_precedence (grammar.climb max_precedence (unary (nested depth))) tokens.old) }
     ensures shorter { IfOk result (λ x. length tokens.new ≤ length tokens.old) }
@@ -88,7 +88,7 @@ pub(crate) fn links_from<'t, 's>(
     depth: u8,
     joining: u8,
     max_precedence: u8,
-    tokens: &mut Cursor<'t, 's>,
+    tokens: &mut TokenCursor<'t, 's>,
 ) -> Result<Carried<Items<Link<'s>>>, ParseError>
     ensures value { Gives links_of result tokens.new (grammar.all_links joining (grammar.climb max_precedence (unary (nested depth))) tokens.old) }
     ensures shorter { IfOk result (λ x. length tokens.new ≤ length tokens.old) }
