@@ -347,3 +347,11 @@ def test_error_of_the_data_is_a_note(tmp_path):
     status, folder, errors = convert(tmp_path, model, "set I := a b; param c := a -1 b 2;")
     assert status == 0 and (folder / "old.mod").exists()
     assert "E34" in errors
+
+
+def test_pipe(tmp_path):
+    model = "set I; var X {I} >= 0, <= 4; maximize z: sum {i in I} X[i];"
+    write(tmp_path, "old.dat", "set I := a b;")
+    words = ["-", tmp_path / "old.dat", "--output", tmp_path / "new"]
+    assert run("netflow-convert", *words, text=model)[0] == 0
+    assert "arc X" in read(tmp_path / "new" / "model.mod")

@@ -53,6 +53,15 @@ def linked(folder):
     return sorted(found)
 
 
+def license_texts():
+    """Returns the texts of licences of each linked library; nothing without a toolchain."""
+    folder = libraries_folder()
+    return {
+        name: [path.read_text(encoding="utf-8", errors="replace") for path in sorted((folder / name).glob("LICENSE*"))]
+        for name in (linked(folder) if folder is not None else [])
+    }
+
+
 def notices():
     """Returns the notices as one text; a text that is used by several libraries appears once."""
     folder = libraries_folder()

@@ -230,7 +230,7 @@ def ended(main: Callable[[Sequence[str]], int], words: Sequence[str], name: str)
             sys.stdout.flush()
         return status
     except SystemExit as end:
-        return end.code if isinstance(end.code, int) else 0
+        return flushed(end.code if isinstance(end.code, int) else 0, name)
     except ProgramError as problem:
         instance = problem.instance
         found = Diagnostic.of_instance(problem, instance) if instance is not None else None
@@ -243,11 +243,24 @@ def ended(main: Callable[[Sequence[str]], int], words: Sequence[str], name: str)
         sys.stderr.write(f"{name}: {problem}\n")
         return REJECTED
     except OSError as problem:
-        close_output()
-        sys.stderr.write(f"{name}: {problem.strerror or problem}\n")
-        return UNREADABLE_FILE
+        return output_error(problem, name)
     except KeyboardInterrupt:
         return 130
+
+
+def flushed(status: int, name: str) -> int:
+    """Writes what is left of standard output, such as the help; returns the status, or that of a failed write."""
+    try:
+        sys.stdout.flush()
+    except OSError as problem:
+        return output_error(problem, name)
+    return status
+
+
+def output_error(problem: OSError, name: str) -> int:
+    close_output()
+    sys.stderr.write(f"{name}: {problem.strerror or problem}\n")
+    return UNREADABLE_FILE
 
 
 def close_output() -> None:

@@ -14,7 +14,7 @@ from typing import Sequence
 from ..convert.data import DataConversion
 from ..convert.model import Conversion
 from ..convert.problems import Rejected
-from ..errors import ProgramError
+from ..errors import DataError, ProgramError, ScaleError
 from ..inputs.instance import Instance
 from ..inputs.source import Input, unreadable
 from ..program import REJECTED, UNREADABLE_FILE, USAGE
@@ -34,10 +34,7 @@ def main(arguments: Sequence[str]) -> int:
     parser.add_argument("--output", metavar="FOLDER", required=True, help="where the new files are written")
     parser.add_argument("--force", action="store_true", help="replace files that exist")
     parsed = parser.parse_args(arguments)
-    instance = Instance(Input(parsed.model), [Input(path) for path in parsed.data])
-    require_readable([parsed.model, *parsed.data])
-    if not parsed.data:
-        instance.split_model()
+    instance = readable_instance(parsed.model, parsed.data)
     try:
         files, notes = converted(instance, parsed.model, parsed.data)
     except Rejected as problem:
@@ -53,37 +50,46 @@ def main(arguments: Sequence[str]) -> int:
     return 0
 
 
-def require_readable(paths: Sequence[str]) -> None:
-    for path in paths:
-        reason = unreadable(path)
+def readable_instance(model: str, data: Sequence[str]) -> Instance:
+    """Returns the model with its data, which can follow it in its file; raises ProgramError for a file that cannot be
+    read."""
+    instance = Instance(Input(model), [Input(path) for path in data])
+    for source in (instance.model, *instance.data):
+        source.path = instance.session.lasting(source.path or "")
+        reason = unreadable(source.path)
         if reason:
-            raise ProgramError(UNREADABLE_FILE, f"{NAME}: {path}: {reason}\n")
+            raise ProgramError(UNREADABLE_FILE, f"{NAME}: {source.name}: {reason}\n")
+    if not data:
+        instance.split_model()
+    return instance
 
 
 def converted(instance: Instance, model: str, data: Sequence[str]) -> tuple[list[tuple[str, str]], list[str]]:
     """Returns the names and texts of the new files, the model first, and the notes."""
     source = instance.model.text()
     made = Conversion(source, model).run()
-    shapes = Shapes(made.decls, source)
-    stem = os.path.splitext(os.path.basename(model))[0]
-    files, lines = [(os.path.basename(model), made.text)], []
+    shapes, name = Shapes(made.decls, source), file_name(model, "model.mod")
+    files, lines = [(name, made.text)], []
     for here, text in enumerate(instance.data):
-        path = data[here] if data else model
         try:
-            name = os.path.basename(path) if data else f"{stem}.dat"
-            files.append(
-                (
-                    name,
-                    DataConversion(text.text(), path, shapes).run().lstrip("\n ")
-                    if not data
-                    else DataConversion(text.text(), path, shapes).run(),
-                )
-            )
+            rows = DataConversion(text.text(), data[here] if data else model, shapes).run()
         except Rejected as problem:
             lines += problem.lines
+            continue
+        # Data from the model's file have empty lines in front, which keep the lines of messages.
+        files.append((file_name(data[here], "data.dat"), rows) if data else (f"{stem(name)}.dat", rows.lstrip("\n ")))
     if lines:
         raise Rejected(lines)
     return files, made.notes
+
+
+def file_name(path: str, other: str) -> str:
+    """Returns the name of the new file; another one for the data of a pipe."""
+    return os.path.basename(path) if os.path.isfile(path) and not path.startswith("/dev/") else other
+
+
+def stem(name: str) -> str:
+    return os.path.splitext(name)[0]
 
 
 def checked(files: Sequence[tuple[str, str]]) -> list[str]:
@@ -95,8 +101,9 @@ def checked(files: Sequence[tuple[str, str]]) -> list[str]:
         except ProgramError as problem:
             if problem.message.startswith(GRAMMAR):
                 raise
-            if len(files) > 1:
-                return [f"netflow rejects the converted files: {problem.message.strip()}"]
+            return [f"netflow rejects the converted files: {problem.message.strip()}"] if len(files) > 1 else []
+        except (ScaleError, DataError) as problem:
+            return [f"the tools reject the converted files: {problem}"]
     return []
 
 
