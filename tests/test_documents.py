@@ -40,7 +40,9 @@ def test_example_is_the_tutorial():
     assert f"```\n{sheets}```\n" in read(TOP / "docs" / "guide" / "tools.md")
 
 
-@pytest.mark.parametrize("page, call, changes", SHOWN, ids=[f"{call} {'; '.join(changes.values())}" for _, call, changes in SHOWN])
+@pytest.mark.parametrize(
+    "page, call, changes", SHOWN, ids=[f"{call} {'; '.join(changes.values())}" for _, call, changes in SHOWN]
+)
 def test_shown_call(tmp_path, page, call, changes):
     """Each call of a tool that a document shows gives exactly what is below it."""
     model, data = BLOCK.findall(read(TOP / "docs" / "tutorial.md"))[:2]

@@ -56,6 +56,8 @@ class Instance:
         self.changed: PythonData | None = None
         self.session = Session([])
         self.is_ready = self.is_rewritten = False
+        self.unread = ""  # which text cannot be rewritten, in words
+        self.notes: list[str] = []
         self.rewriting: Rewriting | None = None
 
     def __enter__(self) -> "Instance":
@@ -86,12 +88,24 @@ class Instance:
             is_parsed = isinstance(failed, ScaleError)
             for number in range(len(self.data)) if is_parsed else [self.rewriting.parsed if self.rewriting else 0]:
                 self.report_text(number, GRAMMAR if is_parsed else CERTAIN)
-            raise (
-                failed
-                if not isinstance(failed, Unparsed)
-                else DataError(f"the model or its data have a form that options cannot change (offset {failed.offset})")
-            )
+            if not isinstance(failed, Unparsed):
+                raise failed
+            self.leave_out_options()
         self.use_files()
+
+    def leave_out_options(self) -> None:
+        """Notes that a text cannot be rewritten, so that factors and bounds are left out. Changed values and several
+        data texts cannot be left out, which is an error."""
+        given = {
+            "changed values": bool(self.changes),
+            "several data files": len(self.data) > 1,
+            "factors of decimals": bool(self.scale),
+            "missing bounds": self.add_bounds,
+        }
+        said = " and ".join(name for name, is_given in given.items() if is_given)
+        if self.changes or len(self.data) > 1:
+            raise DataError(f"{self.unread}, which {said} need: write this part in another form")
+        self.notes.append(f"{self.unread}, which {said} need: solved without")
 
     def split_model(self) -> None:
         """Makes the data that follow `data;` in the model the data text, with each word in its line and column."""
@@ -158,7 +172,10 @@ class Instance:
         """Rewrites the texts; returns why they cannot be, None if they were."""
         try:
             self.rewrite()
-        except (Unparsed, ScaleError) as problem:
+        except Unparsed as problem:
+            self.unread = self.rewriting.unread_text(problem) if self.rewriting is not None else ""
+            return problem
+        except ScaleError as problem:
             return problem
         return None
 
@@ -313,5 +330,5 @@ class Instance:
         self.session.files = [self.session.write(text) for text in rewriting.texts()]
 
     def remark_lines(self) -> list[str]:
-        """Returns what a reader has to know of values from Python."""
-        return self.rewriting.remark_lines() if self.rewriting is not None else []
+        """Returns what a reader has to know of values from Python, and of options that were left out."""
+        return [*self.notes, *(self.rewriting.remark_lines() if self.rewriting is not None else [])]

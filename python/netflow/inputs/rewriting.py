@@ -11,7 +11,7 @@ from ..exact import common_factor, decimal_text, parse_numeral
 from ..reading.data import Cell, DataText
 from ..reading.edits import EditedText
 from ..reading.keys import shown
-from ..reading.model import Decl, Shapes, parse
+from ..reading.model import Decl, Shapes, Unparsed, parse
 from ..types import Edit, Key
 from .overrides import Overrides, numbered_cells
 from .python_data import PythonData, declared_text
@@ -37,9 +37,10 @@ class Rewriting:
         add_bounds: bool,
         is_command: bool,
     ) -> None:
-        self.model, self.data, self.changes, self.objective = model.text(), data, dict(changes), objective
+        self.source, self.model = model, model.text()
+        self.data, self.changes, self.objective = data, dict(changes), objective
         self.scale, self.add_bounds, self.is_command = scale, add_bounds, is_command
-        self.parsed = 0
+        self.parsed, self.is_model_parsed = 0, False
         self.pieces: list[DataText] = []
         self.edited: dict[str, list[EditedText]] = {}
         self.factors, self.changed_text = Factors(), ""
@@ -50,6 +51,7 @@ class Rewriting:
         decls = parse(self.model)
         shapes = Shapes(decls, self.model)
         params = {decl.name: shapes.keys[decl.name] for decl in decls if decl.kind == "param"}
+        self.is_model_parsed = True
         for source in self.data:
             self.pieces.append(DataText(source.text(), params, shapes.sets))
             self.parsed += 1
@@ -61,6 +63,15 @@ class Rewriting:
             self.scale_texts(decls, needed, shapes, edits)
         except ScaleError as problem:
             raise self.with_cell(problem, needed, edits) from None
+
+    def unread_text(self, problem: Unparsed) -> str:
+        """Returns in words which part of which text could not be parsed."""
+        source = self.data[self.parsed] if self.is_model_parsed else self.source
+        text = source.text()
+        row = text.count("\n", 0, problem.offset) + 1
+        line = (text.split("\n")[row - 1]).strip()
+        where = f"line {row} of {os.path.basename(source.name) if source.name else 'the text'}"
+        return f"the tools cannot rewrite {where}, `{line[:60]}{'..' if len(line) > 60 else ''}`"
 
     def scale_texts(
         self, decls: list[Decl], needed: dict[str, int], shapes: Shapes, edits: Sequence[list[Edit]]

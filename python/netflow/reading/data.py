@@ -117,8 +117,9 @@ class DataText:
         if not words or words[0].text not in ("set", "param"):
             raise Unparsed(words[0].start if words else last.start)
         made = Statement(words[0].text, "", words[0].start, last.end)
-        cut = next((here for here, word in enumerate(words) if is_mark(word, ":=")), None)
-        if cut is None:
+        # `param p default 2;` has no `:=`, and no rows.
+        cut = next((here for here, word in enumerate(words) if is_mark(word, ":=")), len(words))
+        if cut == len(words) and (made.kind == "set" or len(words) not in (2, 4)):
             raise Unparsed(last.start)
         if made.kind == "set":
             made.name = str(words[1].member())

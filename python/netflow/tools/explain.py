@@ -103,7 +103,7 @@ def explain_rewritten(words: list[str], is_json: bool) -> int:
                 return 0
             answer = instance.ask("solve")
             sys.stdout.write(answer.text if instance.factors.is_plain() else divided_text(instance))
-            write_hints(grouped_lines_of(instance))
+            write_hints([*instance.notes, *grouped_lines_of(instance)])
             return answer.status
         except ProgramError as problem:
             found = Diagnostic.of_instance(problem, instance)
