@@ -32,8 +32,8 @@ PLACE = re.compile(r"(E\d\d \w+ (model|data)) (\d+):(\d+)(.*)", re.S)
 
 class Instance:
     """`changes` are sets and parameters by name that replace those of the data; `scale` has factors by parameter; with
-    `add_bounds` an arc without a bound gets one that no plan reaches. `origins` says for a name with a key what the
-    user wrote for the change.
+    `add_bounds` an arc without a bound gets one that no plan reaches, and with `ignore_outside` rows of data for keys
+    outside their sets are left out. `origins` says for a name with a key what the user wrote for the change.
     """
 
     def __init__(
@@ -45,10 +45,12 @@ class Instance:
         changes: Mapping[str, Any] | None = None,
         scale: Mapping[str, int] | None = None,
         add_bounds: bool = False,
+        ignore_outside: bool = False,
         origins: Mapping[tuple[str, Key], str] | None = None,
     ) -> None:
         self.model, self.data, self.changes = model, list(data), dict(changes or {})
         self.scale, self.add_bounds, self.objective = dict(scale or {}), add_bounds, objective
+        self.ignore_outside = ignore_outside
         self.options = [] if objective is None else ["--objective", objective]
         self.factors = Factors()
         self.edited: dict[str, list[EditedText]] = {}
@@ -80,7 +82,7 @@ class Instance:
                 source.path = self.session.lasting(source.path)
         if not self.data:
             self.split_model()
-        if self.changes or self.scale or self.add_bounds or len(self.data) > 1:
+        if self.changes or self.scale or self.add_bounds or self.ignore_outside or len(self.data) > 1:
             self.require_files()
             failed = self.failed_rewrite()
             if failed is None:
@@ -101,6 +103,7 @@ class Instance:
             "several data files": len(self.data) > 1,
             "factors of decimals": bool(self.scale),
             "missing bounds": self.add_bounds,
+            "rows that are left out": self.ignore_outside,
         }
         said = " and ".join(name for name, is_given in given.items() if is_given)
         if self.changes or len(self.data) > 1:
@@ -323,8 +326,10 @@ class Instance:
             scale=self.scale,
             add_bounds=self.add_bounds,
             is_command=bool(self.origins),
+            ignore_outside=self.ignore_outside,
         )
         rewriting.run()
+        self.notes += rewriting.outside_lines
         self.factors, self.edited = rewriting.factors, rewriting.edited
         self.changed, self.changed_text = rewriting.changed, rewriting.changed_text
         self.session.files = [self.session.write(text) for text in rewriting.texts()]

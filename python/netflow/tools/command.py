@@ -74,6 +74,9 @@ class ToolParser(argparse.ArgumentParser):
         self.add_argument(
             "--bounds", action="store_true", help="add bounds that no plan reaches to arcs that lack them"
         )
+        self.add_argument(
+            "--ignore-outside", action="store_true", help="leave out rows of data for keys outside their sets"
+        )
         return self
 
 
@@ -88,6 +91,7 @@ def instance_of(arguments: argparse.Namespace, extra: Sequence[str] = ()) -> Ins
         changes=changes_of([*arguments.changes, *extra]),
         scale=scale_of(arguments.scale),
         add_bounds=arguments.bounds,
+        ignore_outside=arguments.ignore_outside,
         origins=origins,
     )
     return instance

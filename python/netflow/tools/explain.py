@@ -87,7 +87,9 @@ def is_rewriting(words: Sequence[str]) -> bool:
         for here, word in enumerate(words[1:])
         if words[here] != "--objective" and (not word.startswith("-") or word == "-")
     ]
-    return len(files) > 2 or any(word.partition("=")[0] in ("--set", "--scale", "--bounds") for word in words)
+    return len(files) > 2 or any(
+        word.partition("=")[0] in ("--set", "--scale", "--bounds", "--ignore-outside") for word in words
+    )
 
 
 def explain_rewritten(words: list[str], is_json: bool) -> int:

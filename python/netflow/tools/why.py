@@ -276,6 +276,7 @@ def without_check(instance: Instance, problem: ProgramError) -> Instance | None:
         changes=instance.changes,
         scale=instance.scale,
         add_bounds=instance.add_bounds,
+        ignore_outside=instance.ignore_outside,
     )
     print(f"The check in line {match[1]} fails: {' '.join(text[decl.start:decl.end + 1].split())}\nWithout it:\n")
     return made
