@@ -28,15 +28,14 @@ fn supplies_of(alloc: Global, problem: &Problem) -> Result<Vec<i128>, AllocError
     Ok(supplies)
 }
 
-/// Returns each node's supply minus its net outflow, with each arc at its lower bound; a negative
-/// excess is a deficit.
-pub fn excess_at_lows(alloc: Global, problem: &Problem) -> Result<Vec<i128>, AllocError> {
+/// Returns each node's supply minus its net outflow; a negative excess is a deficit.
+fn excess_of(alloc: Global, problem: &Problem, flows: &Vec<i64>) -> Result<Vec<i128>, AllocError> {
     let mut excess = supplies_of(alloc, problem)?;
-    for arc in &problem.arcs {
-        if arc.low != 0 {
-            let low = i128::from(arc.low);
-            add_excess(&mut excess, arc.src, low.wrapping_neg());
-            add_excess(&mut excess, arc.dst, low);
+    for (arc, flow) in problem.arcs.iter().zip(flows) {
+        if *flow != 0 {
+            let flow = i128::from(*flow);
+            add_excess(&mut excess, arc.src, flow.wrapping_neg());
+            add_excess(&mut excess, arc.dst, flow);
         }
     }
     Ok(excess)
@@ -46,36 +45,30 @@ pub fn excess_at_lows(alloc: Global, problem: &Problem) -> Result<Vec<i128>, All
 const FULL_ROOM: i64 = 1 << 40;
 
 /// The most excess that a network simplex takes on at a node; its numbers leave room for one more arc.
-const LARGE: i128 = 1 << 60;
+pub const LARGE: i128 = 1 << 60;
 
 /// How often all arcs are tried to bring nodes below that.
 const RELIEF_PASSES: u32 = 64;
 
-/// The bounds at which arcs start, and the excess of each node there.
+/// The flow with which a network simplex starts, and the excess of each node there.
 #[derive(Drop)]
 pub struct Start {
-    /// Whether each arc starts at its capacity, and not at its lower bound.
-    is_full: Vec<bool>,
+    pub flows: Vec<i64>,
     pub excess: Vec<i128>,
 }
 
 impl Start {
-    /// Computes the bounds at which arcs start. Most arcs of negative cost start full, as most of
-    /// them stay full, and so do arcs that relieve a node of large excess or deficit.
-    pub fn new(alloc: Global, problem: &Problem, excess: &[i128]) -> Result<Start, AllocError> {
-        let Ok(is_full) = vec![in alloc; false; problem.arcs.len()] else {
-            return Err(AllocError);
-        };
-        let excess = Vec::from_slice(alloc, excess)?;
-        let mut start = Start { is_full, excess };
-        start.fill_saving(problem);
-        start.relieve(problem);
-        Ok(start)
+    /// Starts with a flow. Fails only if memory runs out.
+    pub fn new(alloc: Global, problem: &Problem, flows: Vec<i64>) -> Result<Start, AllocError> {
+        let excess = excess_of(alloc, problem, &flows)?;
+        Ok(Start { flows, excess })
     }
 
-    /// Returns whether an arc starts at its capacity.
-    pub fn is_full(&self, number: u32) -> bool {
-        at(&self.is_full, number, false)
+    /// Chooses the bounds at which arcs start. Most arcs of negative cost start full, as most of
+    /// them stay full, and so do arcs that relieve a node of large excess or deficit.
+    pub fn choose_bounds(&mut self, problem: &Problem) {
+        self.fill_saving(problem);
+        self.relieve(problem);
     }
 
     /// Fills the arcs of negative cost, unless one carries more than all nodes together have too much of.
@@ -92,7 +85,7 @@ impl Start {
     /// Moves an arc from its lower bound to its capacity.
     fn fill(&mut self, number: u32, arc: &FlowArc) {
         let room = i128::from(arc.cap.wrapping_sub(arc.low));
-        put(&mut self.is_full, number, true);
+        put(&mut self.flows, number, arc.cap);
         add_excess(&mut self.excess, arc.src, room.wrapping_neg());
         add_excess(&mut self.excess, arc.dst, room);
     }
@@ -107,7 +100,7 @@ impl Start {
                 let arc = arc_at(problem, number);
                 let has_much = at(&self.excess, arc.src, 0) > LARGE;
                 let lacks_much = at(&self.excess, arc.dst, 0) < LARGE.wrapping_neg();
-                if (has_much || lacks_much) && !self.is_full(number) {
+                if (has_much || lacks_much) && at(&self.flows, number, arc.cap) != arc.cap {
                     self.fill(number, &arc);
                 }
             }
@@ -116,7 +109,7 @@ impl Start {
 }
 
 /// Returns whether a node's excess or deficit is large.
-fn is_large(amount: i128) -> bool {
+pub fn is_large(amount: i128) -> bool {
     amount > LARGE || amount < LARGE.wrapping_neg()
 }
 

@@ -1,7 +1,7 @@
 //! The heuristics, in the order in which they are tried, each with a bound on its work.
 
 use crate::bottleneck::bottleneck;
-use crate::excess::excess_at_lows;
+use crate::excess::{Start, lows_of};
 use crate::guess::{Cut, Guess, Halt};
 use crate::preflow::{Feasibility, Preflow};
 use crate::simplex::Simplex;
@@ -14,6 +14,9 @@ use std::alloc::{AllocError, Global};
 /// After so much work, a network simplex that still has excess waits for a preflow to decide whether there is a flow. Most problems that
 /// have one need less.
 const EARLY_LOOKS: u64 = 40;
+
+/// After so much work, a network simplex that still has excess restarts from the flow of a preflow.
+const EXCESS_LOOKS: u64 = 400;
 
 /// The bound of a preflow.
 const PREFLOW_LOOKS: u64 = 2_000;
@@ -45,23 +48,28 @@ pub fn find_cut(alloc: Global, problem: &Problem) -> Result<Option<Cut>, AllocEr
 
 /// Returns a cut, if one is found in any way.
 fn decided(alloc: Global, problem: &Problem) -> Result<Option<Cut>, Halt> {
-    let excess = excess_at_lows(alloc, problem)?;
-    match simple_cut(alloc, problem, &excess)? {
-        Some(cut) => Ok(Some(cut)),
-        None => cut_by_preflow(alloc, problem, &excess),
+    let start = Start::new(alloc, problem, lows_of(alloc, problem)?)?;
+    if let Some(cut) = simple_cut(alloc, problem, &start.excess)? {
+        return Ok(Some(cut));
+    }
+    let (mut preflow, shown) = run_preflow(alloc, problem, &start, false)?;
+    match shown {
+        Feasibility::Infeasible => Ok(Some(cut_of(&mut preflow, alloc)?)),
+        Feasibility::Feasible | Feasibility::Unknown => Ok(None),
     }
 }
 
 /// Returns the first answer that a heuristic proposes.
 fn guessed(alloc: Global, problem: &Problem) -> Result<Guess, Halt> {
-    let excess = excess_at_lows(alloc, problem)?;
-    if let Some(cut) = simple_cut(alloc, problem, &excess)? {
+    let mut start = Start::new(alloc, problem, lows_of(alloc, problem)?)?;
+    if let Some(cut) = simple_cut(alloc, problem, &start.excess)? {
         return Ok(Guess::Cut(cut));
     }
     if problem.arcs.iter().all(|arc| arc.cost == 0) {
-        by_preflow(alloc, problem, &excess)
+        by_preflow(alloc, problem, &start)
     } else {
-        by_simplex(alloc, problem, &excess)
+        start.choose_bounds(problem);
+        by_simplex(alloc, problem, &start)
     }
 }
 
@@ -73,10 +81,7 @@ fn simple_cut(alloc: Global, problem: &Problem, excess: &[i128]) -> Result<Optio
         let flags = vec![in alloc; true; problem.supplies.len()]?;
         return Ok(Some(Cut { flags, side }));
     }
-    let Ok(cut) = bottleneck(alloc, problem, excess) else {
-        return Err(Halt::OutOfMemory);
-    };
-    Ok(cut)
+    Ok(bottleneck(alloc, problem, excess)?)
 }
 
 /// Returns the sum of all supplies.
@@ -99,21 +104,13 @@ fn size_of(problem: &Problem) -> u64 {
 fn run_preflow(
     alloc: Global,
     problem: &Problem,
-    excess: &[i128],
+    start: &Start,
+    is_by_cost: bool,
 ) -> Result<(Preflow, Feasibility), Halt> {
     let limit = PREFLOW_LOOKS.saturating_mul(size_of(problem));
-    let mut preflow = Preflow::new(alloc, problem, excess, limit)?;
+    let mut preflow = Preflow::new(alloc, problem, start, is_by_cost, limit)?;
     let shown = preflow.run();
     Ok((preflow, shown))
-}
-
-/// Returns the cut that a preflow shows, if it shows one.
-fn cut_by_preflow(alloc: Global, problem: &Problem, excess: &[i128]) -> Result<Option<Cut>, Halt> {
-    let (mut preflow, shown) = run_preflow(alloc, problem, excess)?;
-    match shown {
-        Feasibility::Infeasible => Ok(Some(cut_of(&mut preflow, alloc)?)),
-        Feasibility::Feasible | Feasibility::Unknown => Ok(None),
-    }
 }
 
 /// Returns the cut that a preflow shows if its excess reaches no deficit: it or its complement,
@@ -125,35 +122,64 @@ fn cut_of(preflow: &mut Preflow, alloc: Global) -> Result<Cut, Halt> {
 }
 
 /// Returns what a preflow finds for a problem without costs: a flow or a cut.
-fn by_preflow(alloc: Global, problem: &Problem, excess: &[i128]) -> Result<Guess, Halt> {
-    let (mut preflow, shown) = run_preflow(alloc, problem, excess)?;
+fn by_preflow(alloc: Global, problem: &Problem, start: &Start) -> Result<Guess, Halt> {
+    let (mut preflow, shown) = run_preflow(alloc, problem, start, false)?;
     if let Feasibility::Infeasible = shown {
         return Ok(Guess::Cut(cut_of(&mut preflow, alloc)?));
     }
     let flows = preflow.incidence.flows(alloc, problem)?;
-    let Ok(potentials) = vec![in alloc; 0i64; problem.supplies.len()] else {
-        return Err(Halt::OutOfMemory);
-    };
+    let potentials = vec![in alloc; 0i64; problem.supplies.len()]?;
     Ok(Guess::Flow { flows, potentials })
 }
 
+/// Returns a preflow that brings the flow of a simplex to its end, with what it shows.
+fn complete(
+    alloc: Global,
+    problem: &Problem,
+    simplex: &Simplex,
+    is_by_cost: bool,
+) -> Result<(Preflow, Feasibility), Halt> {
+    let flows = simplex.flows(alloc, problem)?;
+    let start = Start::new(alloc, problem, flows)?;
+    run_preflow(alloc, problem, &start, is_by_cost)
+}
+
+/// Returns a simplex that continues from the flow that a preflow makes of this one's, or this one
+/// if there is none.
+fn restart(alloc: Global, problem: &Problem, simplex: Simplex) -> Result<Simplex, Halt> {
+    let (preflow, shown) = complete(alloc, problem, &simplex, true)?;
+    match shown {
+        Feasibility::Feasible => {
+            let flows = preflow.incidence.flows(alloc, problem)?;
+            let start = Start::new(alloc, problem, flows)?;
+            let potentials = simplex.potentials(alloc, problem)?;
+            Simplex::from_flow(alloc, problem, &start, &potentials)
+        }
+        Feasibility::Infeasible | Feasibility::Unknown => Ok(simplex),
+    }
+}
+
 /// Returns what a network simplex finds: a flow, or, if excess is left after a while, the cut that
-/// a preflow shows.
-fn by_simplex(alloc: Global, problem: &Problem, excess: &[i128]) -> Result<Guess, Halt> {
+/// a preflow shows. If excess is left for long, the simplex restarts from a preflow's flow.
+fn by_simplex(alloc: Global, problem: &Problem, start: &Start) -> Result<Guess, Halt> {
     let size = size_of(problem);
-    let mut simplex = Simplex::new(alloc, problem, excess)?;
-    let is_done = simplex.run(EARLY_LOOKS.saturating_mul(size))?;
+    let mut simplex = Simplex::new(alloc, problem, start)?;
+    let mut is_done = simplex.run(EARLY_LOOKS.saturating_mul(size))?;
     if simplex.has_excess() {
-        if let Some(cut) = cut_by_preflow(alloc, problem, excess)? {
-            return Ok(Guess::Cut(cut));
+        let (mut preflow, shown) = complete(alloc, problem, &simplex, false)?;
+        if let Feasibility::Infeasible = shown {
+            return Ok(Guess::Cut(cut_of(&mut preflow, alloc)?));
+        }
+        is_done = is_done || simplex.is_short || simplex.run(EXCESS_LOOKS.saturating_mul(size))?;
+        if simplex.has_excess() {
+            simplex = restart(alloc, problem, simplex)?;
+            is_done = false;
         }
     }
     if !is_done {
         simplex.run(SIMPLEX_LOOKS.saturating_mul(size))?;
     }
     let flows = simplex.flows(alloc, problem)?;
-    let Ok(potentials) = simplex.potentials(alloc, problem) else {
-        return Err(Halt::OutOfMemory);
-    };
+    let potentials = simplex.potentials(alloc, problem)?;
     Ok(Guess::Flow { flows, potentials })
 }

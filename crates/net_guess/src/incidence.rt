@@ -1,7 +1,7 @@
 //! Adjacency lists: the arcs out of and into each node, with their residual capacities in both
 //! directions.
 
-use crate::unchecked_lists::{at, put, row_at};
+use crate::unchecked_lists::{arc_at, at, index, put, row_at};
 use net_normal::Problem;
 use std::alloc::{AllocError, Global};
 use std::ops::Range;
@@ -58,9 +58,14 @@ pub struct Incidence {
 }
 
 impl Incidence {
-    /// Builds the lists for the flow with each arc at its lower bound. Fails only if memory runs
-    /// out.
-    pub fn at_lows(alloc: Global, problem: &Problem) -> Result<Incidence, AllocError> {
+    /// Builds the lists for a flow; if `is_by_cost`, each begins with the cheapest arcs. Fails only
+    /// if memory runs out.
+    pub fn new(
+        alloc: Global,
+        problem: &Problem,
+        flows: &Vec<i64>,
+        is_by_cost: bool,
+    ) -> Result<Incidence, AllocError> {
         let count = problem.arcs.len().saturating_mul(2);
         let none = Incident { head: 0, place: 0 };
         let starts = row_ends(alloc, problem)?;
@@ -75,17 +80,37 @@ impl Incidence {
             ends,
             rooms,
         };
-        incidence.add_arcs(problem);
+        incidence.put_rooms(problem, flows);
+        let mut order = Vec::with_capacity(alloc, problem.arcs.len())?;
+        for (number, arc) in problem.arcs.iter().enumerate() {
+            order.push((arc.cost, index(number)))?;
+        }
+        if is_by_cost {
+            order.sort()?;
+        }
+        incidence.add_arcs(problem, &order);
         Ok(incidence)
     }
 
-    /// Adds the arcs of a problem in order.
-    fn add_arcs(&mut self, problem: &Problem) {
+    /// Adds the arcs of a problem, the last of each node first: forwards from the last one in this
+    /// order, then backwards from the first.
+    fn add_arcs(&mut self, problem: &Problem, order: &Vec<(i64, u32)>) {
+        for (_, number) in order.iter().rev() {
+            let arc = arc_at(problem, *number);
+            self.add(arc.src, arc.dst, number.wrapping_mul(2));
+        }
+        for (_, number) in order {
+            let arc = arc_at(problem, *number);
+            self.add(arc.dst, arc.src, back_of(number.wrapping_mul(2)));
+        }
+    }
+
+    /// Sets the residual capacities.
+    fn put_rooms(&mut self, problem: &Problem, flows: &Vec<i64>) {
         let mut place = 0u32;
-        for arc in &problem.arcs {
-            put(&mut self.rooms, place, arc.cap.wrapping_sub(arc.low));
-            self.add(arc.src, arc.dst, place);
-            self.add(arc.dst, arc.src, back_of(place));
+        for (arc, flow) in problem.arcs.iter().zip(flows) {
+            put(&mut self.rooms, place, arc.cap.wrapping_sub(*flow));
+            put(&mut self.rooms, back_of(place), flow.wrapping_sub(arc.low));
             place = place.wrapping_add(2);
         }
     }

@@ -32,10 +32,10 @@ struct Cycle {
 }
 
 impl Simplex {
-    /// Performs a pivot with this entering arc.
-    pub fn enter(&mut self, place: u32) -> Result<(), Halt> {
+    /// Performs a pivot with this entering arc, which can send this much back.
+    pub fn enter(&mut self, place: u32, back: i64) -> Result<(), Halt> {
         let arc = self.prices.arc(place);
-        let room = at(&self.rooms, place, 0);
+        let room = at(&self.rooms, place, 0).wrapping_sub(back);
         let cycle = self.cycle(arc.src, arc.dst, room)?;
         if cycle.amount > 0 {
             self.tree.send_down(cycle.join, cycle.first, cycle.amount)?;
@@ -50,7 +50,7 @@ impl Simplex {
             Going::Before(node) => {
                 let rooms = Residuals {
                     up: room.wrapping_sub(cycle.amount),
-                    down: cycle.amount,
+                    down: back.wrapping_add(cycle.amount),
                 };
                 let ends = (cycle.first, cycle.second);
                 self.exchange(place, &cycle, node, ends, rooms)?;
@@ -59,7 +59,7 @@ impl Simplex {
             }
             Going::After(node) => {
                 let rooms = Residuals {
-                    up: cycle.amount,
+                    up: back.wrapping_add(cycle.amount),
                     down: room.wrapping_sub(cycle.amount),
                 };
                 let ends = (cycle.second, cycle.first);

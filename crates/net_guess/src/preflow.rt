@@ -1,5 +1,6 @@
 //! A maximum preflow towards the nodes with deficits (Goldberg, Tarjan 1988). It decides whether a problem has a feasible flow.
 
+use crate::excess::Start;
 use crate::guess::Halt;
 use crate::incidence::{Incidence, Incident, back_of};
 use crate::node_queue::NodeQueue;
@@ -49,19 +50,16 @@ pub struct Preflow {
 }
 
 impl Preflow {
-    /// A preflow with all arcs at their lower bounds and the excess there, and a limit on its work.
+    /// A preflow that starts with a flow within its bounds, and a limit on its work.
     pub fn new(
         alloc: Global,
         problem: &Problem,
-        excess: &[i128],
+        start: &Start,
+        is_by_cost: bool,
         limit: u64,
     ) -> Result<Preflow, Halt> {
-        let Ok(incidence) = Incidence::at_lows(alloc, problem) else {
-            return Err(Halt::OutOfMemory);
-        };
-        let Ok(queue) = NodeQueue::with_room(alloc, excess.len()) else {
-            return Err(Halt::OutOfMemory);
-        };
+        let incidence = Incidence::new(alloc, problem, &start.flows, is_by_cost)?;
+        let queue = NodeQueue::with_room(alloc, start.excess.len())?;
         let mut preflow = Preflow {
             incidence,
             excess: Vec::new(alloc),
@@ -75,9 +73,7 @@ impl Preflow {
             limit,
             next_levels: 0,
         };
-        let Ok(()) = preflow.make_room(alloc, excess) else {
-            return Err(Halt::OutOfMemory);
-        };
+        preflow.make_room(alloc, &start.excess)?;
         Ok(preflow)
     }
 

@@ -8,7 +8,7 @@
 
 use crate::block::Block;
 use crate::cheapest_paths::NO_PLACE;
-use crate::excess::{Start, lows_of};
+use crate::excess::{Start, is_large, lows_of};
 use crate::guess::Halt;
 use crate::prices::Prices;
 use crate::simplex_arc::{PricedArc, put_priced_order};
@@ -38,24 +38,69 @@ pub struct Simplex {
     pub work: u64,
     /// Scratch space.
     pub turned: Vec<u32>,
-    /// Whether an arc to the root has left the tree with flow on it.
+    /// Whether excess is missing in the tree, because it was too large or its arc to the root left.
     pub is_short: bool,
 }
 
 impl Simplex {
-    /// Creates a simplex before its first pivot, with the arcs at the bounds that `Start` chooses. Each
-    /// node with excess hangs below the root; the others are attached by the cheapest arcs or paths to
+    /// Creates a simplex before its first pivot, with the arcs at the bounds of `Start`. Each node
+    /// with excess hangs below the root; the others are attached by the cheapest arcs or paths to
     /// nodes with a deficit.
-    pub fn new(alloc: Global, problem: &Problem, excess: &[i128]) -> Result<Simplex, Halt> {
-        let Ok(is_bipartite) = is_bipartite(alloc, problem) else {
-            return Err(Halt::OutOfMemory);
-        };
+    pub fn new(alloc: Global, problem: &Problem, start: &Start) -> Result<Simplex, Halt> {
+        let is_bipartite = is_bipartite(alloc, problem)?;
+        let mut simplex = Simplex::at_root(alloc, problem, start, is_bipartite)?;
+        if is_bipartite {
+            simplex.enter_cheapest(alloc, &start.excess)?;
+        } else {
+            simplex.hang_by_paths(alloc, &start.excess)?;
+        }
+        Ok(simplex)
+    }
+
+    /// Creates a simplex whose tree holds the arcs of a feasible flow that are not at a bound; the
+    /// cycles that they close are cancelled. Starts with these potentials.
+    pub fn from_flow(
+        alloc: Global,
+        problem: &Problem,
+        start: &Start,
+        potentials: &Vec<i64>,
+    ) -> Result<Simplex, Halt> {
+        let mut simplex = Simplex::at_root(alloc, problem, start, false)?;
+        for (node, potential) in potentials.iter().enumerate() {
+            simplex.prices.put_potential(index(node), *potential);
+        }
+        for place in 0..index(problem.arcs.len()) {
+            let arc = simplex.known(problem, place);
+            let number = at(&simplex.numbers, place, NO_PLACE);
+            let flow = at(&start.flows, number, arc.low);
+            if flow != arc.low && flow != arc.cap {
+                simplex.enter_between(place, flow.wrapping_sub(arc.low))?;
+            }
+        }
+        Ok(simplex)
+    }
+
+    /// Lets an arc between its bounds enter, in the direction that saves.
+    fn enter_between(&mut self, place: u32, sent: i64) -> Result<(), Halt> {
+        if self.prices.price(place) > 0 {
+            let room = at(&self.rooms, place, 0).wrapping_sub(sent);
+            self.prices.put_arc(place, self.prices.arc(place).turned());
+            self.enter(place, room)
+        } else {
+            self.enter(place, sent)
+        }
+    }
+
+    /// Creates a simplex with each node below the root.
+    fn at_root(
+        alloc: Global,
+        problem: &Problem,
+        start: &Start,
+        is_bipartite: bool,
+    ) -> Result<Simplex, Halt> {
         let cost = root_cost(problem);
-        let nodes = excess.len().saturating_add(1);
-        let Ok(mut prices) = Prices::with_room(alloc, cost, nodes, problem.arcs.len()) else {
-            return Err(Halt::OutOfMemory);
-        };
-        let start = Start::new(alloc, problem, excess)?;
+        let nodes = start.excess.len().saturating_add(1);
+        let mut prices = Prices::with_room(alloc, cost, nodes, problem.arcs.len())?;
         let tree = first_tree(alloc, problem, &start.excess, &mut prices, cost)?;
         let mut simplex = Simplex {
             numbers: Vec::new(alloc),
@@ -67,14 +112,9 @@ impl Simplex {
             looked: 0,
             work: 0,
             turned: Vec::new(alloc),
-            is_short: false,
+            is_short: start.excess.iter().any(|amount| is_large(*amount)),
         };
-        simplex.take_arcs(alloc, problem, &start)?;
-        if is_bipartite {
-            simplex.enter_cheapest(alloc, &start.excess)?;
-        } else {
-            simplex.hang_by_paths(alloc, &start.excess)?;
-        }
+        simplex.take_arcs(alloc, problem, start)?;
         Ok(simplex)
     }
 
@@ -82,21 +122,23 @@ impl Simplex {
     /// since they are never eligible.
     fn take_arcs(&mut self, alloc: Global, problem: &Problem, start: &Start) -> Result<(), Halt> {
         let count = problem.arcs.len();
-        let Ok(()) = fill(alloc, &mut self.numbers, NO_PLACE, count) else {
-            return Err(Halt::OutOfMemory);
-        };
-        let Ok(()) = fill(alloc, &mut self.rooms, 0, count) else {
-            return Err(Halt::OutOfMemory);
-        };
+        fill(alloc, &mut self.numbers, NO_PLACE, count)?;
+        fill(alloc, &mut self.rooms, 0, count)?;
         put_priced_order(&mut self.numbers, problem.supplies.len());
         for place in 0..index(count) {
             let arc = self.known(problem, place);
             let room = arc.cap.wrapping_sub(arc.low);
             if room != 0 {
                 let ahead = PricedArc::of(&arc);
-                let is_full = start.is_full(at(&self.numbers, place, NO_PLACE));
-                self.prices
-                    .put_arc(place, if is_full { ahead.turned() } else { ahead });
+                let flow = at(&start.flows, at(&self.numbers, place, NO_PLACE), arc.low);
+                self.prices.put_arc(
+                    place,
+                    if flow == arc.cap {
+                        ahead.turned()
+                    } else {
+                        ahead
+                    },
+                );
                 put(&mut self.rooms, place, room);
             }
         }
@@ -132,7 +174,7 @@ impl Simplex {
         let cheapest = self.cheapest(alloc, excess)?;
         for place in &cheapest {
             if self.prices.price(*place) < 0 {
-                self.enter(*place)?;
+                self.enter(*place, 0)?;
             }
         }
         Ok(())
@@ -142,7 +184,7 @@ impl Simplex {
     pub fn run(&mut self, limit: u64) -> Result<bool, Halt> {
         for _ in 0..limit {
             match self.entering_arc()? {
-                Some(place) => self.enter(place)?,
+                Some(place) => self.enter(place, 0)?,
                 None => return Ok(true),
             }
             if self.work > limit {

@@ -1,6 +1,7 @@
 //! The initial tree of a network simplex.
 
 use crate::cheapest_paths::{CheapestPaths, NO_PLACE};
+use crate::excess::LARGE;
 use crate::guess::Halt;
 use crate::prices::{NARROW_LIMIT, Prices};
 use crate::simplex::Simplex;
@@ -65,7 +66,7 @@ fn root_number(arcs: u32, nodes: u32, node: u32, excess: i64) -> u32 {
 }
 
 /// Builds the tree with each node below the root: its excess flows up, its deficit is supplied from
-/// the root at this cost, which exceeds all others.
+/// the root at this cost, which exceeds all others. Excess above `LARGE` is left out.
 pub fn first_tree(
     alloc: Global,
     problem: &Problem,
@@ -74,15 +75,11 @@ pub fn first_tree(
     cost: i64,
 ) -> Result<Tree, Halt> {
     let root = index(excess.len());
-    let Ok(mut tree) = Tree::of_size(alloc, excess.len().saturating_add(1)) else {
-        return Err(Halt::OutOfMemory);
-    };
+    let mut tree = Tree::of_size(alloc, excess.len().saturating_add(1))?;
     for (place, excess) in excess.iter().enumerate() {
         let node = index(place);
-        let amount = match i64::try_from(*excess) {
-            Ok(amount) if amount.wrapping_abs() <= ROOT_RESIDUAL => amount,
-            _ => return Err(Halt::OutOfRange),
-        };
+        let bounded = (*excess).clamp(LARGE.wrapping_neg(), LARGE);
+        let amount = i64::try_from(bounded).unwrap_or(0);
         let leaf = TreeNode {
             parent: root,
             size: 1,
@@ -122,9 +119,7 @@ fn put_root(tree: &mut Tree, root: u32) {
 impl Simplex {
     /// Attaches nodes without excess below those with a deficit, each by its shortest path.
     pub fn hang_by_paths(&mut self, alloc: Global, excess: &[i128]) -> Result<(), Halt> {
-        let Ok(ways) = self.ways(alloc, excess) else {
-            return Err(Halt::OutOfMemory);
-        };
+        let ways = self.ways(alloc, excess)?;
         for node in &ways.order {
             self.hang(*node, ways.first(*node));
         }
