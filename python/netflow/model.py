@@ -168,8 +168,6 @@ def answer_of(instance: Instance) -> Network:
         return instance.network()[1]
     except ProgramError as problem:
         raise model_error(problem, instance) from None
-    except Unparsed as problem:
-        raise DataError(f"the model has a form that options cannot change (offset {problem.offset})") from None
 
 
 def model_error(problem: ProgramError, instance: Instance) -> Exception:

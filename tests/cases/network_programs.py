@@ -229,7 +229,6 @@ def delivery(author: Author) -> tuple[str, str]:
     )
     products = ["paint", "oil"][: rand.randint(1, 2)]
     need = {(it, made): rand.randint(0, 6) for it in shops for made in products}
-    most = sum(need.values())
     range_op = rand.choice(["<=", "range"])
     out = "sum {j in DEPOTS} In[i,j,p]"
     model = [
@@ -249,21 +248,72 @@ def delivery(author: Author) -> tuple[str, str]:
         ),
         author.constraint("Need", "{k in SHOPS, p in PROD}", "sum {j in DEPOTS} Out[j,p,k]", ">=", "need[k,p]"),
     ]
+    sets = {"PLANTS": plants, "DEPOTS": depots, "SHOPS": shops, "PROD": products}
+    return "\n".join(model), delivery_data(author, sets, need)
+
+
+def delivery_data(author: Author, sets: dict[str, list[str]], need: dict[tuple[str, str], int]) -> str:
+    """Returns the data of deliveries, with slices of the tables that have three keys."""
+    shops, products, depots = sets["SHOPS"], sets["PROD"], sets["DEPOTS"]
     slices = "".join(
         f"\n [*,{made},*] : {' '.join(shops)} :="
         + "".join(f"\n  {it} " + " ".join(author.number(9, 1) for _ in shops) for it in depots)
         for made in products
     )
     rows = "".join(
-        f"\n [{i},*,*] " + " ".join(f"{j} {p} {author.number(9)}" for j in depots for p in products) for i in plants
+        f"\n [{i},*,*] " + " ".join(f"{j} {p} {author.number(9)}" for j in depots for p in products)
+        for i in sets["PLANTS"]
     )
-    data = [
-        f"set {name} := {' '.join(found)};"
-        for name, found in (("PLANTS", plants), ("DEPOTS", depots), ("SHOPS", shops), ("PROD", products))
-    ]
+    most = sum(need.values())
+    data = [f"set {name} := {' '.join(found)};" for name, found in sets.items()]
     data += [f"param made default {most} := ;" if author.flip() else f"param made default {most};"]
     data += [author.grid("need", shops, products, lambda row, column: str(need[row, column]))]
     data += [f"param cost :={slices};", f"param haul :={rows};"]
+    return "\n".join(data) + "\n"
+
+
+def lags(author: Author) -> tuple[str, str]:
+    """Deliveries that take several periods, with bounds, fixed numbers and balances for some of the keys."""
+    rand, periods, lag = author.random, author.random.randint(2, 6), author.random.randint(0, 3)
+    places = [f"n{here}" for here in range(rand.randint(2, 4))]
+    key = rand.choice(["i,j,t", "t,i,j", "i,t,j"])
+    index = {
+        "i,j,t": "{(i,j) in L, t in 1..T}",
+        "t,i,j": "{t in 1..T, (i,j) in L}",
+        "i,t,j": "{i in N, t in 1..T, j in N: (i,j) in L}",
+    }
+    come = f"sum {{(i,k) in L: t > {lag}}} X[{key.replace('j', 'k').replace('t', f't-{lag}')}]"
+    if author.flip():
+        come = f"(if t - {lag} >= 1 then sum {{(i,k) in L}} X[{key.replace('j', 'k').replace('t', f't-{lag}')}] else 0)"
+    go = f"sum {{(k,j) in L}} X[{key.replace('i', 'k')}]"
+    some = rand.choice(["{k in M, t in 1..T}", "{k in N, t in 1..T: k in M}", "{k in N, t in 1..T: not (k in R)}"])
+    bounds = [
+        "Shut {(i,j) in L, t in 1..T: t mod 2 = 0 and i in M}: X[%s] <= 2;" % key,
+        "s.t. Fix {(i,j) in L: i in R}: X[%s] = 1;" % key.replace("t", "1"),
+        "Least {(i,j) in L, t in 2..T-1}: X[%s] >= 1;" % key,
+        "",
+    ]
+    model = [
+        "param T integer >= 1; set N; set R within N; set M := N diff R;",
+        rand.choice(["set L within N cross N;", "set L dimen 2;"]),
+        "param need {N, 1..T} default 0; param c {L};",
+        f"var X {index[key]} >= 0, <= 6;",
+        "var Wait {k in N, t in 0..T} >= 0, <= 4;" if author.flip() else "var Wait {N, 0..T}, >= 0, <= 4;",
+        f"minimize Cost: sum {{t in 1..T, (i,j) in L}} c[i,j] * X[{key}] + 0.5 * sum {{k in N, t in 0..T}} Wait[k,t];",
+        author.constraint(
+            "Bal", some, f"{come} + Wait[k,t-1] - {go} - Wait[k,t]", rand.choice(["=", "<=", ">="]), "need[k,t]"
+        ),
+        rand.choice(bounds),
+        rand.choice(["s.t. Begin {k in M}: Wait[k,0] = 2;", "Begin {k in N: k in R}: Wait[k,0] >= 1;", ""]),
+    ]
+    pairs = [(one, other) for one in places for other in places if one != other and rand.random() < 0.6]
+    pairs = pairs or [(places[0], places[1])]
+    needs = " ".join(f"{it} {t} {rand.randint(-1, 1)}" for it in places for t in range(1, periods + 1) if author.flip())
+    data = [
+        f"param T := {periods};\nset N := {' '.join(places)};\nset R := {' '.join(it for it in places if author.flip())};",
+        "param : L : c := " + " ".join(f"{one} {other} {author.number(9, 1)}" for one, other in pairs) + ";",
+        f"param need := {needs};",
+    ]
     return "\n".join(model), "\n".join(data) + "\n"
 
 
@@ -290,7 +340,7 @@ def singles(author: Author) -> tuple[str, str]:
     return "\n".join(lines), ""
 
 
-FAMILIES = (shipping, transport, stock, flows, assignment, delivery, singles)
+FAMILIES = (shipping, transport, stock, flows, assignment, delivery, singles, lags)
 
 
 def program(seed: int) -> tuple[str, str]:

@@ -32,8 +32,8 @@ PLACE = re.compile(r"(E\d\d \w+ (model|data)) (\d+):(\d+)(.*)", re.S)
 
 class Instance:
     """`changes` are sets and parameters by name that replace those of the data; `scale` has factors by parameter; with
-    `add_bounds` an arc without a bound gets one that no plan reaches. `origins` says for a name with a key what the
-    user wrote for the change.
+    `add_bounds` an arc without a bound gets one that no plan reaches, and with `ignore_outside` rows of data for keys
+    outside their sets are left out. `origins` says for a name with a key what the user wrote for the change.
     """
 
     def __init__(
@@ -45,10 +45,12 @@ class Instance:
         changes: Mapping[str, Any] | None = None,
         scale: Mapping[str, int] | None = None,
         add_bounds: bool = False,
+        ignore_outside: bool = False,
         origins: Mapping[tuple[str, Key], str] | None = None,
     ) -> None:
         self.model, self.data, self.changes = model, list(data), dict(changes or {})
         self.scale, self.add_bounds, self.objective = dict(scale or {}), add_bounds, objective
+        self.ignore_outside = ignore_outside
         self.options = [] if objective is None else ["--objective", objective]
         self.factors = Factors()
         self.edited: dict[str, list[EditedText]] = {}
@@ -56,6 +58,8 @@ class Instance:
         self.changed: PythonData | None = None
         self.session = Session([])
         self.is_ready = self.is_rewritten = False
+        self.unread = ""  # which text cannot be rewritten, in words
+        self.notes: list[str] = []
         self.rewriting: Rewriting | None = None
 
     def __enter__(self) -> "Instance":
@@ -78,7 +82,7 @@ class Instance:
                 source.path = self.session.lasting(source.path)
         if not self.data:
             self.split_model()
-        if self.changes or self.scale or self.add_bounds or len(self.data) > 1:
+        if self.changes or self.scale or self.add_bounds or self.ignore_outside or len(self.data) > 1:
             self.require_files()
             failed = self.failed_rewrite()
             if failed is None:
@@ -86,12 +90,25 @@ class Instance:
             is_parsed = isinstance(failed, ScaleError)
             for number in range(len(self.data)) if is_parsed else [self.rewriting.parsed if self.rewriting else 0]:
                 self.report_text(number, GRAMMAR if is_parsed else CERTAIN)
-            raise (
-                failed
-                if not isinstance(failed, Unparsed)
-                else DataError(f"the model or its data have a form that options cannot change (offset {failed.offset})")
-            )
+            if not isinstance(failed, Unparsed):
+                raise failed
+            self.leave_out_options()
         self.use_files()
+
+    def leave_out_options(self) -> None:
+        """Notes that a text cannot be rewritten, so that factors and bounds are left out. Changed values and several
+        data texts cannot be left out, which is an error."""
+        given = {
+            "changed values": bool(self.changes),
+            "several data files": len(self.data) > 1,
+            "factors of decimals": bool(self.scale),
+            "missing bounds": self.add_bounds,
+            "rows that are left out": self.ignore_outside,
+        }
+        said = " and ".join(name for name, is_given in given.items() if is_given)
+        if self.changes or len(self.data) > 1:
+            raise DataError(f"{self.unread}, which {said} need: write this part in another form")
+        self.notes.append(f"{self.unread}, which {said} need: solved without")
 
     def split_model(self) -> None:
         """Makes the data that follow `data;` in the model the data text, with each word in its line and column."""
@@ -158,7 +175,10 @@ class Instance:
         """Rewrites the texts; returns why they cannot be, None if they were."""
         try:
             self.rewrite()
-        except (Unparsed, ScaleError) as problem:
+        except Unparsed as problem:
+            self.unread = self.rewriting.unread_text(problem) if self.rewriting is not None else ""
+            return problem
+        except ScaleError as problem:
             return problem
         return None
 
@@ -306,12 +326,14 @@ class Instance:
             scale=self.scale,
             add_bounds=self.add_bounds,
             is_command=bool(self.origins),
+            ignore_outside=self.ignore_outside,
         )
         rewriting.run()
+        self.notes += rewriting.outside_lines
         self.factors, self.edited = rewriting.factors, rewriting.edited
         self.changed, self.changed_text = rewriting.changed, rewriting.changed_text
         self.session.files = [self.session.write(text) for text in rewriting.texts()]
 
     def remark_lines(self) -> list[str]:
-        """Returns what a reader has to know of values from Python."""
-        return self.rewriting.remark_lines() if self.rewriting is not None else []
+        """Returns what a reader has to know of values from Python, and of options that were left out."""
+        return [*self.notes, *(self.rewriting.remark_lines() if self.rewriting is not None else [])]

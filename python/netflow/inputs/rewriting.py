@@ -8,11 +8,13 @@ from typing import Any, Iterator, Mapping, Sequence
 
 from ..errors import DataError, ScaleError
 from ..exact import common_factor, decimal_text, parse_numeral
+from ..hints.memberships import Memberships
 from ..reading.data import Cell, DataText
 from ..reading.edits import EditedText
 from ..reading.keys import shown
-from ..reading.model import Decl, Shapes, parse
+from ..reading.model import Decl, Shapes, Unparsed, parse
 from ..types import Edit, Key
+from .outside import Outside
 from .overrides import Overrides, numbered_cells
 from .python_data import PythonData, declared_text
 from .scaling import BOUND, Factors, Scaler, scaled_value
@@ -36,10 +38,14 @@ class Rewriting:
         scale: Mapping[str, int],
         add_bounds: bool,
         is_command: bool,
+        ignore_outside: bool = False,
     ) -> None:
-        self.model, self.data, self.changes, self.objective = model.text(), data, dict(changes), objective
+        self.source, self.model = model, model.text()
+        self.data, self.changes, self.objective = data, dict(changes), objective
         self.scale, self.add_bounds, self.is_command = scale, add_bounds, is_command
-        self.parsed = 0
+        self.ignore_outside = ignore_outside
+        self.outside_lines: list[str] = []
+        self.parsed, self.is_model_parsed = 0, False
         self.pieces: list[DataText] = []
         self.edited: dict[str, list[EditedText]] = {}
         self.factors, self.changed_text = Factors(), ""
@@ -50,6 +56,7 @@ class Rewriting:
         decls = parse(self.model)
         shapes = Shapes(decls, self.model)
         params = {decl.name: shapes.keys[decl.name] for decl in decls if decl.kind == "param"}
+        self.is_model_parsed = True
         for source in self.data:
             self.pieces.append(DataText(source.text(), params, shapes.sets))
             self.parsed += 1
@@ -58,9 +65,20 @@ class Rewriting:
         edits = [Overrides(self.pieces, changed).edits(piece) for piece in self.pieces]
         needed = self.needed(changed, edits)
         try:
+            if self.ignore_outside:
+                edits = self.without_outside(decls, needed, edits)
             self.scale_texts(decls, needed, shapes, edits)
         except ScaleError as problem:
             raise self.with_cell(problem, needed, edits) from None
+
+    def unread_text(self, problem: Unparsed) -> str:
+        """Returns in words which part of which text could not be parsed."""
+        source = self.data[self.parsed] if self.is_model_parsed else self.source
+        text = source.text()
+        row = text.count("\n", 0, problem.offset) + 1
+        line = (text.split("\n")[row - 1]).strip()
+        where = f"line {row} of {os.path.basename(source.name) if source.name else 'the text'}"
+        return f"the tools cannot rewrite {where}, `{line[:60]}{'..' if len(line) > 60 else ''}`"
 
     def scale_texts(
         self, decls: list[Decl], needed: dict[str, int], shapes: Shapes, edits: Sequence[list[Edit]]
@@ -75,7 +93,7 @@ class Rewriting:
         factors, model_edits = Scaler(decls, {**needed, **self.scale}, self.objective, self.add_bounds).scale()
         # Decimals of names that the model lacks are scaled too, so that the program reports the name.
         scaled = {**unknown, **factors.parameters}
-        model_edits += [dropped(self.model, decl) for decl in decls if decl.name in self.changes and decl.phrase(":=")]
+        model_edits += self.dropped_values(decls)
         texts = [
             EditedText(piece.text, made + self.scaled_cells(piece, made, scaled)) for piece, made in self.made(edits)
         ]
@@ -83,6 +101,20 @@ class Rewriting:
         self.factors = factors
         if self.changed is not None:
             self.changed_text = self.changed.text(factors.parameters, self.add_bounds)
+
+    def without_outside(
+        self, decls: list[Decl], needed: Mapping[str, int], edits: Sequence[list[Edit]]
+    ) -> list[list[Edit]]:
+        """Returns the edits with those that leave out rows for keys outside their sets."""
+        changed = self.changed.text(dict(needed), self.add_bounds) if self.changed is not None else ""
+        model = EditedText(self.model, self.dropped_values(decls)).text
+        texts = [EditedText(piece.text, made).text for piece, made in self.made(edits)]
+        outside = Outside(Memberships(model, "\n".join([*texts, changed])), self.pieces)
+        self.outside_lines = outside.lines()
+        return [made + outside.edits(piece, made) for piece, made in self.made(edits)]
+
+    def dropped_values(self, decls: list[Decl]) -> list[Edit]:
+        return [dropped(self.model, decl) for decl in decls if decl.name in self.changes and decl.phrase(":=")]
 
     def made(self, edits: Sequence[list[Edit]]) -> Iterator[tuple[DataText, list[Edit]]]:
         return zip(self.pieces, edits)

@@ -18,7 +18,6 @@ from ..inputs.instance import Instance
 from ..inputs.source import Input
 from ..program import INTERNAL, REJECTED, UNREADABLE_FILE, USAGE, Patience
 from ..reading.data import TOKEN
-from ..reading.model import Unparsed
 from ..reading.network import Network
 from ..report.json_objects import dump_lines, error_json
 from ..types import Key, Member, Value
@@ -75,6 +74,9 @@ class ToolParser(argparse.ArgumentParser):
         self.add_argument(
             "--bounds", action="store_true", help="add bounds that no plan reaches to arcs that lack them"
         )
+        self.add_argument(
+            "--ignore-outside", action="store_true", help="leave out rows of data for keys outside their sets"
+        )
         return self
 
 
@@ -89,6 +91,7 @@ def instance_of(arguments: argparse.Namespace, extra: Sequence[str] = ()) -> Ins
         changes=changes_of([*arguments.changes, *extra]),
         scale=scale_of(arguments.scale),
         add_bounds=arguments.bounds,
+        ignore_outside=arguments.ignore_outside,
         origins=origins,
     )
     return instance
@@ -176,7 +179,7 @@ def note_fractions(net: Network) -> None:
 
 def note_grouped(instance: Instance) -> None:
     """Prints on standard error the decimals that may be whole numbers with grouped digits, each once."""
-    new = [line for line in grouped_lines_of(instance) if line not in NOTED]
+    new = [line for line in [*instance.notes, *grouped_lines_of(instance)] if line not in NOTED]
     NOTED.update(new)
     note(new)
 
@@ -239,7 +242,7 @@ def ended(main: Callable[[Sequence[str]], int], words: Sequence[str], name: str)
     except Unreadable as problem:
         sys.stderr.write(f"{name}: {OTHER_VERSION} {problem}\n")
         return INTERNAL
-    except (ScaleError, DataError, Unbounded, NetflowError, Unparsed) as problem:
+    except (ScaleError, DataError, Unbounded, NetflowError) as problem:
         sys.stderr.write(f"{name}: {problem}\n")
         return REJECTED
     except OSError as problem:

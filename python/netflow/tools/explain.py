@@ -87,7 +87,9 @@ def is_rewriting(words: Sequence[str]) -> bool:
         for here, word in enumerate(words[1:])
         if words[here] != "--objective" and (not word.startswith("-") or word == "-")
     ]
-    return len(files) > 2 or any(word.partition("=")[0] in ("--set", "--scale", "--bounds") for word in words)
+    return len(files) > 2 or any(
+        word.partition("=")[0] in ("--set", "--scale", "--bounds", "--ignore-outside") for word in words
+    )
 
 
 def explain_rewritten(words: list[str], is_json: bool) -> int:
@@ -103,7 +105,7 @@ def explain_rewritten(words: list[str], is_json: bool) -> int:
                 return 0
             answer = instance.ask("solve")
             sys.stdout.write(answer.text if instance.factors.is_plain() else divided_text(instance))
-            write_hints(grouped_lines_of(instance))
+            write_hints([*instance.notes, *grouped_lines_of(instance)])
             return answer.status
         except ProgramError as problem:
             found = Diagnostic.of_instance(problem, instance)
