@@ -1,5 +1,7 @@
 """What the tools remark on inputs that netflow accepts: points between groups of digits, limits without an effect,
 declarations without arcs."""
+import re
+
 from support import TOP, run, write
 
 BREAD = TOP / "examples" / "bread"
@@ -13,6 +15,13 @@ def bread(folder, name, *changes):
         assert right in text, right
         text = text.replace(right, wrong, 1)
     return write(folder, name, text)
+
+
+def as_printed(tool, line):
+    """Returns a line with names as the tool writes them: on a page without brackets and quotes."""
+    if tool != "netflow-report":
+        return line
+    return re.sub(r"\['([^]]*)'\]", lambda key: " " + key[1].replace("','", " "), line)
 
 
 def test_points(tmp_path):
@@ -42,7 +51,7 @@ def test_points(tmp_path):
         status, out, errors = run(*words, model, pointed)
         shown = (out + errors).replace("&#x27;", "'")
         assert (
-            status == 2 and all(line in shown for line in said) and shown.count(POINT) == 3
+            status == 2 and all(as_printed(words[0], line) in shown for line in said) and shown.count(POINT) == 3
         ), f"{words}: grouped digits: {status} {shown[-900:]!r}"
     whole = bread(tmp_path, "whole.dat", ("van := 40", "van := 1.000"))
     line = f"van is 1.000 in line 5: is 1000 meant? {POINT}"
@@ -96,7 +105,8 @@ def test_limits(tmp_path):
         model = write(tmp_path, "limits.mod", text.replace(right, wrong))
         for tool in ("netflow-why", "netflow-report"):
             out = run(tool, model, BREAD / "bread.dat")[1].replace("&#x27;", "'").replace("&lt;", "<")
-            assert line in out and ("limits nothing" in out) == bool(line), f"{tool}: {wrong!r}: {line!r}"
+            assert as_printed(tool, line) in out, f"{tool}: {wrong!r}: {line!r}"
+            assert ("limits nothing" in out) == bool(line), f"{tool}: {wrong!r}"
 
 
 def test_empty(tmp_path):
