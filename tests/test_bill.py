@@ -3,9 +3,9 @@ import hashlib
 import json
 import re
 
+import notices
 import pytest
 
-import notices
 from lib import spdx
 
 TEXTS = {

@@ -4,12 +4,13 @@ import importlib.util
 import json
 import pathlib
 import re
+import shutil
 import subprocess
 
 import pytest
 
 from netflow.reading.headings import first_comment
-from support import BREAD, TOOL_NAMES, TOP, run, write
+from support import BREAD, BUILT, TOOL_NAMES, TOP, run, write
 
 
 def script(path):
@@ -42,18 +43,32 @@ def test_lists_of_tools(file, pattern):
     assert sorted(set(re.findall(r"netflow-\w+", " ".join(lines)))) == TOOL_NAMES
 
 
-def test_installed_tools(tmp_path):
-    subprocess.run([TOP / "scripts" / "install", tmp_path], check=True, stdout=subprocess.DEVNULL)
+def tree_without_a_build(folder):
+    """Makes a tree with links to the files of this one, whose ./netflow builds nothing, however old the program is."""
+    for path in TOP.iterdir():
+        if path.name not in (".git", "netflow", "scripts"):
+            (folder / path.name).symlink_to(path)
+    (folder / "scripts").mkdir()
+    shutil.copy2(TOP / "scripts" / "install", folder / "scripts")
+    write(folder, "netflow", "#!/bin/sh\n").chmod(0o755)
+    return folder
+
+
+@pytest.mark.skipif(not BUILT.exists(), reason="the program is not built")
+def test_installed_tools(tmp_path_factory):
+    """Installs, without building the program, and finds each tool with its manual page and completions."""
+    tree, prefix = tree_without_a_build(tmp_path_factory.mktemp("tree")), tmp_path_factory.mktemp("prefix")
+    subprocess.run([tree / "scripts" / "install", prefix], check=True, stdout=subprocess.DEVNULL)
     for folder, end in (
         ("bin", ""),
         ("share/man/man1", ".1"),
         ("share/bash-completion/completions", ""),
         ("share/fish/vendor_completions.d", ".fish"),
     ):
-        linked = [path for path in (tmp_path / folder).glob("netflow-*") if path.is_symlink()]
+        linked = [path for path in (prefix / folder).glob("netflow-*") if path.is_symlink()]
         assert sorted(path.name for path in linked) == [name + end for name in TOOL_NAMES]
         assert all(path.resolve().is_file() for path in linked)
-    words = [tmp_path / "bin" / "netflow-why", BREAD / "bread.mod", BREAD / "bread.dat"]
+    words = [prefix / "bin" / "netflow-why", BREAD / "bread.mod", BREAD / "bread.dat"]
     assert "Total = 440" in subprocess.run(words, check=True, capture_output=True, encoding="utf-8").stdout
 
 

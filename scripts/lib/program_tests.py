@@ -1,6 +1,7 @@
-"""Runs the tests of a program from its sources: `-m lib.program_tests CRATE [FLAG ..]` does what `rt try --test` does for a copy of
-the crate that has the files of its folder `tests` as modules. The crate itself has no tests, because each of its checks
-would prove them and the whole crate a second time."""
+"""Runs the tests of a program from its sources: `-m lib.program_tests CRATE [FLAG ..]` does what `rt try --test` does
+for a copy of the crate that has the files of its folder `tests` as modules. The crate itself has no tests, because each
+of its checks would prove them and the whole crate a second time.
+"""
 import os
 import pathlib
 import shutil
@@ -11,7 +12,7 @@ from lib.prover import RT, TOP
 
 
 def copy_with_tests(folder, name):
-    """Copies the sources of all crates into a folder; returns the folder of this crate, which has its tests as modules."""
+    """Copies the sources of all crates into a folder; returns that of this crate, with its tests as modules."""
     shutil.copy2(TOP / "crates.txt", folder)
     shutil.copytree(TOP / "crates", folder / "crates", ignore=shutil.ignore_patterns("out", "proofs", "must-fail"))
     crate = folder / "crates" / name

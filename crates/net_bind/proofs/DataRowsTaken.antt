@@ -6,7 +6,7 @@ use Rattle.std.proofs.lemmas.Bool.Decides.{nat_tests}
 use Rattle.net_lex.specs.declared.token.Token.{Token}
 use Rattle.net_data.specs.declared.statement.Given.{Given}
 use Rattle.net_data.specs.declared.statement.Transposed.{Transposed}
-use Rattle.net_data.specs.Rows.{Row, points, row_of, groups, given_rows, table_keys, row_across}
+use Rattle.net_data.specs.Rows.{DataRow, points, row_of, groups, given_rows, table_keys, row_across}
 use Rattle.net_bind.specs.DataRows.{taken_rows, TakesLists, TakesTables, TakesColumns, TakesKeys}
 use Rattle.net_bind.specs.DataByName.{grouped, given_cells}
 use Rattle.net_base.specs.Outcomes.{Outcome, and_then, each}
@@ -43,14 +43,14 @@ each_flat f h g same (x ∷ xs) b =
 
 -- ---- cells and groups
 
-abbrev one_row : NamedParameter → Row → Taken → Outcome Taken
+abbrev one_row : NamedParameter → DataRow → Taken → Outcome Taken
 one_row p r t = with_row p r.keys r.value t
 
 cell_is : (p : NamedParameter) (key : List Token) (v : Option Token) (t : Taken) → with_cell p key v t ≡ each (one_row p) (row_of key v) t
 cell_is p key None t = refl
 cell_is p key (Some value) t = go (points value.kind)
   where
-    row : Row
+    row : DataRow
     row = record { keys = key; value = value }
 
     go : (b : Bool) → (let o : Outcome Taken = if b then Ok t else with_row p key value t in o) ≡ each (one_row p) (if b then [] else row ∷ []) t
@@ -103,10 +103,10 @@ across_is p transposed row (c ∷ cs) (cell ∷ cells) t =
     more : Taken → Outcome Taken
     more = across p (is_some transposed) row cs cells
 
-    own : List Row
+    own : List DataRow
     own = row_of (table_keys transposed row c) (Some cell)
 
-    behind : List Row
+    behind : List DataRow
     behind = flat_map (λ pair. row_of (table_keys transposed row pair.0) (Some pair.1)) (zip cs cells)
 
 line_is : (p : NamedParameter) (transposed : Option Transposed) (columns g : List Token) (t : Taken)

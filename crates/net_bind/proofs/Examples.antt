@@ -9,7 +9,7 @@ use Rattle.net_lex.specs.declared.token.Kind.TheVariants as kinds
 use Rattle.net_data.specs.declared.statement.Statement.{Statement}
 use Rattle.net_data.specs.declared.statement.Statement.TheVariants as statements
 use Rattle.net_sets.specs.declared.member.Member.TheVariants as members
-use Rattle.net_tree.specs.declared.operator.Words.TheVariants as operator
+use Rattle.net_tree.specs.declared.operator.OperatorWords.TheVariants as operator
 use Rattle.net_tree.specs.Role.{role_of, marks, keys}
 use Rattle.net_tree.specs.Spans.{span_of, span_between, braces_span}
 use Rattle.net_tree.specs.Tree.{leaf, none, link, absent, filled, valued, Braces, Phrase, Declaration, set, param}

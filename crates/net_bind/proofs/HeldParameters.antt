@@ -18,8 +18,8 @@ use Rattle.net_expr.specs.Worlds.{World, key_count}
 use Rattle.net_expr.proofs.KeysOnce.{union_distinct}
 use Rattle.net_expr.proofs.Walked.{none_there, all_join}
 use Rattle.net_base.specs.declared.diagnostic.Diagnostic.{Diagnostic}
-use Rattle.net_bind.specs.declared.given.Given.{Given}
-use Rattle.net_bind.specs.declared.given.Given.TheVariants as given
+use Rattle.net_bind.specs.declared.given.DataContent.{DataContent}
+use Rattle.net_bind.specs.declared.given.DataContent.TheVariants as given
 use Rattle.net_bind.specs.declared.given.NamedData.{NamedData}
 use Rattle.net_bind.specs.BoundParameters.{placed, keys_with, index_list, Source, source_text, source_at, from_source, insert_value, with_key, fit_values, untaken, data_of, valued_by, values}
 use Rattle.net_bind.specs.Cells.{member_in, tuple_in}
@@ -105,14 +105,14 @@ line_keeps : (p : NamedParameter) (turned : Bool) (columns line : List Token) (t
 line_keeps p turned columns [] t u h e = subst (IsSaid p.index) (is_ok t u e) h
 line_keeps p turned columns (row ∷ cells) t u h e = across_keeps p turned row columns cells t u h e
 
-rows_keep : (p : NamedParameter) (size : ℕ) (g : Given) (t u : Taken) → IsSaid p.index t → with_rows p size g t ≡ Ok u → IsSaid p.index u
+rows_keep : (p : NamedParameter) (size : ℕ) (g : DataContent) (t u : Taken) → IsSaid p.index t → with_rows p size g t ≡ Ok u → IsSaid p.index u
 rows_keep p size (given.Members ts) t u h e = subst (IsSaid p.index) (is_ok t u e) h
 rows_keep p size (given.Groups g) t u h e =
     each_keeps (IsSaid p.index) (with_group p size g.place) (λ x b c k i. cell_keeps p (take size x) (slice_get x (size + g.place)) b c k i) (cut (size + g.values) g.cells) t u h e
 rows_keep p size (given.Grid g) t u h e =
     each_keeps (IsSaid p.index) (with_line p g.transposed g.columns) (λ x b c k i. line_keeps p g.transposed g.columns x b c k i) (cut (1 + length g.columns) g.cells) t u h e
 
-taken_keeps : (widths : List ℕ) (p : NamedParameter) (size : ℕ) (g : Given) (b : Bool) (t u : Taken) → IsSaid p.index t → taken widths p size g b t ≡ Ok u → IsSaid p.index u
+taken_keeps : (widths : List ℕ) (p : NamedParameter) (size : ℕ) (g : DataContent) (b : Bool) (t u : Taken) → IsSaid p.index t → taken widths p size g b t ≡ Ok u → IsSaid p.index u
 taken_keeps widths p size g b t u h e = then_ok (shaped widths size p.word g) (λ v. if b then doubled p.word else with_rows p size g t) u e (λ v i k. go b k)
   where
     go : (c : Bool) → (if c then doubled p.word else with_rows p size g t) ≡ Ok u → IsSaid p.index u

@@ -10,8 +10,8 @@ use Rattle.net_data.specs.declared.statement.Given.{Given as Cells}
 use Rattle.net_data.specs.declared.statement.NamedSet.{NamedSet}
 use Rattle.net_data.specs.declared.statement.Statement.{Statement}
 use Rattle.net_data.specs.declared.statement.Statement.TheVariants.{Set, List as Listed, Table, Columns}
-use Rattle.net_bind.specs.declared.given.Given.{Given}
-use Rattle.net_bind.specs.declared.given.Given.TheVariants as given
+use Rattle.net_bind.specs.declared.given.DataContent.{DataContent}
+use Rattle.net_bind.specs.declared.given.DataContent.TheVariants as given
 use Rattle.net_bind.specs.declared.given.NamedData.{NamedData}
 use Rattle.net_sets.specs.Names.{located}
 use Rattle.net_bind.specs.Names.{Declared, at_place, as_wanted, target}
@@ -22,7 +22,7 @@ use Rattle.net_base.proofs.Elements.{OfSome, all_append, all_set, all_index}
 use Rattle.net_data.specs.Standing.{TokensHaveSpans, DefaultHasSpan, GivenHasSpans, NamedSetHasSpan, StatementHasSpans, StatementsHaveSpans}
 
 -- what is said of a name stands at some places
-abbrev pub SaidStands : (Span → Type 0) → Given → Type 0
+abbrev pub SaidStands : (Span → Type 0) → DataContent → Type 0
 SaidStands P (given.Members ts) = TokensHaveSpans P ts
 SaidStands P (given.Groups g) = TokensHaveSpans P g.cells
 SaidStands P (given.Grid g) = TokensHaveSpans P g.columns × TokensHaveSpans P g.cells

@@ -23,8 +23,8 @@ use Rattle.net_expr.specs.Numbers.{number}
 use Rattle.net_expr.specs.Rows.{keys_of}
 use Rattle.net_expr.specs.Values.{value, index}
 use Rattle.net_expr.specs.Worlds.{World, Scope, key_count, reference}
-use Rattle.net_bind.specs.declared.given.Given.{Given}
-use Rattle.net_bind.specs.declared.given.Given.TheVariants as given
+use Rattle.net_bind.specs.declared.given.DataContent.{DataContent}
+use Rattle.net_bind.specs.declared.given.DataContent.TheVariants as given
 use Rattle.net_bind.specs.declared.given.NamedData.{NamedData}
 use Rattle.net_tree.specs.declared.role.Relation.{Relation}
 use Rattle.net_tree.specs.declared.role.Relation.TheVariants as relations
@@ -102,7 +102,7 @@ module _ (P : Places) where
   gives_with_line p transposed columns k [] m t j = j
   gives_with_line p transposed columns k (row ∷ cells) m t j = gives_across p transposed row m.0 columns k cells m.1 t j
 
-  finds_shaped : (widths : List ℕ) (n : ℕ) (word : Token) → P Data word.span → (g : Given) → SaidStands (P Data) g → Finds P (shaped widths n word g)
+  finds_shaped : (widths : List ℕ) (n : ℕ) (word : Token) → P Data word.span → (g : DataContent) → SaidStands (P Data) g → Finds P (shaped widths n word g)
   finds_shaped widths n word h (given.Members ts) k = tt
   finds_shaped widths n word h (given.Groups g) k =
       finds_then P (agrees word (leading_size widths g.leader n) n) _ (finds_agrees P word h (leading_size widths g.leader n) n)
@@ -111,7 +111,7 @@ module _ (P : Places) where
       finds_then P (has_two word n) _ (finds_if P (nat_eq n 2) _ _ tt h)
       (λ u. finds_whole_groups P word.span h 1 (1 + length g.columns) (cut (1 + length g.columns) g.cells) (cut_stands (P Data) (1 + length g.columns) g.cells k.1))
 
-  gives_with_rows : (p : NamedParameter) (size : ℕ) (g : Given) → SaidStands (P Data) g → (t : Taken) → TakenStands t → Gives P TakenStands (with_rows p size g t)
+  gives_with_rows : (p : NamedParameter) (size : ℕ) (g : DataContent) → SaidStands (P Data) g → (t : Taken) → TakenStands t → Gives P TakenStands (with_rows p size g t)
   gives_with_rows p size (given.Members ts) k t j = j
   gives_with_rows p size (given.Groups g) k t j =
       gives_each P (TokensHaveSpans (P Data)) TakenStands (with_group p size g.place) (gives_with_group p size g.place) (cut (size + g.values) g.cells)
@@ -120,7 +120,7 @@ module _ (P : Places) where
       gives_each P (TokensHaveSpans (P Data)) TakenStands (with_line p g.transposed g.columns) (gives_with_line p g.transposed g.columns k.0) (cut (1 + length g.columns) g.cells)
       (cut_stands (P Data) (1 + length g.columns) g.cells k.1) t j
 
-  gives_taken : (widths : List ℕ) (p : NamedParameter) (size : ℕ) → P Data p.word.span → (g : Given) → SaidStands (P Data) g → (is_doubled : Bool) (t : Taken) → TakenStands t
+  gives_taken : (widths : List ℕ) (p : NamedParameter) (size : ℕ) → P Data p.word.span → (g : DataContent) → SaidStands (P Data) g → (is_doubled : Bool) (t : Taken) → TakenStands t
       → Gives P TakenStands (taken widths p size g is_doubled t)
   gives_taken widths p size h g k is_doubled t j =
       gives_after P TakenStands (shaped widths size p.word g) _ (finds_shaped widths size p.word h g k) (λ u. gives_if P TakenStands is_doubled _ _ h (gives_with_rows p size g k t j))

@@ -15,8 +15,8 @@ use Rattle.net_sets.proofs.Crossing.{least, length_product}
 use Rattle.net_sets.proofs.Distinct.{put_last, stays}
 use Rattle.net_sets.proofs.Parts.{same_parts}
 use Rattle.net_sets.proofs.Sames.{tuple_decides}
-use Rattle.net_tree.specs.declared.expr.Link.{Link, out-Link}
-use Rattle.net_tree.specs.declared.operator.Words.{Words as Operator}
+use Rattle.net_tree.specs.declared.expr.LinkedOperand.{LinkedOperand, out-LinkedOperand}
+use Rattle.net_tree.specs.declared.operator.OperatorWords.{OperatorWords as Operator}
 use Rattle.net_tree.specs.Spans.{span_of}
 use Rattle.net_tree.specs.Tree.{Tree, leaf, indexed, parens, tuple, negated, braced, signed, reduced, chain, choice, net, none, link}
 use Rattle.net_tree.specs.View.{tree, links_of}
@@ -176,16 +176,16 @@ worth w x y z d e xs ys (Some p) f g h k = value_crossed w x y z d e p.0 xs ys p
 
 -- ---- links by their number
 
-pub after_one : (ls : List Link) (l : Link) (b : Bool) → 1 ≤ length ls → length ls < 2 → l ≡ get_or ls 0 l → is_cross (operation (out-Link l).operator) ≡ b
-    → (if b then Some (tree (out-Link l).operand) else None) ≡ after_cross (links_of ls)
+pub after_one : (ls : List LinkedOperand) (l : LinkedOperand) (b : Bool) → 1 ≤ length ls → length ls < 2 → l ≡ get_or ls 0 l → is_cross (operation (out-LinkedOperand l).operator) ≡ b
+    → (if b then Some (tree (out-LinkedOperand l).operand) else None) ≡ after_cross (links_of ls)
 after_one [] l b h i e f = absurd (omega arith)
 after_one (x ∷ []) l b h i e f =
-    ap (λ c. if c then Some (tree (out-Link l).operand) else None) (sym f)
-    ∙ ap (λ (k : Link). if is_cross (operation (out-Link k).operator) then Some (tree (out-Link k).operand) else None) e
+    ap (λ c. if c then Some (tree (out-LinkedOperand l).operand) else None) (sym f)
+    ∙ ap (λ (k : LinkedOperand). if is_cross (operation (out-LinkedOperand k).operator) then Some (tree (out-LinkedOperand k).operand) else None) e
     ∙ sym (ap after_cross (links_of-cons x []))
 after_one (x ∷ y ∷ ls) l b h i e f = absurd (omega arith)
 
-pub after_many : (ls : List Link) → 2 ≤ length ls → None ≡ after_cross (links_of ls)
+pub after_many : (ls : List LinkedOperand) → 2 ≤ length ls → None ≡ after_cross (links_of ls)
 after_many [] b = absurd (omega arith)
 after_many (x ∷ []) b = absurd (omega arith)
 after_many (x ∷ y ∷ ls) b = refl

@@ -15,8 +15,8 @@ use Rattle.net_sets.specs.Operations.{AreLong}
 use Rattle.net_expr.proofs.Alike.{all_added}
 use Rattle.net_expr.proofs.KeysOnce.{union_distinct}
 use Rattle.net_expr.proofs.Walked.{none_there}
-use Rattle.net_bind.specs.declared.given.Given.{Given}
-use Rattle.net_bind.specs.declared.given.Given.TheVariants as given
+use Rattle.net_bind.specs.declared.given.DataContent.{DataContent}
+use Rattle.net_bind.specs.declared.given.DataContent.TheVariants as given
 use Rattle.net_bind.specs.declared.given.NamedData.{NamedData}
 use Rattle.net_bind.specs.Cells.{member_in, tuple_in}
 use Rattle.net_base.specs.Outcomes.{Outcome, and_then, each, rejected_as, rejected_there}
@@ -52,7 +52,7 @@ keys_sized : (at : Span) (keys values : ℕ) (gs : List (List Token)) (u : Unit 
 keys_sized at keys values [] u h = tt
 keys_sized at keys values (g ∷ gs) u h = then_ok (whole_group at keys (keys + values) g) (λ v. whole_groups at keys (keys + values) gs) u h (λ v e k. (key_sized at keys values g v e, keys_sized at keys values gs u k))
 
-pub rows_sized : (widths : List ℕ) (n : ℕ) (word : Token) (g : Given) (rows : List (List Token)) → given_rows widths n word g ≡ Ok rows → AreOfSize n rows
+pub rows_sized : (widths : List ℕ) (n : ℕ) (word : Token) (g : DataContent) (rows : List (List Token)) → given_rows widths n word g ≡ Ok rows → AreOfSize n rows
 rows_sized widths n word (given.Members ts) rows h =
     then_ok (all_of_size word.span n (set_rows n ts)) (λ u. Ok (set_rows n ts)) rows h (λ u e k. subst (AreOfSize n) (is_ok (set_rows n ts) rows k) (sized word.span n (set_rows n ts) u e))
 rows_sized widths n word (given.Groups g) rows h =

@@ -18,8 +18,8 @@ use Rattle.net_expr.specs.declared.value.Value.{Value}
 use Rattle.net_expr.specs.declared.value.Value.TheVariants.{One, Several, Many, Truth}
 use Rattle.net_expr.specs.Values.{value}
 use Rattle.net_expr.specs.Worlds.{World}
-use Rattle.net_bind.specs.declared.given.Given.{Given}
-use Rattle.net_bind.specs.declared.given.Given.TheVariants as given
+use Rattle.net_bind.specs.declared.given.DataContent.{DataContent}
+use Rattle.net_bind.specs.declared.given.DataContent.TheVariants as given
 use Rattle.net_bind.specs.declared.given.NamedData.{NamedData}
 use Rattle.net_bind.specs.SetData.{Item, Rows}
 use Rattle.net_bind.specs.declared.set_phrase.SetWord.{SetWord}
@@ -141,7 +141,7 @@ module _ (P : Places) where
   pub finds_agrees : (word : Token) → P Data word.span → (reported own : ℕ) → Finds P (agrees word reported own)
   finds_agrees word h reported own = finds_if P (nat_eq reported own) _ _ tt h
 
-  gives_given_rows : (widths : List ℕ) (n : ℕ) (word : Token) → P Data word.span → (g : Given) → SaidStands (P Data) g → Gives P (LinesStand (P Data)) (given_rows widths n word g)
+  gives_given_rows : (widths : List ℕ) (n : ℕ) (word : Token) → P Data word.span → (g : DataContent) → SaidStands (P Data) g → Gives P (LinesStand (P Data)) (given_rows widths n word g)
   gives_given_rows widths n word h (given.Members ts) k =
       gives_after P (LinesStand (P Data)) (all_of_size word.span n (set_rows n ts)) _ (finds_size word.span h n (set_rows n ts) (set_rows_stand (P Data) n ts k)) (λ u. set_rows_stand (P Data) n ts k)
   gives_given_rows widths n word h (given.Groups g) k =

@@ -22,8 +22,8 @@ use Rattle.net_base.specs.declared.diagnostic.Detail.TheVariants.{Reported}
 use Rattle.net_base.specs.declared.diagnostic.Language.TheVariants.{Data}
 use Rattle.net_base.specs.Outcomes.{Outcome, and_then, each, rejected_as, rejected_there}
 use Rattle.net_meaning.specs.World.{IsDataValueOf, IsDataValue, AreDataValues, set_rows_of, is_set_named, count_name, mentions_in, mentions}
-use Rattle.net_bind.specs.declared.given.Given.{Given}
-use Rattle.net_bind.specs.declared.given.Given.TheVariants as given
+use Rattle.net_bind.specs.declared.given.DataContent.{DataContent}
+use Rattle.net_bind.specs.declared.given.DataContent.TheVariants as given
 use Rattle.net_bind.specs.declared.given.NamedData.{NamedData}
 use Rattle.net_bind.specs.Cells.{number_or_name, member_of, member_in, tuple_in}
 use Rattle.net_bind.specs.DataByName.{grouped, named}
@@ -73,7 +73,7 @@ mentions_are ds i n (s ∷ ss) = omega (arith, mentions_in_is ds i n s, mentions
 -- ---- the rows of the statements
 
 -- the rows of a set in its data
-abbrev pub rows_given : ℕ → Given → List (List Token)
+abbrev pub rows_given : ℕ → DataContent → List (List Token)
 rows_given d (given.Members ts) = stated.set_rows d ts
 rows_given d (given.Groups g) = map (λ group. take d group) (groups (d + g.values) g.cells)
 rows_given d (given.Grid g) = []

@@ -15,7 +15,7 @@ use Rattle.net_data.specs.declared.statement.Statement.TheVariants.{Set, List as
 use Rattle.net_tree.specs.Tree.{Declaration, set, param, check, node, arc, objective}
 use Rattle.net_expr.specs.Worlds.{Name}
 use Rattle.net_base.specs.Outcomes.{and_then, each}
-use Rattle.net_bind.specs.declared.given.Given.TheVariants as given
+use Rattle.net_bind.specs.declared.given.DataContent.TheVariants as given
 use Rattle.net_bind.specs.declared.given.NamedData.{NamedData}
 use Rattle.net_bind.specs.Binding.{is_among, AreNew}
 use Rattle.net_bind.specs.DataByName.{Sorted, no_data, with_named_data, with_named, default_word, given_cells, grouped, gridded, named, set_first, first_of, or_zero, headed, set_headed, in_columns, in_statement, data_by_name}

@@ -27,8 +27,8 @@ use Rattle.net_meaning.specs.OfTrees.{IsSet}
 use Rattle.net_tree.specs.PhraseValues.{phrase_value}
 use Rattle.net_meaning.specs.World.{AreDataValues, set_rows_of, AreGivenMembers}
 use Rattle.net_meaning.proofs.Erased.{phrase_value_is}
-use Rattle.net_bind.specs.declared.given.Given.{Given}
-use Rattle.net_bind.specs.declared.given.Given.TheVariants as given
+use Rattle.net_bind.specs.declared.given.DataContent.{DataContent}
+use Rattle.net_bind.specs.declared.given.DataContent.TheVariants as given
 use Rattle.net_bind.specs.declared.given.NamedData.{NamedData}
 use Rattle.net_bind.specs.declared.set_phrase.Claims.{Claims}
 use Rattle.net_bind.specs.BoundSets.{one_of, allowed, set_of, bound_set}
@@ -53,7 +53,7 @@ use Rattle.net_bind.proofs.SoundGroups.{some_names}
 -- ---- well-formed data for a name
 
 -- items of a set, or cells of a heading with at least one parameter; numerals have values
-abbrev IsSoundGiven : Given → Type 0
+abbrev IsSoundGiven : DataContent → Type 0
 IsSoundGiven (given.Members ts) = AreItems ts × AllByRecursion HasValue ts
 IsSoundGiven (given.Groups g) = (0 < g.values) × AllByRecursion HasValue g.cells
 IsSoundGiven (given.Grid g) = Unit {0}
@@ -135,7 +135,7 @@ groups_made P size (suc turns) [] h = tt
 groups_made P size (suc turns) (t ∷ ts) h = (all_take P size (t ∷ ts) h, groups_made P size turns (drop size (t ∷ ts)) (all_drop P size (t ∷ ts) h))
 
 -- the rows that the code takes are those of the statement, and their tokens are members
-rows_are : (widths : List ℕ) (d : ℕ) (word : Token) (g : Given) (rows : List (List Token)) → IsSoundGiven g → given_rows widths d word g ≡ Ok rows → (rows ≡ rows_given d g) × AllByRecursion (AllByRecursion IsCell) rows
+rows_are : (widths : List ℕ) (d : ℕ) (word : Token) (g : DataContent) (rows : List (List Token)) → IsSoundGiven g → given_rows widths d word g ≡ Ok rows → (rows ≡ rows_given d g) × AllByRecursion (AllByRecursion IsCell) rows
 rows_are widths d word (given.Members ts) rows h e =
     then_ok (all_of_size word.span d (set_rows d ts)) (λ u. Ok (set_rows d ts)) rows e (λ u f k.
     let are : rows ≡ stated.set_rows d ts = sym (is_ok (set_rows d ts) rows k) ∙ item_rows word.span d ts u h.0 f in

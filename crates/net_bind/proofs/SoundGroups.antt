@@ -16,8 +16,8 @@ use Rattle.net_data.specs.Meaning.{heading_judged, judged}
 use Rattle.net_expr.specs.Worlds.{Name}
 use Rattle.net_meaning.specs.Values.{Whether}
 use Rattle.net_meaning.specs.World.{AreWhole, is_set_named, HasWholeRows}
-use Rattle.net_bind.specs.declared.given.Given.{Given}
-use Rattle.net_bind.specs.declared.given.Given.TheVariants as given
+use Rattle.net_bind.specs.declared.given.DataContent.{DataContent}
+use Rattle.net_bind.specs.declared.given.DataContent.TheVariants as given
 use Rattle.net_bind.specs.declared.given.NamedData.{NamedData}
 use Rattle.net_bind.specs.DataByName.{given_cells, grouped, named}
 use Rattle.net_bind.specs.DataFor.{leader, headed_for, set_for, data_in, data_for}
@@ -51,12 +51,12 @@ whole_of n m cells l e h = subst (λ k. AreWhole k cells) e (subst (AreSized n) 
 -- ---- the data of a name
 
 -- the groups of cells, of keys and values, are whole
-abbrev pub HasGroups : ℕ → Given → Type 0
+abbrev pub HasGroups : ℕ → DataContent → Type 0
 HasGroups size (given.Members ts) = ⊤
 HasGroups size (given.Groups g) = AreSized (size + g.values) (cut (size + g.values) g.cells)
 HasGroups size (given.Grid g) = ⊤
 
-abbrev pub HasLines : Given → Type 0
+abbrev pub HasLines : DataContent → Type 0
 HasLines (given.Members ts) = ⊤
 HasLines (given.Groups g) = ⊤
 HasLines (given.Grid g) = AreSized (1 + length g.columns) (cut (1 + length g.columns) g.cells)
@@ -69,14 +69,14 @@ pub record IsWholeFor (size : ℕ) (m : NamedData) : Type 0 where
 pub shape_whole : (widths : List ℕ) (size : ℕ) (m : NamedData) (u : Unit {0}) → shaped widths size m.word m.given ≡ Ok u → IsWholeFor size m
 shape_whole widths size m u e = record { groups = grouped_so m.given e; lines = lined m.given e }
   where
-    grouped_so : (g : Given) → shaped widths size m.word g ≡ Ok u → HasGroups size g
+    grouped_so : (g : DataContent) → shaped widths size m.word g ≡ Ok u → HasGroups size g
     grouped_so (given.Members ts) e = tt
     grouped_so (given.Groups g) e =
         then_ok (agrees m.word (leading_size widths g.leader size) size) (λ v. whole_groups m.word.span size (size + g.values) (cut (size + g.values) g.cells)) u e (λ v i k.
         groups_sized m.word.span size (size + g.values) (cut (size + g.values) g.cells) u k)
     grouped_so (given.Grid g) e = tt
 
-    lined : (g : Given) → shaped widths size m.word g ≡ Ok u → HasLines g
+    lined : (g : DataContent) → shaped widths size m.word g ≡ Ok u → HasLines g
     lined (given.Members ts) e = tt
     lined (given.Groups g) e = tt
     lined (given.Grid g) e =
@@ -84,7 +84,7 @@ shape_whole widths size m u e = record { groups = grouped_so m.given e; lines = 
         groups_sized m.word.span 1 (1 + length g.columns) (cut (1 + length g.columns) g.cells) u k)
 
 -- the data of a set, whose rows are accepted
-pub rows_grouped : (widths : List ℕ) (d : ℕ) (word : Token) (g : Given) (rows : List (List Token)) → given_rows widths d word g ≡ Ok rows → HasGroups d g
+pub rows_grouped : (widths : List ℕ) (d : ℕ) (word : Token) (g : DataContent) (rows : List (List Token)) → given_rows widths d word g ≡ Ok rows → HasGroups d g
 rows_grouped widths d word (given.Members ts) rows e = tt
 rows_grouped widths d word (given.Groups g) rows e =
     then_ok (agrees word (leading_size widths g.leader d) d) _ rows e (λ u f k.

@@ -16,15 +16,15 @@ use Rattle.net_data.specs.declared.statement.Statement.{Statement}
 use Rattle.net_data.specs.declared.statement.Statement.TheVariants.{Set, List as Listed, Table, Columns}
 use Rattle.net_data.specs.declared.statement.TableStatement.{TableStatement}
 use Rattle.net_data.specs.declared.statement.Transposed.{Transposed}
-use Rattle.net_data.specs.Rows.{Row, points, row_of, rows, groups_from, groups, row_across, table_rows}
+use Rattle.net_data.specs.Rows.{DataRow, points, row_of, rows, groups_from, groups, row_across, table_rows}
 use Rattle.net_sets.specs.declared.member.Member.{Member}
 use Rattle.net_sets.specs.Sets.{Tuple}
 use Rattle.net_expr.specs.Worlds.{Name}
 use Rattle.net_tree.proofs.Numerals.{value_is}
 use Rattle.net_expr.proofs.Walked.{all_join}
 use Rattle.net_meaning.specs.World.{IsDataValueOf, IsDataValue, AreDataValues, rows_at, rows_of, is_set_named, default_token, default_in, count_name, mentions_in, mentions, data_rows, data_defaults}
-use Rattle.net_bind.specs.declared.given.Given.{Given}
-use Rattle.net_bind.specs.declared.given.Given.TheVariants as given
+use Rattle.net_bind.specs.declared.given.DataContent.{DataContent}
+use Rattle.net_bind.specs.declared.given.DataContent.TheVariants as given
 use Rattle.net_bind.specs.declared.given.NamedData.{NamedData}
 use Rattle.net_bind.specs.Cells.{number_or_name, member_of, member_in}
 use Rattle.net_bind.specs.DataByName.{default_word, given_cells, grouped, gridded, named}
@@ -117,7 +117,7 @@ all_cut P n ts h = go (nat_eq n 0)
 
 -- ---- the rows of the statements
 
-abbrev pub given_of : ℕ → NamedData → List Row
+abbrev pub given_of : ℕ → NamedData → List DataRow
 given_of size m = rows_given size m.given
 
 line_is : (transposed : Option Transposed) (columns line : List Token) → rows_across (is_some transposed) columns line ≡ row_across transposed columns line
@@ -142,7 +142,7 @@ column_is : (size l place : ℕ) (c : ColumnsStatement) → place < length c.nam
 column_is size l place c h = ap (flat_map (λ group. row_of (take size group) (slice_get group (size + place)))) (cut_is (size + length c.names) (size + length c.names) c.cells refl (omega (arith, h)))
 
 -- the data of one part, if its name is n
-part_rows : (size : ℕ) (b : Bool) (m : NamedData) (rows : List Row) → given_of size m ≡ rows → flat_map (given_of size) (if b then m ∷ [] else []) ≡ (if b then rows else [])
+part_rows : (size : ℕ) (b : Bool) (m : NamedData) (rows : List DataRow) → given_of size m ≡ rows → flat_map (given_of size) (if b then m ∷ [] else []) ≡ (if b then rows else [])
 part_rows size true m rows e = append-nil (given_of size m) ∙ e
 part_rows size false m rows e = refl
 
@@ -163,7 +163,7 @@ set_rows_none size l values cells n (Some s) h = ap (λ b. if b then named s.nam
 statement_rows : (ds : Declared) (i size : ℕ) (n : Name) (s : Statement) → NamesNoSet n s → flat_map (given_of size) (data_in ds i n s) ≡ rows_of size n s
 statement_rows ds i size n (Set s) h = part_rows size (bytes_eq s.name.text n) (named s.name None (given.Members s.items)) [] refl ∙ none_so (bytes_eq s.name.text n)
   where
-    none_so : (b : Bool) → (let l : List Row = if b then [] else [] in l) ≡ []
+    none_so : (b : Bool) → (let l : List DataRow = if b then [] else [] in l) ≡ []
     none_so true = refl
     none_so false = refl
 statement_rows ds i size n (Listed l) h =
@@ -213,7 +213,7 @@ set_defaults l values cells n (Some s) = go (bytes_eq s.name.text n)
     go true = refl
     go false = refl
 
-part_defaults : (word : Token) (d : Option DefaultValue) (g : Given) (b : Bool) → defaults_of (if b then named word (default_word d) g ∷ [] else []) ≡ cons_option (if b then default_token d else None) []
+part_defaults : (word : Token) (d : Option DefaultValue) (g : DataContent) (b : Bool) → defaults_of (if b then named word (default_word d) g ∷ [] else []) ≡ cons_option (if b then default_token d else None) []
 part_defaults word None g true = refl
 part_defaults word (Some d) g true = refl
 part_defaults word d g false = refl

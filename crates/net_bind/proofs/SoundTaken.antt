@@ -16,12 +16,12 @@ use Rattle.net_data.specs.declared.statement.NamedSet.{NamedSet}
 use Rattle.net_data.specs.declared.statement.Statement.{Statement}
 use Rattle.net_data.specs.declared.statement.Statement.TheVariants.{Set, List as Listed, Table, Columns}
 use Rattle.net_data.specs.Meaning.{IsDefault, IsStatement}
-use Rattle.net_data.specs.Rows.{Row, points, row_of}
+use Rattle.net_data.specs.Rows.{DataRow, points, row_of}
 use Rattle.net_data.specs.Tests.{is_member, stands_for_member}
 use Rattle.net_expr.specs.Worlds.{Name}
 use Rattle.net_expr.proofs.Walked.{all_join}
-use Rattle.net_bind.specs.declared.given.Given.{Given}
-use Rattle.net_bind.specs.declared.given.Given.TheVariants as given
+use Rattle.net_bind.specs.declared.given.DataContent.{DataContent}
+use Rattle.net_bind.specs.declared.given.DataContent.TheVariants as given
 use Rattle.net_bind.specs.declared.given.NamedData.{NamedData}
 use Rattle.net_bind.specs.DataByName.{default_word, given_cells, grouped, gridded, named}
 use Rattle.net_bind.specs.DataFor.{leader, headed_for, set_for, data_in, data_for}
@@ -37,7 +37,7 @@ use Rattle.net_bind.proofs.SoundRows.{IsMember, all_flat, all_take, all_at, all_
 -- ---- the tokens of the data
 
 -- the columns of a table are members, and numerals have values
-abbrev pub HasMembers : Given → Type 0
+abbrev pub HasMembers : DataContent → Type 0
 HasMembers (given.Members ts) = Unit {0}
 HasMembers (given.Groups g) = AllByRecursion HasValue g.cells
 HasMembers (given.Grid g) = AllByRecursion IsMember g.columns × AllByRecursion HasValue g.cells
@@ -103,7 +103,7 @@ default_members (m ∷ ms) h = go m.default h.0.1 (default_members ms h.1)
 
 -- ---- rows that have this number of members, and a value
 
-pub record IsWhole (size : ℕ) (r : Row) : Type 0 where
+pub record IsWhole (size : ℕ) (r : DataRow) : Type 0 where
   pub long : length r.keys ≡ size
   pub members : AllByRecursion IsMember r.keys
   pub value : IsMember r.value
@@ -112,7 +112,7 @@ cell_whole : (size : ℕ) (key : List Token) (v : Option Token) → length key �
 cell_whole size key None l h k = tt
 cell_whole size key (Some x) l h k = go (points x.kind) refl
   where
-    row : Row
+    row : DataRow
     row = record { keys = key; value = x }
 
     go : (b : Bool) → points x.kind ≡ b → AllByRecursion (IsWhole size) (if b then [] else row ∷ [])
@@ -176,7 +176,7 @@ two word n u e = go (nat_eq n 2) refl e
     go true f k = eqb-true n 2 f
     go false f k = cc
 
-pub rows_whole : (widths : List ℕ) (size : ℕ) (word : Token) (g : Given) (u : Unit {0}) → shaped widths size word g ≡ Ok u → HasMembers g → AllByRecursion (IsWhole size) (rows_given size g)
+pub rows_whole : (widths : List ℕ) (size : ℕ) (word : Token) (g : DataContent) (u : Unit {0}) → shaped widths size word g ≡ Ok u → HasMembers g → AllByRecursion (IsWhole size) (rows_given size g)
 rows_whole widths size word (given.Members ts) u e h = tt
 rows_whole widths size word (given.Groups g) u e h =
     then_ok (agrees word (leading_size widths g.leader size) size) (λ v. whole_groups word.span size (size + g.values) (cut (size + g.values) g.cells)) u e (λ v i k.

@@ -10,7 +10,7 @@ use Rattle.net_base.specs.declared.diagnostic.Span.{Span}
 use Rattle.net_base.specs.Outcomes.{and_then}
 use Rattle.net_lex.specs.declared.token.Token.{Token}
 use Rattle.net_data.specs.declared.statement.Statement.{Statement}
-use Rattle.net_data.specs.Rows.{Row as DataRow}
+use Rattle.net_data.specs.Rows.{DataRow}
 use Rattle.net_sets.specs.declared.member.Member.{Member}
 use Rattle.net_sets.specs.declared.member.Member.TheVariants as member
 use Rattle.net_sets.specs.Limits.{arity_limit}

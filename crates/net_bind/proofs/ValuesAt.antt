@@ -12,7 +12,7 @@ use Rattle.net_sets.specs.declared.member.Member.{Member}
 use Rattle.net_sets.specs.Limits.{tuples_limit}
 use Rattle.net_sets.specs.Sets.{Tuple, same_tuple, has, at_key}
 use Rattle.net_sets.proofs.Sames.{same_itself, same_turned}
-use Rattle.net_data.specs.Rows.{Row as DataRow, points, row_of}
+use Rattle.net_data.specs.Rows.{DataRow, points, row_of}
 use Rattle.net_tree.specs.Tree.{Braces, Phrase}
 use Rattle.net_expr.specs.declared.indexing.Indexing.{Indexing}
 use Rattle.net_expr.specs.declared.row.Row.{Row}
@@ -26,8 +26,8 @@ use Rattle.net_expr.proofs.KeysOnce.{have_distinct_keys}
 use Rattle.net_expr.proofs.SetsGiven.{keeps_sets}
 use Rattle.net_expr.proofs.Walked.{none_there}
 use Rattle.net_base.specs.declared.diagnostic.Diagnostic.{Diagnostic}
-use Rattle.net_bind.specs.declared.given.Given.{Given}
-use Rattle.net_bind.specs.declared.given.Given.TheVariants as given
+use Rattle.net_bind.specs.declared.given.DataContent.{DataContent}
+use Rattle.net_bind.specs.declared.given.DataContent.TheVariants as given
 use Rattle.net_bind.specs.declared.given.NamedData.{NamedData}
 use Rattle.net_tree.specs.Phrases.{is_becomes}
 use Rattle.net_tree.specs.PhraseValues.{phrase_value}
@@ -105,7 +105,7 @@ line_adds : (p : NamedParameter) (turned : Bool) (columns line : List Token) (t 
 line_adds p turned columns [] t u e = adds_none t u (is_ok t u e)
 line_adds p turned columns (row ∷ cells) t u e = across_adds p turned row columns cells t u e
 
-rows_add : (p : NamedParameter) (size : ℕ) (g : Given) (t u : Taken) → with_rows p size g t ≡ Ok u → Adds t u (rows_given size g)
+rows_add : (p : NamedParameter) (size : ℕ) (g : DataContent) (t u : Taken) → with_rows p size g t ≡ Ok u → Adds t u (rows_given size g)
 rows_add p size (given.Members ts) t u e = adds_none t u (is_ok t u e)
 rows_add p size (given.Groups g) t u e =
     each_adds (with_group p size g.place) (λ group. row_of (take size group) (slice_get group (size + g.place)))
@@ -113,7 +113,7 @@ rows_add p size (given.Groups g) t u e =
 rows_add p size (given.Grid g) t u e =
     each_adds (with_line p g.transposed g.columns) (rows_across g.transposed g.columns) (λ x b c i. line_adds p g.transposed g.columns x b c i) (cut (1 + length g.columns) g.cells) t u e
 
-taken_adds : (widths : List ℕ) (p : NamedParameter) (size : ℕ) (g : Given) (b : Bool) (t u : Taken) → taken widths p size g b t ≡ Ok u → Adds t u (rows_given size g)
+taken_adds : (widths : List ℕ) (p : NamedParameter) (size : ℕ) (g : DataContent) (b : Bool) (t u : Taken) → taken widths p size g b t ≡ Ok u → Adds t u (rows_given size g)
 taken_adds widths p size g b t u e = then_ok (shaped widths size p.word g) (λ v. if b then doubled p.word else with_rows p size g t) u e (λ v i k. go b k)
   where
     go : (c : Bool) → (if c then doubled p.word else with_rows p size g t) ≡ Ok u → Adds t u (rows_given size g)

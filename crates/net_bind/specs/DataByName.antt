@@ -7,8 +7,8 @@ use Rattle.net_data.specs.declared.statement.Given.{Given as Cells}
 use Rattle.net_data.specs.declared.statement.NamedSet.{NamedSet}
 use Rattle.net_data.specs.declared.statement.Statement.{Statement}
 use Rattle.net_data.specs.declared.statement.Statement.TheVariants.{Set, List as Listed, Table, Columns}
-use Rattle.net_bind.specs.declared.given.Given.{Given}
-use Rattle.net_bind.specs.declared.given.Given.TheVariants as given
+use Rattle.net_bind.specs.declared.given.DataContent.{DataContent}
+use Rattle.net_bind.specs.declared.given.DataContent.TheVariants as given
 use Rattle.net_bind.specs.declared.given.NamedData.{NamedData}
 use Rattle.net_base.specs.Outcomes.{Outcome, and_then, each}
 use Rattle.net_bind.specs.Names.{Declared, target}
@@ -34,13 +34,13 @@ given_cells None = []
 given_cells (Some g) = g.cells
 
 -- groups of a key and values; the value with index `place` is used
-abbrev pub grouped : (leader values place : ℕ) → List Token → Given
+abbrev pub grouped : (leader values place : ℕ) → List Token → DataContent
 grouped leader values place cells = given.Groups (record { leader = leader; values = values; place = place; cells = cells })
 
-abbrev pub gridded : Bool → List Token → List Token → Given
+abbrev pub gridded : Bool → List Token → List Token → DataContent
 gridded transposed columns cells = given.Grid (record { transposed = transposed; columns = columns; cells = cells })
 
-abbrev pub named : Token → Option Token → Given → NamedData
+abbrev pub named : Token → Option Token → DataContent → NamedData
 named word default g = record { word = word; default = default; given = g }
 
 -- adds the content of a statement for the name in a token

@@ -9,7 +9,7 @@ use Rattle.net_data.specs.declared.statement.Statement.{Statement}
 use Rattle.net_data.specs.declared.statement.Statement.TheVariants.{Set, List as Listed, Table, Columns}
 use Rattle.net_expr.specs.Worlds.{Name}
 use Rattle.net_base.specs.Outcomes.{Outcome, and_then}
-use Rattle.net_bind.specs.declared.given.Given.TheVariants as given
+use Rattle.net_bind.specs.declared.given.DataContent.TheVariants as given
 use Rattle.net_bind.specs.declared.given.NamedData.{NamedData}
 use Rattle.net_bind.specs.DataByName.{default_word, given_cells, grouped, gridded, named, set_first, first_of, or_zero}
 use Rattle.net_bind.specs.Names.{Declared}

@@ -8,7 +8,7 @@ use Rattle.net_data.specs.declared.statement.TableStatement.{TableStatement}
 use Rattle.net_data.specs.declared.statement.ColumnsStatement.{ColumnsStatement}
 use Rattle.net_data.specs.declared.statement.Statement.TheVariants.{List as Listed, Table as Tabled, Columns}
 use Rattle.net_data.specs.Rows as stated
-use Rattle.net_data.specs.Rows.{Row, rows, key_rows}
+use Rattle.net_data.specs.Rows.{DataRow, rows, key_rows}
 use Rattle.net_data.specs.Tests.{is_mark}
 use Rattle.net_bind.specs.DataByName.{grouped, gridded, given_cells}
 use Rattle.net_base.specs.Outcomes.{Outcome, each}
@@ -16,8 +16,8 @@ use Rattle.net_bind.specs.Rows.{NamedParameter, Taken, with_row, with_rows}
 use Rattle.net_bind.specs.SetData.{set_rows, cut}
 
 -- adds the rows in order
-abbrev pub taken_rows : NamedParameter → List Row → Taken → Outcome Taken
-taken_rows p all t = each (λ (r : Row). with_row p r.keys r.value) all t
+abbrev pub taken_rows : NamedParameter → List DataRow → Taken → Outcome Taken
+taken_rows p all t = each (λ (r : DataRow). with_row p r.keys r.value) all t
 
 -- a parameter alone in its statement
 abbrev pub TakesLists : Type 0

@@ -3,7 +3,7 @@
 use Rattle.std.specs.Prelude.{◌≡◌, ℕ, ◌+◌, true, Bool, List, [], ◌∷◌, length, map, take, slice_get, Option, None, Some, Ok}
 use Rattle.std.specs.List.{AllByRecursion, IsDistinct, flat_map, zip}
 use Rattle.net_lex.specs.declared.token.Token.{Token}
-use Rattle.net_data.specs.Rows.{Row as DataRow, row_of}
+use Rattle.net_data.specs.Rows.{DataRow, row_of}
 use Rattle.net_sets.specs.declared.member.Member.{Member}
 use Rattle.net_sets.specs.Sets.{Tuple, same_tuple, has, at_key}
 use Rattle.net_tree.specs.Tree.{Braces, Phrase}
@@ -16,8 +16,8 @@ use Rattle.net_expr.specs.SetValues.{HasSets}
 use Rattle.net_expr.specs.Worlds.{Name, World, entry_of, key_count}
 use Rattle.net_tree.specs.Phrases.{is_becomes, is_default}
 use Rattle.net_tree.specs.PhraseValues.{phrase_value}
-use Rattle.net_bind.specs.declared.given.Given.{Given}
-use Rattle.net_bind.specs.declared.given.Given.TheVariants as given
+use Rattle.net_bind.specs.declared.given.DataContent.{DataContent}
+use Rattle.net_bind.specs.declared.given.DataContent.TheVariants as given
 use Rattle.net_bind.specs.declared.given.NamedData.{NamedData}
 use Rattle.net_bind.specs.BoundParameters.{keys_with, Source, source, from_source, bound_parameter}
 use Rattle.net_bind.specs.Cells.{member_in, tuple_in}
@@ -45,7 +45,7 @@ rows_across turned columns [] = []
 rows_across turned columns (row ∷ cells) = flat_map (λ pair. row_of (pair_of turned row pair.0) (Some pair.1)) (zip columns cells)
 
 -- the rows in the data of a statement, for a number of keys; a missing-value dot gives none
-abbrev pub rows_given : ℕ → Given → List DataRow
+abbrev pub rows_given : ℕ → DataContent → List DataRow
 rows_given size (given.Members ts) = []
 rows_given size (given.Groups g) = flat_map (λ group. row_of (take size group) (slice_get group (size + g.place))) (cut (size + g.values) g.cells)
 rows_given size (given.Grid g) = flat_map (rows_across g.transposed g.columns) (cut (1 + length g.columns) g.cells)

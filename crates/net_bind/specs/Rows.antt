@@ -14,8 +14,8 @@ use Rattle.net_base.specs.declared.error_code.ErrorCode.TheVariants.{Arity, Outs
 use Rattle.net_expr.specs.Worlds.{reference}
 use Rattle.net_base.specs.declared.diagnostic.Fault.{Fault}
 use Rattle.net_base.specs.declared.diagnostic.Fault.TheVariants.{OutOfMemory, At}
-use Rattle.net_bind.specs.declared.given.Given.{Given}
-use Rattle.net_bind.specs.declared.given.Given.TheVariants as given
+use Rattle.net_bind.specs.declared.given.DataContent.{DataContent}
+use Rattle.net_bind.specs.declared.given.DataContent.TheVariants as given
 use Rattle.net_bind.specs.declared.given.NamedData.{NamedData}
 use Rattle.net_bind.specs.Cells.{member_in, tuple_in}
 use Rattle.net_base.specs.Outcomes.{Outcome, and_then, each, rejected_as, rejected_there}
@@ -87,19 +87,19 @@ abbrev pub has_two : Token → ℕ → Outcome (Unit {0})
 has_two word n = if nat_eq n 2 then Ok tt else rejected_there Arity word.span
 
 -- checks the shape of a statement: the number of its keys, and complete groups
-abbrev pub shaped : List ℕ → ℕ → Token → Given → Outcome (Unit {0})
+abbrev pub shaped : List ℕ → ℕ → Token → DataContent → Outcome (Unit {0})
 shaped widths n word (given.Members ts) = Ok tt
 shaped widths n word (given.Groups g) = and_then (agrees word (leading_size widths g.leader n) n) (λ u. whole_groups word.span n (n + g.values) (cut (n + g.values) g.cells))
 shaped widths n word (given.Grid g) = and_then (has_two word n) (λ u. whole_groups word.span 1 (1 + length g.columns) (cut (1 + length g.columns) g.cells))
 
 -- adds its rows
-abbrev pub with_rows : NamedParameter → ℕ → Given → Taken → Outcome Taken
+abbrev pub with_rows : NamedParameter → ℕ → DataContent → Taken → Outcome Taken
 with_rows p size (given.Members ts) t = Ok t
 with_rows p size (given.Groups g) t = each (with_group p size g.place) (cut (size + g.values) g.cells) t
 with_rows p size (given.Grid g) t = each (with_line p g.transposed g.columns) (cut (1 + length g.columns) g.cells) t
 
 -- checks the shape of a statement, then that it does not repeat earlier data, then adds its rows
-abbrev pub taken : List ℕ → NamedParameter → ℕ → Given → Bool → Taken → Outcome Taken
+abbrev pub taken : List ℕ → NamedParameter → ℕ → DataContent → Bool → Taken → Outcome Taken
 taken widths p size g is_doubled t =
     and_then (shaped widths size p.word g) (λ u. if is_doubled then doubled p.word else with_rows p size g t)
 

@@ -9,8 +9,8 @@ use Rattle.net_sets.specs.Sets.{Tuple, has, added}
 use Rattle.net_data.specs.Rows.{points, groups, first_item, begins_tuple, more_items}
 use Rattle.net_base.specs.declared.diagnostic.Detail.TheVariants.{Reported}
 use Rattle.net_base.specs.declared.error_code.ErrorCode.TheVariants.{Arity, TooMany, DoubleValue}
-use Rattle.net_bind.specs.declared.given.Given.{Given}
-use Rattle.net_bind.specs.declared.given.Given.TheVariants as given
+use Rattle.net_bind.specs.declared.given.DataContent.{DataContent}
+use Rattle.net_bind.specs.declared.given.DataContent.TheVariants as given
 use Rattle.net_bind.specs.declared.given.NamedData.{NamedData}
 use Rattle.net_bind.specs.Cells.{tuple_in}
 use Rattle.net_base.specs.Outcomes.{Outcome, and_then, each, rejected_as, rejected_there}
@@ -38,7 +38,7 @@ items ts = items_from (length ts) ts
 abbrev pub words : List Token → List Token
 words ts = flat_map (λ (i : Item). i.members) (items ts)
 
-abbrev pub given_words : Given → List Token
+abbrev pub given_words : DataContent → List Token
 given_words (given.Members ts) = words ts
 given_words (given.Groups g) = []
 given_words (given.Grid g) = []
@@ -108,7 +108,7 @@ abbrev pub agrees : Token → ℕ → ℕ → Outcome (Unit {0})
 agrees word reported own = if nat_eq reported own then Ok tt else rejected_there Arity word.span
 
 -- the rows of a set of this dimension in a statement; each must have that length
-abbrev pub given_rows : List ℕ → ℕ → Token → Given → Outcome (List (List Token))
+abbrev pub given_rows : List ℕ → ℕ → Token → DataContent → Outcome (List (List Token))
 given_rows widths n word (given.Members ts) = and_then (all_of_size word.span n (set_rows n ts)) (λ u. Ok (set_rows n ts))
 given_rows widths n word (given.Groups g) =
     and_then (agrees word (leading_size widths g.leader n) n) (λ u.

@@ -5,8 +5,8 @@ ghost use Rattle.net_data.specs.declared.statement.Statement.TheVariants as Stat
 ghost use Rattle.net_bind.specs.DataByName as named_data;
 ghost use Rattle.net_base.specs.Outcomes.{Refines, Updates};
 
-use crate::declared_names::Names;
-use crate::given::{DataFor, Given, Grid, Groups, Line, NamedData};
+use crate::declared_names::DeclaredNames;
+use crate::given::{DataContent, DataFor, Grid, Groups, Line, NamedData};
 use net_base::{Fault, Items};
 use net_data::{
     ColumnsStatement, DefaultValue, ListStatement, NamedSet, SetStatement, Statement,
@@ -17,11 +17,11 @@ use std::alloc::{AllocError, Global};
 
 /// Adds a statement's data for the set or parameter that a token names.
 fn add<'m, 't, 's>(
-    names: &Names<'s>,
+    names: &DeclaredNames<'s>,
     is_set: bool,
     word: &Word<'t, 's>,
     default: Option<Word<'t, 's>>,
-    given: Given<'m, 't, 's>,
+    given: DataContent<'m, 't, 's>,
     all: &mut Vec<DataFor<'m, 't, 's>>,
 ) -> Result<(), Fault>
     ensures { Updates (named_data.with_named names.now is_set word.now (λ i. named_data.named word.now default.entry given.entry) all.old.items)
@@ -41,13 +41,13 @@ fn add<'m, 't, 's>(
 
 /// Adds the members of a set, as in `set S := a b;`.
 fn in_set<'t, 's>(
-    names: &Names<'s>,
+    names: &DeclaredNames<'s>,
     set: &SetStatement<'t, 's>,
     all: &mut Vec<DataFor<'_, 't, 's>>,
 ) -> Result<(), Fault>
     ensures { Updates (named_data.in_statement names.now (Statements.Set set.now) all.old.items) result all.new.items }
 {
-    let given = Given::Members(set.items.copied());
+    let given = DataContent::Members(set.items.copied());
     add(names, true, &set.name, None, given, all)
 }
 
@@ -62,7 +62,7 @@ fn default_word<'t, 's>(default: &Option<DefaultValue<'t, 's>>) -> Option<Word<'
 
 /// Adds the values of a parameter, as in `param p default 0 := a 1;`.
 fn in_list<'m, 't, 's>(
-    names: &Names<'s>,
+    names: &DeclaredNames<'s>,
     list: &ListStatement<'t, 's>,
     cells: &'m [Word<'t, 's>],
     all: &mut Vec<DataFor<'m, 't, 's>>,
@@ -82,14 +82,14 @@ fn in_list<'m, 't, 's>(
         false,
         &list.name,
         default,
-        Given::Groups(groups),
+        DataContent::Groups(groups),
         all,
     )
 }
 
 /// Adds a table of a parameter, as in `param p : a b := c 1 2;`.
 fn in_table<'m, 't, 's>(
-    names: &Names<'s>,
+    names: &DeclaredNames<'s>,
     table: &'m TableStatement<'t, 's>,
     all: &mut Vec<DataFor<'m, 't, 's>>,
 ) -> Result<(), Fault>
@@ -101,10 +101,20 @@ fn in_table<'m, 't, 's>(
         cells: Line::new(table.cells.as_slice()),
     };
     let default = default_word(&table.default);
-    add(names, false, &table.name, default, Given::Grid(grid), all)
+    add(
+        names,
+        false,
+        &table.name,
+        default,
+        DataContent::Grid(grid),
+        all,
+    )
 }
 
-fn set_first<'s>(names: &Names<'s>, set: &Option<NamedSet<'_, 's>>) -> Result<Option<usize>, Fault>
+fn set_first<'s>(
+    names: &DeclaredNames<'s>,
+    set: &Option<NamedSet<'_, 's>>,
+) -> Result<Option<usize>, Fault>
     ensures { Refines (named_data.set_first names.now set.now) result }
 {
     match set {
@@ -127,7 +137,7 @@ fn lesser(first: Option<usize>, place: usize) -> usize
 
 /// Looks up all names in a heading; returns the index of the one declared first.
 fn first_of<'s>(
-    names: &Names<'s>,
+    names: &DeclaredNames<'s>,
     words: &[Word<'_, 's>],
     before: Option<usize>,
 ) -> Result<Option<usize>, Fault>
@@ -146,10 +156,10 @@ fn groups_of<'m, 't, 's>(
     leader: usize,
     place: usize,
     columns: &'m ColumnsStatement<'t, 's>,
-) -> Given<'m, 't, 's>
+) -> DataContent<'m, 't, 's>
     ensures { result ≡ named_data.grouped leader (length columns.entry.now.names) place columns.entry.now.cells }
 {
-    Given::Groups(Groups {
+    DataContent::Groups(Groups {
         leader,
         values: columns.names.as_slice().len(),
         place,
@@ -159,7 +169,7 @@ fn groups_of<'m, 't, 's>(
 
 /// Adds the parameters of a heading.
 fn in_heading<'m, 't, 's>(
-    names: &Names<'s>,
+    names: &DeclaredNames<'s>,
     leader: usize,
     columns: &'m ColumnsStatement<'t, 's>,
     all: &mut Vec<DataFor<'m, 't, 's>>,
@@ -176,7 +186,7 @@ fn in_heading<'m, 't, 's>(
 
 /// Adds the set of a heading.
 fn set_headed<'m, 't, 's>(
-    names: &Names<'s>,
+    names: &DeclaredNames<'s>,
     leader: usize,
     columns: &'m ColumnsStatement<'t, 's>,
     all: &mut Vec<DataFor<'m, 't, 's>>,
@@ -195,7 +205,7 @@ fn set_headed<'m, 't, 's>(
 
 /// Adds the columns of several parameters, as in `param : S : p q := a 1 2;`.
 fn in_columns<'m, 't, 's>(
-    names: &Names<'s>,
+    names: &DeclaredNames<'s>,
     columns: &'m ColumnsStatement<'t, 's>,
     all: &mut Vec<DataFor<'m, 't, 's>>,
 ) -> Result<(), Fault>
@@ -208,7 +218,7 @@ fn in_columns<'m, 't, 's>(
 }
 
 fn in_statement<'m, 't, 's>(
-    names: &Names<'s>,
+    names: &DeclaredNames<'s>,
     statement: &'m Statement<'t, 's>,
     all: &mut Vec<DataFor<'m, 't, 's>>,
 ) -> Result<(), Fault>
@@ -228,7 +238,7 @@ fn in_statement<'m, 't, 's>(
 /// Creates empty data for each name. Fails only if memory runs out.
 fn no_data<'m, 't, 's>(
     alloc: Global,
-    names: &Names<'s>,
+    names: &DeclaredNames<'s>,
 ) -> Result<Vec<DataFor<'m, 't, 's>>, AllocError>
     ensures { IfOk result (λ all. all.items ≡ named_data.no_data names.now) }
 {
@@ -246,7 +256,7 @@ fn no_data<'m, 't, 's>(
 /// parameter as the statement requires.
 pub(crate) fn data_by_name<'m, 't, 's>(
     alloc: Global,
-    names: &Names<'s>,
+    names: &DeclaredNames<'s>,
     statements: &'m [Statement<'t, 's>],
 ) -> Result<Items<DataFor<'m, 't, 's>>, Fault>
     ensures { Refines (named_data.data_by_name names.now statements.entry.now) result }

@@ -14,7 +14,7 @@ use crate::boxed_values::{StoredSet, unboxed, value_of};
 use crate::superset::Superset;
 use net_expr::{Env, Value};
 use net_sets::{ARITY_LIMIT, Cow, TUPLES_LIMIT, TupleSet, narrowest, widest};
-use net_tree::{BinOp, Expr, Link, Operator};
+use net_tree::{BinOp, Expr, LinkedOperand, Operator};
 use std::alloc::Global;
 
 fn is_cross(operator: &Operator<'_>) -> bool
@@ -24,7 +24,7 @@ fn is_cross(operator: &Operator<'_>) -> bool
 }
 
 /// Returns the right operand of a single `cross`.
-fn after_cross<'a, 's>(links: &'a [Link<'s>]) -> Option<&'a Expr<'s>>
+fn after_cross<'a, 's>(links: &'a [LinkedOperand<'s>]) -> Option<&'a Expr<'s>>
     ensures { option_map (λ x. tree x.now) result ≡ forms.after_cross (links_of links.entry.now) }
 {
     match links {

@@ -4,7 +4,7 @@ ghost use Rattle.std.specs.Prelude.{◌≡◌, ◌≤◌, ◌+◌, ◌++◌, ◌
 ghost use Rattle.net_bind.specs.SetData as set_data;
 
 use crate::cell_group::{behind, front};
-use crate::given::{Given, Line};
+use crate::given::{DataContent, Line};
 use net_base::Items;
 use net_data::Members;
 use net_lex::Word;
@@ -13,14 +13,14 @@ use std::alloc::{AllocError, Global};
 /// Returns the members of all items, if the statement gives items. Fails only if memory runs out.
 pub(crate) fn given_words<'t, 's>(
     alloc: Global,
-    given: &Given<'_, 't, 's>,
+    given: &DataContent<'_, 't, 's>,
 ) -> Result<Items<Word<'t, 's>>, AllocError>
     ensures { IfOk result (λ all. all ≡ set_data.given_words given.now) }
 {
     match given {
-        Given::Members(members) => words_of(alloc, members),
-        Given::Groups(_) => Ok(Items::new(Vec::new(alloc))),
-        Given::Grid(_) => Ok(Items::new(Vec::new(alloc))),
+        DataContent::Members(members) => words_of(alloc, members),
+        DataContent::Groups(_) => Ok(Items::new(Vec::new(alloc))),
+        DataContent::Grid(_) => Ok(Items::new(Vec::new(alloc))),
     }
 }
 

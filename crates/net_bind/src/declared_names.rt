@@ -16,12 +16,12 @@ use std::marker::Model;
 
 /// The declared names in order, each with whether it is a set's.
 #[derive(Drop)]
-pub(crate) struct Names<'s> {
+pub(crate) struct DeclaredNames<'s> {
     alloc: Global,
     are_sets: NameMap<'s, bool>,
 }
 
-impl<'s> Model for Names<'s> {
+impl<'s> Model for DeclaredNames<'s> {
     ghost use Rattle.std.specs.Prelude.{List, ℕ, Bool};
 
     ghost Value = { List (List ℕ × Bool) };
@@ -29,7 +29,7 @@ impl<'s> Model for Names<'s> {
     ghost view = { λ n. n.are_sets };
 }
 
-impl<'s> Names<'s> {
+impl<'s> DeclaredNames<'s> {
     /// Returns the number of names.
     pub(crate) fn len(&self) -> usize
         ensures { result ≡ length self.now }
@@ -62,7 +62,7 @@ pub(crate) fn declared<'s>(
     alloc: Global,
     key: HashKey,
     decls: &[Decl<'s>],
-) -> Result<Names<'s>, AllocError>
+) -> Result<DeclaredNames<'s>, AllocError>
     requires { binding.AreNew [] (map declaration_of decls.now) }
     ensures { IfOk result (λ all. all ≡ names.declared (map declaration_of decls.now)) }
 {
@@ -70,7 +70,7 @@ pub(crate) fn declared<'s>(
     for decl in decls {
         add_declared(&mut are_sets, decl)?;
     }
-    Ok(Names { alloc, are_sets })
+    Ok(DeclaredNames { alloc, are_sets })
 }
 
 /// Adds the name of a set or of a parameter.

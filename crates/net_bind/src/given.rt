@@ -59,7 +59,7 @@ pub(crate) struct Grid<'m, 't, 's> {
 
 /// The content of a statement for a name.
 #[derive(Drop)]
-pub(crate) enum Given<'m, 't, 's> {
+pub(crate) enum DataContent<'m, 't, 's> {
     /// The members and tuples of a set.
     Members(Members<'t, 's>),
     Groups(Groups<'m, 't, 's>),
@@ -72,7 +72,7 @@ pub(crate) struct NamedData<'m, 't, 's> {
     pub(crate) word: Word<'t, 's>,
     /// The value after `default`.
     pub(crate) default: Option<Word<'t, 's>>,
-    pub(crate) given: Given<'m, 't, 's>,
+    pub(crate) given: DataContent<'m, 't, 's>,
 }
 
 /// The data for one declared name, statement by statement; contracts see them as a list.

@@ -2,14 +2,14 @@
 
 ghost use Rattle.std.specs.Prelude.{◌≡◌, [], None};
 ghost use Rattle.net_expr.specs.Worlds.{key_count};
-ghost use Rattle.net_bind.specs.declared.given.Given.TheVariants as given;
+ghost use Rattle.net_bind.specs.declared.given.DataContent.TheVariants as given;
 ghost use Rattle.net_bind.specs.ParameterViews.{named_of, parameter_of};
 ghost use Rattle.net_bind.specs.Rows as rows;
 ghost use Rattle.net_base.specs.Outcomes.{Updates, each};
 
 use crate::cell_group::whole_rows;
 use crate::data_row::{NamedParameter, Values, pair_of, with_cell, with_groups};
-use crate::given::{Given, Grid, Groups, Line, NamedData};
+use crate::given::{DataContent, Grid, Groups, Line, NamedData};
 use crate::parameter::Parameter;
 use crate::set_declaration::{agrees, doubled, leading_size};
 use net_base::Fault;
@@ -114,7 +114,7 @@ fn taken<'t, 's>(
     alloc: Global,
     widths: &[usize],
     parameter: &NamedParameter<'_, 't, 's>,
-    said: &Given<'_, 't, 's>,
+    said: &DataContent<'_, 't, 's>,
     is_doubled: bool,
     values: &mut Values<'s>,
 ) -> Result<(), Fault>
@@ -122,15 +122,17 @@ fn taken<'t, 's>(
         is_doubled values.old) result values.new }
 {
     match said {
-        Given::Members(_) => {
+        DataContent::Members(_) => {
             if is_doubled {
                 Err(doubled(alloc, parameter.word)?)
             } else {
                 Ok(())
             }
         }
-        Given::Groups(groups) => grouped(alloc, widths, parameter, groups, is_doubled, values),
-        Given::Grid(grid) => gridded(alloc, parameter, grid, is_doubled, values),
+        DataContent::Groups(groups) => grouped(
+            alloc, widths, parameter, groups, is_doubled, values,
+        ),
+        DataContent::Grid(grid) => gridded(alloc, parameter, grid, is_doubled, values),
     }
 }
 

@@ -7,7 +7,7 @@ ghost use Rattle.net_base.specs.declared.diagnostic.Language.TheVariants.{Data a
 ghost use Rattle.net_base.specs.declared.diagnostic.Detail.TheVariants.{Reported};
 ghost use Rattle.net_base.specs.declared.diagnostic.Fault.TheVariants.{At};
 ghost use Rattle.net_base.specs.declared.error_code.ErrorCode.TheVariants.{DoubleValue};
-ghost use Rattle.net_bind.specs.declared.given.Given.TheVariants as given;
+ghost use Rattle.net_bind.specs.declared.given.DataContent.TheVariants as given;
 ghost use Rattle.net_tree.specs.View.{phrase_of};
 ghost use Rattle.net_bind.specs.BoundSets as bound;
 ghost use Rattle.net_bind.specs.SetData as set_data;
@@ -19,7 +19,7 @@ use crate::boxed_values::{boxed, unboxed};
 use crate::cell::tuple_in;
 use crate::cell_group::{all_of_size, begins_at, keys_of, whole_rows};
 use crate::data_item::{given_words, set_rows};
-use crate::given::{Given, Groups, Line, NamedData};
+use crate::given::{DataContent, Groups, Line, NamedData};
 use crate::set_phrase::{Claim, Claims, SetPhrase, assigned, into_assigned, set_phrases};
 use crate::world_calls::reject_name;
 use net_base::{Boxed, ErrorCode, Fault, Items, Language};
@@ -112,9 +112,9 @@ fn given_rows<'c, 't, 's>(
     ensures { Refines (set_data.given_rows widths.now dimension named.now.word named.now.given) result }
 {
     match &named.given {
-        Given::Members(members) => member_rows(alloc, dimension, &named.word, members, words),
-        Given::Groups(groups) => key_rows(alloc, widths, dimension, &named.word, groups),
-        Given::Grid(_) => Ok(Items::new(Vec::new(alloc))),
+        DataContent::Members(members) => member_rows(alloc, dimension, &named.word, members, words),
+        DataContent::Groups(groups) => key_rows(alloc, widths, dimension, &named.word, groups),
+        DataContent::Grid(_) => Ok(Items::new(Vec::new(alloc))),
     }
 }
 

@@ -18,7 +18,7 @@ use crate::stored::{Carried, Stored, boxed, push};
 use crate::token_cursor::{TokenCursor, expect, operator_at};
 use net_base::Items;
 use net_lex::Token;
-use net_tree::{Expr, Link, NetCond, NetWord, Relation, Role, Sign, Terminal, precedence};
+use net_tree::{Expr, LinkedOperand, NetCond, NetWord, Relation, Role, Sign, Terminal, precedence};
 use std::alloc::Global;
 
 /// Parses `net_in` or `net_out`.
@@ -104,7 +104,7 @@ fn further_term_at<'t, 's>(
     depth: u8,
     free: bool,
     tokens: &mut TokenCursor<'t, 's>,
-) -> Result<(Stored<Link<'s>>, bool), ParseError>
+) -> Result<(Stored<LinkedOperand<'s>>, bool), ParseError>
     ensures value { Gives (λ x. (link_of x.0, x.1)) result tokens.new (grammar.further_term_at (nested depth) free tokens.old) }
     ensures shorter { IfOk result (λ x. length tokens.new < length tokens.old) }
 {
@@ -120,7 +120,7 @@ fn further_terms<'t, 's>(
     depth: u8,
     first: bool,
     tokens: &mut TokenCursor<'t, 's>,
-) -> Result<(Carried<Items<Link<'s>>>, bool), ParseError>
+) -> Result<(Carried<Items<LinkedOperand<'s>>>, bool), ParseError>
     ensures value { Gives (λ x. (map link_of x.0, x.1)) result tokens.new (grammar.further_terms (nested depth) first tokens.old) }
     ensures shorter { IfOk result (λ x. length tokens.new ≤ length tokens.old) }
 {

@@ -20,7 +20,7 @@ use crate::stored::{Carried, Stored, boxed};
 use crate::token_cursor::{TokenCursor, expect};
 use net_base::Items;
 use net_lex::Token;
-use net_tree::{Braces, Expr, Leaf, Link, Operands, Role, Sign, precedence};
+use net_tree::{Braces, Expr, Leaf, LinkedOperand, Operands, Role, Sign, precedence};
 use std::alloc::Global;
 
 /// Parses an atom, a signed operand or a reduction.
@@ -128,7 +128,7 @@ fn indexed<'t, 's>(
     name: Token<'s>,
     opening: Token<'s>,
     first: Stored<Expr<'s>>,
-    more: Carried<Items<Link<'s>>>,
+    more: Carried<Items<LinkedOperand<'s>>>,
     tokens: &mut TokenCursor<'t, 's>,
 ) -> Result<Stored<Expr<'s>>, ParseError>
     ensures value { Gives tree result tokens.new (expect sorts.CloseSquare awaiting.Other tokens.old ▷ λ c. read_as
@@ -203,7 +203,7 @@ fn listed<'t, 's>(
     alloc: Global,
     opening: Token<'s>,
     first: Stored<Expr<'s>>,
-    more: Carried<Items<Link<'s>>>,
+    more: Carried<Items<LinkedOperand<'s>>>,
     tokens: &mut TokenCursor<'t, 's>,
 ) -> Result<Stored<Expr<'s>>, ParseError>
     ensures value { Gives tree result tokens.new (grammar.listed opening.entry (tree first.entry) (links_of more.entry) tokens.old) }

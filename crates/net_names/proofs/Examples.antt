@@ -4,7 +4,7 @@ use Rattle.std.proofs.Common.{refl}
 use Rattle.net_lex.specs.declared.token.Token.{Token}
 use Rattle.net_lex.specs.declared.token.Kind.{Kind}
 use Rattle.net_lex.specs.declared.token.Kind.TheVariants as kinds
-use Rattle.net_tree.specs.declared.operator.Words.TheVariants.{One, Two}
+use Rattle.net_tree.specs.declared.operator.OperatorWords.TheVariants.{One, Two}
 use Rattle.net_tree.specs.Operations.{operation, operations}
 use Rattle.net_tree.specs.Role.{role_of, marks, keys}
 use Rattle.net_tree.specs.Tree.{Tree, Braces, leaf, indexed, parens, tuple, braced, reduced, chain, none, link, absent, part, filled, valued, priced, Phrase, unsaid, Declaration, set, check, node, arc, objective}

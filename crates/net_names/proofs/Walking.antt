@@ -3,8 +3,8 @@ use Rattle.std.specs.Prelude.{◌≡◌, ◌+◌, ◌<◌, ◌≤◌, ℕ, zero,
 use Rattle.std.proofs.Common.{refl, sym, ap, subst, ◌∙◌, arith, append_assoc}
 use Rattle.std.proofs.lemmas.List.{append-nil, take_at}
 use Rattle.net_lex.specs.declared.token.Token.{Token}
-use Rattle.net_tree.specs.declared.operator.Words.{Words as Operator}
-use Rattle.net_tree.specs.declared.expr.Link.{Link, out-Link}
+use Rattle.net_tree.specs.declared.operator.OperatorWords.{OperatorWords as Operator}
+use Rattle.net_tree.specs.declared.expr.LinkedOperand.{LinkedOperand, out-LinkedOperand}
 use Rattle.net_tree.specs.Tree.{Tree, Links, Part, Braces, leaf, tuple, chain, none, link, empty, filled}
 use Rattle.net_tree.specs.View.{tree, links_of}
 use Rattle.net_tree.specs.Weights.{weight, weights}
@@ -121,27 +121,27 @@ pub reports_by : (f g : Option Fault) (r : Result (Unit {0}) NameFault) → f �
 reports_by f g r e h = subst (λ k. Reports k r) (sym e) h
 
 -- a link weighs less than all of them
-pub link_lighter : (ls : List Link) (i : ℕ) (l : Link) → i < length ls → l ≡ get_or ls i l → weight (tree (out-Link l).operand) < weights (links_of ls)
+pub link_lighter : (ls : List LinkedOperand) (i : ℕ) (l : LinkedOperand) → i < length ls → l ≡ get_or ls i l → weight (tree (out-LinkedOperand l).operand) < weights (links_of ls)
 link_lighter [] i l h e = absurd (omega arith)
-link_lighter (x ∷ ls) zero l h e = omega (arith, ap weights (links_of-cons x ls), ap (λ (k : Link). weight (tree (out-Link k).operand)) e)
+link_lighter (x ∷ ls) zero l h e = omega (arith, ap weights (links_of-cons x ls), ap (λ (k : LinkedOperand). weight (tree (out-LinkedOperand k).operand)) e)
 link_lighter (x ∷ ls) (suc i) l h e = omega (arith, ap weights (links_of-cons x ls), link_lighter ls i l (omega arith) e)
 
 -- the fault of the links from one of them on
-pub links_left : (n : Need) (s t : NameScope) (ls : List Link) (i : ℕ) (l : Link) (whole : Option Fault) → i < length ls → l ≡ get_or ls i l → t ≡ s
-    → links_fault n s (links_of (drop i ls)) ≡ whole → first (tree_fault n t (tree (out-Link l).operand)) (links_fault n s (links_of (drop (i + 1) ls))) ≡ whole
+pub links_left : (n : Need) (s t : NameScope) (ls : List LinkedOperand) (i : ℕ) (l : LinkedOperand) (whole : Option Fault) → i < length ls → l ≡ get_or ls i l → t ≡ s
+    → links_fault n s (links_of (drop i ls)) ≡ whole → first (tree_fault n t (tree (out-LinkedOperand l).operand)) (links_fault n s (links_of (drop (i + 1) ls))) ≡ whole
 links_left n s t ls i l whole h e k before =
-    ap (λ u. first (tree_fault n u (tree (out-Link l).operand)) (links_fault n s (links_of (drop (i + 1) ls)))) k
+    ap (λ u. first (tree_fault n u (tree (out-LinkedOperand l).operand)) (links_fault n s (links_of (drop (i + 1) ls)))) k
     ∙ sym (ap (links_fault n s) (next_link ls i l h e)) ∙ before
 
-pub items_left : (n : Need) (s : NameScope) (ls : List Link) (i : ℕ) (l : Link) (whole : Option Fault) → i < length ls → l ≡ get_or ls i l
+pub items_left : (n : Need) (s : NameScope) (ls : List LinkedOperand) (i : ℕ) (l : LinkedOperand) (whole : Option Fault) → i < length ls → l ≡ get_or ls i l
     → items_fault n s (links_of (drop i ls)) ≡ whole
-    → first (item_fault n s (tree (out-Link l).operand)) (items_fault n (with_item s (tree (out-Link l).operand)) (links_of (drop (i + 1) ls))) ≡ whole
+    → first (item_fault n s (tree (out-LinkedOperand l).operand)) (items_fault n (with_item s (tree (out-LinkedOperand l).operand)) (links_of (drop (i + 1) ls))) ≡ whole
 items_left n s ls i l whole h e before =
-    sym (ap (items_fault n s) (next_link ls i l h e) ∙ items-step n s (out-Link l).operator (tree (out-Link l).operand) (links_of (drop (i + 1) ls))) ∙ before
+    sym (ap (items_fault n s) (next_link ls i l h e) ∙ items-step n s (out-LinkedOperand l).operator (tree (out-LinkedOperand l).operand) (links_of (drop (i + 1) ls))) ∙ before
 
-pub components_left : (n : Need) (s : NameScope) (ls : List Link) (i : ℕ) (l : Link) (whole : Option Fault) → i < length ls → l ≡ get_or ls i l
+pub components_left : (n : Need) (s : NameScope) (ls : List LinkedOperand) (i : ℕ) (l : LinkedOperand) (whole : Option Fault) → i < length ls → l ≡ get_or ls i l
     → further_fault n s (links_of (drop i ls)) ≡ whole
-    → first (component_fault n s (tree (out-Link l).operand)) (further_fault n (with_component s (tree (out-Link l).operand)) (links_of (drop (i + 1) ls))) ≡ whole
+    → first (component_fault n s (tree (out-LinkedOperand l).operand)) (further_fault n (with_component s (tree (out-LinkedOperand l).operand)) (links_of (drop (i + 1) ls))) ≡ whole
 components_left n s ls i l whole h e before = sym (ap (further_fault n s) (next_link ls i l h e)) ∙ before
 
 pub after_none : (f g whole : Option Fault) → first f g ≡ whole → f ≡ None → g ≡ whole

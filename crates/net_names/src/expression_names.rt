@@ -17,7 +17,7 @@ use crate::name_fault::NameFault;
 use crate::name_scope::{NameScope, add_component, add_left, is_new};
 use net_base::{Boxed, ErrorCode};
 use net_lex::Token;
-use net_tree::{Braces, Expr, Link, Part, Role, role_of, sides_of};
+use net_tree::{Braces, Expr, LinkedOperand, Part, Role, role_of, sides_of};
 
 /// Checks a name that is used.
 pub(crate) fn check_name<'s>(
@@ -92,7 +92,7 @@ fn check_subscripts<'s>(
     scope: &mut NameScope<'s>,
     name: &Token<'s>,
     first: &Expr<'s>,
-    more: &[Link<'s>],
+    more: &[LinkedOperand<'s>],
 ) -> Result<(), NameFault<'s>>
     ensures value { Reports (reported.first (name_fault need scope.old name.now)
         (reported.first (names.tree_fault (in_subscripts need) scope.old (tree first.now))
@@ -108,7 +108,7 @@ fn check_series<'s>(
     need: Need,
     scope: &mut NameScope<'s>,
     first: &Expr<'s>,
-    more: &[Link<'s>],
+    more: &[LinkedOperand<'s>],
 ) -> Result<(), NameFault<'s>>
     ensures value { Reports (reported.first (names.tree_fault need scope.old (tree first.now)) (names.links_fault need scope.old (links_of more.now))) result }
     ensures kept { OnOk result (scope.new ≡ scope.old) }
@@ -121,7 +121,7 @@ fn check_series<'s>(
 fn check_links<'s>(
     need: Need,
     scope: &mut NameScope<'s>,
-    links: &[Link<'s>],
+    links: &[LinkedOperand<'s>],
 ) -> Result<(), NameFault<'s>>
     ensures value { Reports (names.links_fault need scope.old (links_of links.now)) result }
     ensures kept { OnOk result (scope.new ≡ scope.old) }
@@ -227,7 +227,7 @@ fn read_items<'s>(
     need: Need,
     scope: &mut NameScope<'s>,
     item: &Expr<'s>,
-    more: &[Link<'s>],
+    more: &[LinkedOperand<'s>],
     condition: &Option<Boxed<Part<'s>>>,
 ) -> Result<(), NameFault<'s>>
     ensures value { Reports (items.items_and_part need scope.old (tree item.now) (links_of more.now) (option_part condition.now)) result }
@@ -242,7 +242,7 @@ fn read_items<'s>(
 fn read_more<'s>(
     need: Need,
     scope: &mut NameScope<'s>,
-    links: &[Link<'s>],
+    links: &[LinkedOperand<'s>],
 ) -> Result<(), NameFault<'s>>
     ensures value { Reports (names.items_fault need scope.old (links_of links.now)) result }
     ensures grown { OnOk result (scope.new ≡ dummies.with_items scope.old (links_of links.now)) }
@@ -325,7 +325,7 @@ fn check_components<'s>(
     need: Need,
     scope: &mut NameScope<'s>,
     component: &Expr<'s>,
-    more: &[Link<'s>],
+    more: &[LinkedOperand<'s>],
 ) -> Result<(), NameFault<'s>>
     ensures value { Reports (reported.first (items.component_fault need scope.old (tree component.now))
         (names.further_fault need (dummies.with_component scope.old (tree component.now)) (links_of more.now))) result }
@@ -342,7 +342,7 @@ fn check_components<'s>(
 fn read_components<'s>(
     need: Need,
     scope: &mut NameScope<'s>,
-    links: &[Link<'s>],
+    links: &[LinkedOperand<'s>],
 ) -> Result<(), NameFault<'s>>
     ensures value { Reports (names.further_fault need scope.old (links_of links.now)) result }
     ensures grown { OnOk result (scope.new ≡ dummies.with_components scope.old (links_of links.now)) }

@@ -9,7 +9,7 @@ use crate::hints::Hints;
 use crate::meaning::Meaning;
 use net_base::Excerpt;
 use net_sets::{HashKey, NameMap};
-use net_tree::{Expr, Link, single_name};
+use net_tree::{Expr, LinkedOperand, single_name};
 use std::alloc::{AllocError, Global};
 use std::marker::Model;
 
@@ -116,7 +116,10 @@ pub(crate) fn add_component<'s>(
     }
 }
 
-fn add_components<'s>(scope: &mut NameScope<'s>, links: &[Link<'s>]) -> Result<(), AllocError>
+fn add_components<'s>(
+    scope: &mut NameScope<'s>,
+    links: &[LinkedOperand<'s>],
+) -> Result<(), AllocError>
     ensures { OnOk result (scope.new ≡ dummies.with_components scope.old (links_of links.now)) }
 {
     for link in links {
@@ -128,7 +131,7 @@ fn add_components<'s>(scope: &mut NameScope<'s>, links: &[Link<'s>]) -> Result<(
 fn add_tuple<'s>(
     scope: &mut NameScope<'s>,
     first: &Expr<'s>,
-    more: &[Link<'s>],
+    more: &[LinkedOperand<'s>],
 ) -> Result<(), AllocError>
     ensures { OnOk result (scope.new ≡ dummies.with_components (dummies.with_component scope.old (tree first.now)) (links_of more.now)) }
 {

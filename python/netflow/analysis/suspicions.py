@@ -6,11 +6,47 @@ import re
 from ..inputs.instance import Instance
 from ..reading.model import Shapes, Unparsed, parse
 from ..reading.network import Network, Node
+from ..reading.text import tokens
+from .circles import circle_lines, nothing_flows
 
 
 def remark_lines(instance: Instance, net: Network) -> list[str]:
     model, data = instance.model.text(), [source.text() for source in instance.data]
-    return [*limits_without_effect(net), *without_arcs(net, model, data)]
+    lines = [*limits_without_effect(net), *without_arcs(net, model, data)]
+    lines += [*nothing_flows(net), *(circle_lines(net) if net.cut is None else [])]
+    return [*lines, *unused_parameters(instance, model, data), *ranges_in_data(data)]
+
+
+def unused_parameters(instance: Instance, model: str, data: list[str]) -> list[str]:
+    """Returns a line for each parameter that has data, and that the model declares and uses nowhere."""
+    # A token can have several names, as 1..T has.
+    words = [name for token in tokens(model) for name in re.findall(r"[A-Za-z_]\w*", token.bare())]
+    declared = [name for word, name in zip(words, words[1:]) if word == "param"]
+    unused = [name for name in declared if words.count(name) == 1]
+    given = {token.bare() for text in data for token in tokens(text)} if unused else set()
+    return [
+        f"{name} has data, and the model uses it nowhere: is a bound or a cost meant to be {name}?"
+        for name in unused
+        if name in given or name in instance.changes
+    ]
+
+
+def ranges_in_data(data: list[str]) -> list[str]:
+    """Returns a line for each set of the data with a range, which is one text there."""
+    lines, name, word = [], "", ""
+    for text in data:
+        for token in tokens(text):
+            if word == "set":
+                name = token.text
+            word = token.text if token.text in ("set", "param") else ""
+            match = re.fullmatch(r"(-?[0-9]+)\.\.(-?[0-9]+)", token.text)
+            if match and name:
+                meant = f"set {name} := {token.text};"
+                lines.append(
+                    f"{name} has the text '{token.text}' as a member: data have no ranges: {meant} in the model?"
+                )
+            name = "" if token.text == ";" or word == "param" else name
+    return lines
 
 
 def limits_without_effect(net: Network) -> list[str]:

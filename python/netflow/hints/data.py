@@ -304,7 +304,9 @@ def fraction(diagnostic: Diagnostic) -> Hints:
     if diagnostic.text == "data" and re.fullmatch(r"[0-9]{1,3}(\.[0-9]{3})+", word):
         yield f"{word}: is {word.replace('.', '')} meant? A point begins decimals", False
     if diagnostic.instance is None:
-        yield "the tools and Python take decimals: netflow-sheet plan MODEL DATA --grid", False
+        yield "the tools and Python take decimals: netflow-plan MODEL DATA", False
+    elif diagnostic.instance.unread:
+        yield f"{diagnostic.instance.unread}, which decimals need: write this part in another form", True
     elif diagnostic.text == "data" and not diagnostic.is_change():
         yield f"decimals are scaled in values; a member or a key with a point needs quotes: '{word}'", False
 

@@ -15,6 +15,7 @@ from . import keys as hints_keys
 from . import names as hints_names
 from . import network as hints_network
 from . import numbers as hints_numbers
+from . import pasted as hints_pasted
 from . import sets as hints_sets
 from . import sizes as hints_sizes
 from . import syntax as hints_syntax
@@ -35,7 +36,7 @@ def hints_of(diagnostic: Diagnostic) -> Hints:
     them."""
     alone = [
         found
-        for numbers, hint in (*hints_numbers.ALONE, *hints_tables.ALONE, *hints_network.ALONE)
+        for numbers, hint in (*hints_pasted.ALONE, *hints_numbers.ALONE, *hints_tables.ALONE, *hints_network.ALONE)
         if diagnostic.number in numbers
         for found in hint(diagnostic)
     ]

@@ -70,6 +70,22 @@ class Statement:
     set_name: str = ""
     set_tokens: list[Token] = dataclasses.field(default_factory=list)
     members: list[Member] = dataclasses.field(default_factory=list)
+    rows: list[list[Token]] = dataclasses.field(default_factory=list)
+
+    def rows_of_set(self, width: int) -> list[list[Token]]:
+        """Returns the tokens of each member of a set with tuples of this width, with its parentheses, or of each row
+        that fills a set."""
+        if self.kind != "set":
+            return self.rows
+        result: list[list[Token]] = [[]]
+        count = 0
+        for token in self.rows[0] if self.rows else []:
+            result[-1].append(token)
+            count += token.kind != "mark"
+            if is_mark(token, ")") or count == width and not is_mark(result[-1][0], "("):
+                result.append([])
+                count = 0
+        return result[:-1]
 
 
 def tokens_of(text: str) -> list[Token]:
@@ -117,11 +133,13 @@ class DataText:
         if not words or words[0].text not in ("set", "param"):
             raise Unparsed(words[0].start if words else last.start)
         made = Statement(words[0].text, "", words[0].start, last.end)
-        cut = next((here for here, word in enumerate(words) if is_mark(word, ":=")), None)
-        if cut is None:
+        # `param p default 2;` has no `:=`, and no rows.
+        cut = next((here for here, word in enumerate(words) if is_mark(word, ":=")), len(words))
+        if cut == len(words) and (made.kind == "set" or len(words) not in (2, 4)):
             raise Unparsed(last.start)
         if made.kind == "set":
             made.name = str(words[1].member())
+            made.rows = [words[cut + 1 :]]
             made.members = [word.member() for word in words[cut + 1 :] if word.kind != "mark"]
             return made
         head, body = words[1:cut], words[cut + 1 :]
@@ -159,6 +177,7 @@ class DataText:
         for row in groups(body, count + len(columns)):
             key = tuple(token.member() for token in row[:count])
             made.members += key if made.set_name else ()
+            made.rows += [row] if made.set_name else []
             made.cells += [Cell(column.text, key, cell) for column, cell in zip(columns, row[count:])]
 
     def cells(self) -> Iterator[Cell]:
@@ -204,9 +223,3 @@ def set_statement(name: str, members: Sequence[Key]) -> str:
         member_text(member[0]) if len(member) == 1 else f"({','.join(map(member_text, member))})" for member in members
     ]
     return "\n".join([f"set {name} :=", *rows, ";"]) + "\n"
-
-
-def param_statement(name: str, rows: Sequence[tuple[Key, str]]) -> str:
-    """Returns the statement of a parameter from pairs of a key and the text of a value."""
-    lines = [" ".join([*map(member_text, key), value]) for key, value in rows]
-    return "\n".join([f"param {name} :=", *lines, ";"]) + "\n"

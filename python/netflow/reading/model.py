@@ -323,11 +323,14 @@ class Shapes:
     def __init__(self, decls: list[Decl], text: str = "") -> None:
         self.text = text
         self.decls, self.sets, self.keys = {decl.name: decl for decl in decls if decl.name}, {}, {}
+        # The names that are declared so far: one that is declared later can be a dummy before.
+        self.declared: set[str] = set()
         for decl in decls:
             if decl.kind == "set":
                 self.sets[decl.name] = self.of_declared(decl)
             elif decl.name:
                 self.keys[decl.name] = self.of_braces(decl.braces)
+            self.declared.add(decl.name)
 
     def head(self, name: str) -> str:
         """Returns a name with the braces of its declaration, such as `cost {BAKERIES, SHOPS}`."""
@@ -370,7 +373,7 @@ class Shapes:
         if braces is None:
             return 0
         items = braces.args[:-1] if braces.value else braces.args
-        count, known = 0, set(self.decls)
+        count, known = 0, set(self.declared)
         for item in items:
             if item.op != "in":
                 count += self.of_set(item)

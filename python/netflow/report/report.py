@@ -44,6 +44,7 @@ class Report:
         self.files, self.model, self.reasons = files, model, []
         self.odd = [
             *compared_texts(model, [source.text() for source in instance.data]),
+            *instance.notes,
             *grouped_lines_of(instance),
             *remark_lines(instance, self.net),
         ]

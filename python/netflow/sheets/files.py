@@ -9,13 +9,13 @@ import sys
 from typing import Iterable, NoReturn, Sequence
 
 from ..errors import ProgramError
-from ..exact import LARGEST, NUMERAL, parse_numeral
+from ..exact import LARGEST, NUMERAL, decimal_text, parse_numeral
 from ..program import REJECTED, UNREADABLE_FILE
 from ..reading.data import KEY_NUMBER, PLAIN_NAME
 from ..reading.text import MOST_BYTES
-from .workbooks import xlsx_rows
+from .numerals import misread_numeral, plain_numeral
+from .workbooks import DateText, NumberText, xlsx_rows
 
-LIKE_NUMBER = re.compile("[+\\-\u2212]?[0-9][0-9.,'\u2019\u00a0\u202f ]*(?:[eE][+-]?[0-9]+)?%?")
 ERROR_VALUE = re.compile(r"#(?:N/A|REF!|DIV/0!|VALUE!|NAME\?|NUM!|NULL!)")
 
 
@@ -24,6 +24,7 @@ class Cell:
 
     def __init__(self, text: str, path: str, row: int, column: int) -> None:
         self.text, self.path, self.row, self.column = text.strip(), path, row, column
+        self.is_number, self.is_date = isinstance(text, NumberText), isinstance(text, DateText)
 
     def place(self) -> str:
         return f"{self.path}:{column_letters(self.column)}{self.row + 1}"
@@ -47,9 +48,11 @@ class Cell:
             return "."
         if ERROR_VALUE.fullmatch(self.text):
             self.reject("is an error value of the spreadsheet: write the number, or leave the cell empty")
-        text = (
-            self.text.replace(",", ".") if has_comma and re.fullmatch(r"[+-]?[0-9]*,[0-9]+", self.text) else self.text
-        )
+        # A number of a workbook is one, whatever texts look like.
+        has_comma = has_comma and not self.is_number
+        text = plain_numeral(self.text, has_comma)
+        if has_comma and text == self.text and misread_numeral(text, True):
+            self.reject(misread_numeral(text, True))
         if NUMERAL.fullmatch(text):
             number = parse_numeral(text)
             if number is None or abs(number * factor) > LARGEST:
@@ -57,15 +60,21 @@ class Cell:
             scaled = number * factor
             if factor != 1 and scaled.denominator != 1:
                 self.reject(f"times {factor} is not whole: use a larger factor")
-            return str(scaled) if scaled.denominator == 1 else text
-        if LIKE_NUMBER.fullmatch(self.text):
-            self.reject("is no number in plain digits: take marks and units out of it (--comma: decimals have a comma)")
+            if scaled.denominator == 1:
+                return str(scaled)
+            return text if text == self.text else decimal_text(number)
+        misread = misread_numeral(self.text, has_comma)
+        if misread:
+            self.reject(misread)
         return self.member()
 
     def name(self) -> str:
-        if not PLAIN_NAME.fullmatch(self.text):
-            self.reject("is no name of a set or parameter")
-        return self.text
+        if PLAIN_NAME.fullmatch(self.text):
+            return self.text
+        unit = re.fullmatch(rf"({PLAIN_NAME.pattern})\s*[(\[]([^()\[\]]*)[)\]]", self.text)
+        if unit:
+            self.reject(f"is no name of a set or parameter: is {unit[1]} meant? Leave the unit {unit[2]} out")
+        self.reject("is no name of a set or parameter")
 
 
 def column_letters(column: int) -> str:

@@ -4,7 +4,9 @@ from __future__ import annotations
 import datetime
 import decimal
 import io
+import os
 import re
+import sys
 import zipfile
 from fractions import Fraction
 from typing import Any, Iterable, Sequence
@@ -41,6 +43,9 @@ def xlsx_rows(path: str, sheet: str) -> list[list[str]]:
         if sheet and sheet not in names:
             said = f"no sheet is called {sheet!r}; it has {', '.join(names)}"
             raise ProgramError(REJECTED, f"netflow-sheet: {path}: {said}\n")
+        if not sheet and len(names) > 1:
+            also = f"read another one as {os.path.basename(path)}:{names[1]}"
+            sys.stderr.write(f"netflow-sheet: {path} has the sheets {', '.join(names)}; {names[0]} is read, {also}\n")
         table = book[sheet or names[0]]
         table.reset_dimensions()  # some programs write wrong ones
         return [list(map(cell_text, row)) for row in table.iter_rows(values_only=True)]
@@ -49,18 +54,31 @@ def xlsx_rows(path: str, sheet: str) -> list[list[str]]:
         raise ProgramError(REJECTED, f"netflow-sheet: {path}: {said}\n") from None
 
 
+class NumberText(str):
+    """The text of a cell that is a number."""
+
+
+class DateText(NumberText):
+    """The text of a cell that is a date: its number."""
+
+
 def cell_text(value: object) -> str:
     """Returns the value of a cell as typed; a date is its number."""
     if isinstance(value, (datetime.date, datetime.time, datetime.timedelta)):
-        from openpyxl.utils.datetime import to_excel
+        from openpyxl.utils import datetime as dates
 
-        value = to_excel(value)
+        to_excel: Any = dates.to_excel
+        return DateText(number_text(to_excel(value)))
     if isinstance(value, bool):
         return str(int(value))
-    if isinstance(value, float):
-        # The shortest decimal is the one that was typed.
-        return str(int(value)) if value.is_integer() and abs(value) < 2**53 else repr(value)
+    if isinstance(value, (int, float)):
+        return NumberText(number_text(value))
     return "" if value is None else str(value)
+
+
+def number_text(value: float) -> str:
+    """Returns a number; the shortest decimal is the one that was typed."""
+    return str(int(value)) if value == int(value) and abs(value) < 2**53 else repr(value)
 
 
 def write_xlsx(path: str, sheets: Sequence[tuple[str, Iterable[Sequence[object]]]]) -> None:

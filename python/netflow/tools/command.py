@@ -4,7 +4,6 @@ from __future__ import annotations
 import argparse
 import gc
 import os
-import shlex
 import signal
 import sys
 from typing import Any, Callable, Sequence
@@ -12,13 +11,13 @@ from typing import Any, Callable, Sequence
 from .. import __version__
 from ..errors import DataError, ModelError, NetflowError, ProgramError, ScaleError, Unbounded, Unreadable
 from ..exact import Exact, parse_numeral
-from ..hints.diagnostic import LINE, Diagnostic
+from ..hints.diagnostic import Diagnostic
+from ..hints.explanation import explanation
 from ..inputs.grouped_digits import grouped_lines_of
 from ..inputs.instance import Instance
 from ..inputs.source import Input
 from ..program import INTERNAL, REJECTED, UNREADABLE_FILE, USAGE, Patience
 from ..reading.data import TOKEN
-from ..reading.model import Unparsed
 from ..reading.network import Network
 from ..report.json_objects import dump_lines, error_json
 from ..types import Key, Member, Value
@@ -75,6 +74,9 @@ class ToolParser(argparse.ArgumentParser):
         self.add_argument(
             "--bounds", action="store_true", help="add bounds that no plan reaches to arcs that lack them"
         )
+        self.add_argument(
+            "--ignore-outside", action="store_true", help="leave out rows of data for keys outside their sets"
+        )
         return self
 
 
@@ -89,25 +91,10 @@ def instance_of(arguments: argparse.Namespace, extra: Sequence[str] = ()) -> Ins
         changes=changes_of([*arguments.changes, *extra]),
         scale=scale_of(arguments.scale),
         add_bounds=arguments.bounds,
+        ignore_outside=arguments.ignore_outside,
         origins=origins,
     )
-    instance.words = given_words(arguments, extra)
     return instance
-
-
-def given_words(arguments: argparse.Namespace, extra: Sequence[str]) -> list[str]:
-    """Returns the files and options of a question as words; none if a file is a pipe, which can be read only once."""
-    files = [arguments.model, *arguments.data]
-    if any(
-        file == "-" or os.path.exists(file) and not os.path.isfile(file) and os.path.realpath(file) != os.devnull
-        for file in files
-    ):
-        return []
-    options = [["--set", change] for change in (*arguments.changes, *extra)] + [
-        ["--scale", factor] for factor in arguments.scale
-    ]
-    options += [["--objective", arguments.objective]] if arguments.objective else []
-    return [*files, *(word for pair in options for word in pair), *(["--bounds"] if arguments.bounds else [])]
 
 
 def changes_of(words: Sequence[str]) -> dict[str, Any]:
@@ -180,23 +167,33 @@ def fractions_text(net: Network) -> str:
     )
 
 
+def note(lines: Sequence[str]) -> None:
+    """Prints lines on standard error, each after the name of the tool."""
+    sys.stderr.write("".join(f"{os.path.basename(sys.argv[0])}: {line}\n" for line in lines))
+
+
 def note_fractions(net: Network) -> None:
     """Prints on standard error why the flows of a plan are not whole."""
-    text = fractions_text(net)
-    if text:
-        sys.stderr.write(f"{os.path.basename(sys.argv[0])}: {text}\n")
+    note(list(filter(None, [fractions_text(net)])))
 
 
 def note_grouped(instance: Instance) -> None:
     """Prints on standard error the decimals that may be whole numbers with grouped digits, each once."""
-    new = [line for line in grouped_lines_of(instance) if line not in NOTED]
+    new = [line for line in [*instance.notes, *grouped_lines_of(instance)] if line not in NOTED]
     NOTED.update(new)
-    sys.stderr.write("".join(f"{os.path.basename(sys.argv[0])}: {line}\n" for line in new))
+    note(new)
 
 
 def title_of(arguments: argparse.Namespace) -> str:
     names = [os.path.basename(path) for path in arguments.data if path != os.devnull]
     return f"{os.path.basename(arguments.model)}{' with ' if names else ''}{', '.join(names)}"
+
+
+def print_error(problem: ProgramError, found: Diagnostic | None, instance: Instance | None) -> None:
+    """Prints an error on standard error, with its explanation if it is one of the model or its data."""
+    options = instance.options if instance is not None else ()
+    lines = [problem.message.rstrip("\n"), *(explanation(found, options) if found is not None else [])]
+    sys.stderr.write("".join(f"{line}\n" for line in lines))
 
 
 def print_error_json(problem: ProgramError, instance: Instance) -> int:
@@ -238,14 +235,14 @@ def ended(main: Callable[[Sequence[str]], int], words: Sequence[str], name: str)
     except SystemExit as end:
         return flushed(end.code if isinstance(end.code, int) else 0, name)
     except ProgramError as problem:
-        sys.stderr.write(problem.message if problem.message.endswith("\n") else f"{problem.message}\n")
-        if problem.words and LINE.match(problem.message):
-            sys.stderr.write(f"For a hint: netflow-explain {shlex.join(problem.words)}\n")
+        instance = problem.instance
+        found = Diagnostic.of_instance(problem, instance) if instance is not None else None
+        print_error(problem, found, instance)
         return problem.status
     except Unreadable as problem:
         sys.stderr.write(f"{name}: {OTHER_VERSION} {problem}\n")
         return INTERNAL
-    except (ScaleError, DataError, Unbounded, NetflowError, Unparsed) as problem:
+    except (ScaleError, DataError, Unbounded, NetflowError) as problem:
         sys.stderr.write(f"{name}: {problem}\n")
         return REJECTED
     except OSError as problem:

@@ -98,10 +98,11 @@ def as_list(rows: list[list[Cell]], keys: int, members: str, scale: dict[str, in
             " parameters. Is it a title of the sheet?"
         )
     names = [cell.name() for cell in titles]
+    require_once(titles)
     body = [filled(row, len(rows[0])) for row in rows[1:]]
     cells = [[cell.value(scale.get(name, 1), has_comma) for name, cell in zip(names, row[keys:])] for row in body]
     note_decimals(names, cells)
-    note_points([cell for row in body for cell in row[keys:]])
+    note_points([cell for row in body for cell in row[keys:]], has_comma)
     lines = [" ".join([cell.member() for cell in row[:keys]] + values) for row, values in zip(body, cells)]
     return [f"param: {members + ': ' if members else ''}{' '.join(names)} :=", *lines, ";"]
 
@@ -122,9 +123,31 @@ def note_decimals(names: Sequence[str], cells: list[list[str]]) -> None:
         )
 
 
-def note_points(cells: list[Cell]) -> None:
-    """Reports the decimals of a text file that may be whole numbers with a point between groups of digits."""
-    result = [cell for cell in cells if GROUPED.fullmatch(cell.text) and not cell.path.lower().endswith(".xlsx")]
+def require_once(titles: Sequence[Cell]) -> None:
+    """Rejects a heading that has a title twice."""
+    seen: dict[str, Cell] = {}
+    for cell in titles:
+        if cell.text and cell.text in seen:
+            cell.reject(f"is in the heading twice, in {seen[cell.text].place()} too")
+        seen[cell.text] = cell
+
+
+def note_dates(rows: list[list[Cell]]) -> None:
+    """Reports cells that are dates, which are written as their numbers."""
+    dates = [cell for row in rows for cell in row if cell.is_date]
+    if dates:
+        first, more = dates[0], f" ({len(dates) - 1} more cells are dates)" if len(dates) > 1 else ""
+        sys.stderr.write(
+            f"netflow-sheet: {first.place()}: a date, which is written as its number, {first.text}{more};"
+            " format the column as text to keep it\n"
+        )
+
+
+def note_points(cells: list[Cell], has_comma: bool) -> None:
+    """Reports the decimals of a text file that may be whole numbers with a point between groups of digits. With a comma
+    as the decimal mark they are such numbers."""
+    is_odd = [GROUPED.fullmatch(cell.text) and not cell.is_number and not has_comma for cell in cells]
+    result = [cell for cell, odd in zip(cells, is_odd) if odd]
     for cell in result[:3]:
         sys.stderr.write(f"netflow-sheet: {cell.place()}: {cell.text}: {meant(cell.text)}\n")
     if len(result) > 3:
@@ -133,12 +156,13 @@ def note_points(cells: list[Cell]) -> None:
 
 def as_grid(name: str, rows: list[list[Cell]], is_turned: bool, scale: dict[str, int], has_comma: bool) -> list[str]:
     columns = [cell.member() for cell in rows[0][1:]]
+    require_once(rows[0][1:])
     if not columns:
         rows[0][0].reject("has no column to its right")
     body = [filled(row, len(rows[0])) for row in rows[1:]]
     cells = [[cell.value(scale.get(name, 1), has_comma) for cell in row[1:]] for row in body]
     note_decimals([name] * len(columns), cells)
-    note_points([cell for row in body for cell in row[1:]])
+    note_points([cell for row in body for cell in row[1:]], has_comma)
     lines = [" ".join([row[0].member(), *values]) for row, values in zip(body, cells)]
     return [f"param {name}{' (tr)' if is_turned else ''}: {' '.join(columns)} :=", *lines, ";"]
 
@@ -146,6 +170,7 @@ def as_grid(name: str, rows: list[list[Cell]], is_turned: bool, scale: dict[str,
 def statement(arguments: argparse.Namespace) -> list[str]:
     """Returns the lines of the statement that a sheet becomes."""
     rows = chosen(read_sheet(arguments.sheet), getattr(arguments, "columns", ""))
+    note_dates(rows)
     if arguments.kind == "set":
         return as_set(arguments.name, rows, arguments.heading)
     scale = scale_of(arguments.scale)
@@ -228,7 +253,9 @@ def build_parser() -> ToolParser:
         made[kind].add_argument(
             "--scale", metavar="NAME=FACTOR", action="append", default=[], help="multiply a parameter's values"
         )
-        made[kind].add_argument("--comma", action="store_true", help="decimals have a comma: 7,5")
+        made[kind].add_argument(
+            "--comma", action="store_true", help="decimals have a comma, and a point groups thousands: 1.204,15"
+        )
     made["data"].add_argument("config", metavar="CONFIG")
     return parser
 

@@ -276,6 +276,7 @@ def without_check(instance: Instance, problem: ProgramError) -> Instance | None:
         changes=instance.changes,
         scale=instance.scale,
         add_bounds=instance.add_bounds,
+        ignore_outside=instance.ignore_outside,
     )
     print(f"The check in line {match[1]} fails: {' '.join(text[decl.start:decl.end + 1].split())}\nWithout it:\n")
     return made
@@ -289,7 +290,7 @@ def answer_lines(net: Network, most: int) -> list[str]:
 
 def text_lines(instance: Instance, net: Network, most: int) -> list[str]:
     """Returns the answer with what is worth a look; below `No plan.` the numbers that may be the reason come first."""
-    lines, grouped = answer_lines(net, most), grouped_lines_of(instance)
+    lines, grouped = answer_lines(net, most), [*instance.notes, *grouped_lines_of(instance)]
     odd = [
         *compared_texts(instance.model.text(), [source.text() for source in instance.data]),
         *remark_lines(instance, net),

@@ -1,4 +1,5 @@
 """The built program: calls of it, and comparisons of its answers."""
+import os
 import subprocess
 
 from lib.command import PROGRAM, TOP
@@ -10,7 +11,7 @@ def run(words, seconds=None):
     """Runs the program; returns status, standard output and standard error, or an error text if it exceeds the time."""
     try:
         done = subprocess.run(
-            [bytes(PROGRAM), *(word if isinstance(word, bytes) else str(word).encode() for word in words)],
+            [PROGRAM, *(os.fsdecode(word) if isinstance(word, bytes) else str(word) for word in words)],
             capture_output=True,
             stdin=subprocess.DEVNULL,
             timeout=seconds,

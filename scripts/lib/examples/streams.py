@@ -9,10 +9,10 @@ import subprocess
 import sys
 import tempfile
 
-from faultlines import TEXTS, complaint
 from lib.command import TOP
 from lib.examples.program import PROGRAM, answer, compare, rejected, run
 from lib.examples.rows import rows_of
+from lib.faultlines import TEXTS, complaint
 from lib.version import version
 
 
