@@ -3,10 +3,9 @@ import hashlib
 import json
 import re
 
-import notices
 import pytest
 
-from lib import spdx
+from lib import notices, spdx
 
 TEXTS = {
     "arrayvec": ["Apache License\nVersion 2.0", "Permission is hereby granted, free of charge, to any person"],
