@@ -349,6 +349,24 @@ def test_error_of_the_data_is_a_note(tmp_path):
     assert "E34" in errors
 
 
+def test_integer_variables(tmp_path):
+    """`integer` stays, so the tools reject decimals in the bounds, with which a plan would not be whole."""
+    model = "set I; param cap {I}; var X {i in I} integer >= 0, <= cap[i]; maximize z: sum {i in I} X[i];"
+    status, folder, errors = convert(tmp_path, model, "set I := a b; param cap := a 2.5 b 1;")
+    assert (
+        status == 0 and "arc X is integer, but a bound" in errors and "<= cap[i], integer," in read(folder / "old.mod")
+    )
+    status, _, errors = run("netflow-convert", tmp_path / "old.mod", "--output", tmp_path / "other")
+    assert status == 0 and errors == ""
+
+
+def test_statements_that_print_after_the_data(tmp_path):
+    model = "set I; var X {I} >= 0, <= 4; maximize z: sum {i in I} X[i];\ndata;\nset I := a b;\nsolve;\ndisplay X;\n"
+    status, folder, errors = convert(tmp_path, model)
+    assert (status, errors) == (0, "")
+    assert value(folder) == 8 and "display" not in read(folder / "old.dat")
+
+
 def test_pipe(tmp_path):
     model = "set I; var X {I} >= 0, <= 4; maximize z: sum {i in I} X[i];"
     write(tmp_path, "old.dat", "set I := a b;")

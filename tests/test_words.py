@@ -136,3 +136,10 @@ def test_first_look_stages_files(tmp_path):
     words = ["solve", str(path), "/dev/null", "--objective", str(path), "/nowhere/x"]
     staged = LOOK.staged(words, pathlib.Path(tmp_path))
     assert staged == ["--data", f"text1={path.resolve()}", "--", "solve", "text1", *words[2:]], "first_look: words"
+
+
+def test_progress_of_a_build():
+    """While the last crate is proved, the line says so, and not that none is left."""
+    progress = script(TOP / "scripts" / "build").progress
+    assert progress(["net_sets", "net_lex"], 3, 21) == "proving net_lex, net_sets; 3 of 21 crates are proved"
+    assert progress(["netflow"], 20, 21) == "proving netflow, the last one; 20 of 21 crates are proved"

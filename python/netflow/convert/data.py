@@ -7,6 +7,7 @@ from typing import Iterator, Sequence
 from ..reading.data import Token, is_mark, tokens_of
 from ..reading.model import Shapes, Unparsed
 from .problems import Inexpressible, Rejected, problem_lines
+from .syntax import PRINTING
 
 Row = list[str]
 
@@ -34,7 +35,9 @@ class DataConversion:
         return "".join([*parts, self.source[at:]])
 
     def attempted(self, words: list[Token]) -> str | None:
-        """Returns a statement as rows, None if it stays."""
+        """Returns a statement as rows, None if it stays, an empty text for one that only prints."""
+        if words[0].text in PRINTING:
+            return ""
         try:
             return Statement(words, self.shapes).converted()
         except Inexpressible as problem:

@@ -50,7 +50,7 @@ class Writer:
         return self.names.fresh("_".join(words if len(words) > 1 else [variable.name, "alone"]))
 
     def arc(self, called: str, variable: Variable, case: Case) -> str:
-        bounds, phrases = self.bounds(called, case), []
+        bounds, phrases = [*self.bounds(called, case), *(["integer"] if variable.is_integer else [])], []
         for end in sorted(case.ends, key=lambda it: it.balance.flip * it.sign):
             word = "to" if end.balance.flip * end.sign > 0 else "from"
             phrases.append(f"{word} {text(name(end.balance.name, *end.key))}")

@@ -12,7 +12,7 @@ import sys
 from typing import Sequence
 
 from ..convert.data import DataConversion
-from ..convert.model import Conversion
+from ..convert.model import Conversion, Converted
 from ..convert.problems import Rejected
 from ..errors import DataError, ProgramError, ScaleError
 from ..inputs.instance import Instance
@@ -36,7 +36,7 @@ def main(arguments: Sequence[str]) -> int:
     parsed = parser.parse_args(arguments)
     instance = readable_instance(parsed.model, parsed.data)
     try:
-        files, notes = converted(instance, parsed.model, parsed.data)
+        files, made = converted(instance, parsed.model, parsed.data)
     except Rejected as problem:
         count = len(problem.lines)
         sys.stderr.write("".join(f"{line}\n" for line in problem.lines))
@@ -44,7 +44,7 @@ def main(arguments: Sequence[str]) -> int:
             f"{NAME}: nothing was written, because of {count} part{'s' if count > 1 else ''} of the files\n"
         )
         return REJECTED
-    notes += checked(files)
+    notes = made.notes + checked(files)
     write(files, parsed.output, [parsed.model, *parsed.data], parsed.force)
     sys.stderr.write("".join(f"{NAME}: {note}\n" for note in notes))
     return 0
@@ -64,8 +64,8 @@ def readable_instance(model: str, data: Sequence[str]) -> Instance:
     return instance
 
 
-def converted(instance: Instance, model: str, data: Sequence[str]) -> tuple[list[tuple[str, str]], list[str]]:
-    """Returns the names and texts of the new files, the model first, and the notes."""
+def converted(instance: Instance, model: str, data: Sequence[str]) -> tuple[list[tuple[str, str]], Converted]:
+    """Returns the names and texts of the new files, the model first, and the conversion of the model."""
     source = instance.model.text()
     made = Conversion(source, model).run()
     shapes, name = Shapes(made.decls, source), file_name(model, "model.mod")
@@ -80,7 +80,7 @@ def converted(instance: Instance, model: str, data: Sequence[str]) -> tuple[list
         files.append((file_name(data[here], "data.dat"), rows) if data else (f"{stem(name)}.dat", rows.lstrip("\n ")))
     if lines:
         raise Rejected(lines)
-    return files, made.notes
+    return files, made
 
 
 def file_name(path: str, other: str) -> str:
