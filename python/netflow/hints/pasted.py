@@ -39,7 +39,8 @@ def corner(diagnostic: Diagnostic) -> Hints:
     known = {token.bare() for row in listed(diagnostic).values() for token in row}
     if len(columns) > 1 and columns[0] not in known and set(columns[1:]) <= known:
         yield (
-            f"is {columns[0]} the title of the corner? The heading has the columns alone: {' '.join(columns_of(head_of(diagnostic))[1:])} := .."
+            f"is {columns[0]} the title of the corner? The heading has the columns alone:"
+            f" {' '.join(columns_of(head_of(diagnostic))[1:])} := .."
         ), True
 
 
