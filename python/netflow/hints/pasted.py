@@ -21,11 +21,12 @@ def statement_name(diagnostic: Diagnostic) -> str:
 
 
 def semicolons(diagnostic: Diagnostic) -> Hints:
-    """`Linz;4;6` in a table."""
-    lines = diagnostic.texts.get("data", "").split("\n")
+    """`Linz;4;6` in a table; a whole file of CSV has a hint of its own."""
+    text = diagnostic.texts.get("data", "")
+    lines = text.split("\n") if ":=" in text else [""]
     for row in range(max(1, diagnostic.row - 1), min(len(lines), diagnostic.row + 1) + 1):
-        text = re.sub(r"#.*|'[^']*'|\"[^\"]*\"", "", lines[row - 1])
-        if diagnostic.text == "data" and not diagnostic.is_change() and SEMICOLON.search(text):
+        cells = re.sub(r"#.*|'[^']*'|\"[^\"]*\"", "", lines[row - 1])
+        if diagnostic.text == "data" and not diagnostic.is_change() and SEMICOLON.search(cells):
             yield (
                 f"{diagnostic.line_text(row)} looks like CSV, with ; between its cells, and ; ends a statement:"
                 f" `netflow-sheet grid {statement_name(diagnostic) or 'NAME'} FILE.csv` makes data of a CSV file"
