@@ -52,7 +52,7 @@ def by_graph(seed):
     names = ["a", "b", "c", "d", "outside"]
     arcs = [(i, j, rooms[i, j] + Fraction(1, 2), prices[i, j] + fee * share) for i, j in rooms]
     arcs += [("outside", "a", Fraction(900), Fraction(401, 4)), ("a", "outside", Fraction(900), Fraction(1, 8))]
-    flow = netflow.SimpleMinCostFlow()
+    flow = netflow.SimpleMinCostFlow(decimals=True)
     for i, j, room, cost in arcs:
         flow.add_arc_with_capacity_and_unit_cost(names.index(i), names.index(j), room, cost)
     for name, need in needs.items():

@@ -54,7 +54,7 @@ _netflow() {
 complete -o filenames -F _netflow netflow
 
 _netflow_companion() {
-    local word=${COMP_WORDS[COMP_CWORD]} question="--objective --set --scale --bounds --version" suffix=mod
+    local word=${COMP_WORDS[COMP_CWORD]} question="--objective --set --scale --bounds --ignore-outside --version" suffix=mod
     COMPREPLY=()
     [ "$COMP_CWORD" -le 1 ] || suffix=dat
     case ${COMP_WORDS[0]##*/} in

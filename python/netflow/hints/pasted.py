@@ -21,11 +21,12 @@ def statement_name(diagnostic: Diagnostic) -> str:
 
 
 def semicolons(diagnostic: Diagnostic) -> Hints:
-    """`Linz;4;6` in a table."""
-    lines = diagnostic.texts.get("data", "").split("\n")
+    """`Linz;4;6` in a table; a whole file of CSV has a hint of its own."""
+    text = diagnostic.texts.get("data", "")
+    lines = text.split("\n") if ":=" in text else [""]
     for row in range(max(1, diagnostic.row - 1), min(len(lines), diagnostic.row + 1) + 1):
-        text = re.sub(r"#.*|'[^']*'|\"[^\"]*\"", "", lines[row - 1])
-        if diagnostic.text == "data" and not diagnostic.is_change() and SEMICOLON.search(text):
+        cells = re.sub(r"#.*|'[^']*'|\"[^\"]*\"", "", lines[row - 1])
+        if diagnostic.text == "data" and not diagnostic.is_change() and SEMICOLON.search(cells):
             yield (
                 f"{diagnostic.line_text(row)} looks like CSV, with ; between its cells, and ; ends a statement:"
                 f" `netflow-sheet grid {statement_name(diagnostic) or 'NAME'} FILE.csv` makes data of a CSV file"
@@ -39,7 +40,8 @@ def corner(diagnostic: Diagnostic) -> Hints:
     known = {token.bare() for row in listed(diagnostic).values() for token in row}
     if len(columns) > 1 and columns[0] not in known and set(columns[1:]) <= known:
         yield (
-            f"is {columns[0]} the title of the corner? The heading has the columns alone: {' '.join(columns_of(head_of(diagnostic))[1:])} := .."
+            f"is {columns[0]} the title of the corner? The heading has the columns alone:"
+            f" {' '.join(columns_of(head_of(diagnostic))[1:])} := .."
         ), True
 
 

@@ -5,12 +5,12 @@ from __future__ import annotations
 import re
 
 from ..reading.data import DataText
+from ..reading.memberships import Memberships, Unknown, row_text
 from ..reading.model import Unparsed
 from ..reading.text import Token, tokens
 from ..types import Key, Member
 from .diagnostic import Diagnostic
 from .hint import Hints, HintTable
-from .memberships import Memberships, Unknown, row_text
 
 # How many members outside a set, and how many pairs of a rewritten statement, are shown.
 NAMED, PAIRS = 3, 6

@@ -10,12 +10,12 @@ from typing import Sequence
 from ..errors import Unreadable
 from ..reading.data import Cell, DataText
 from ..reading.keys import members, reference, shown
+from ..reading.memberships import Memberships, Unknown
 from ..reading.model import Phrase, Shapes, Unparsed, parse
 from ..reading.text import few, tokens
 from ..types import Member
 from .diagnostic import Diagnostic
 from .hint import Hints, HintTable
-from .memberships import Memberships, Unknown
 
 QUOTES = "\u2018\u2019\u201a\u201b\u201c\u201d\u201e\u201f\u00ab\u00bb\u2039\u203a`\u00b4"
 DASHES = "\u2010\u2011\u2012\u2013\u2014\u2212"

@@ -3,9 +3,9 @@ from __future__ import annotations
 
 from typing import Sequence
 
-from ..hints.memberships import Memberships, Unknown
 from ..reading.data import Cell, DataText, Statement, Token
 from ..reading.keys import shown
+from ..reading.memberships import Memberships, Unknown
 from ..reading.model import Expr
 from ..types import Edit, Key
 

@@ -8,10 +8,10 @@ from typing import Any, Iterator, Mapping, Sequence
 
 from ..errors import DataError, ScaleError
 from ..exact import common_factor, decimal_text, parse_numeral
-from ..hints.memberships import Memberships
 from ..reading.data import Cell, DataText
 from ..reading.edits import EditedText
 from ..reading.keys import shown
+from ..reading.memberships import Memberships
 from ..reading.model import Decl, Shapes, Unparsed, parse
 from ..types import Edit, Key
 from .outside import Outside

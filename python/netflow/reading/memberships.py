@@ -6,10 +6,10 @@ import operator
 import re
 from typing import Callable, Dict
 
-from ..reading.data import DataText
-from ..reading.keys import shown
-from ..reading.model import Decl, Expr, Shapes, parse
 from ..types import Key, Member
+from .data import DataText
+from .keys import shown
+from .model import Decl, Expr, Shapes, parse
 
 # The members that indices stand for.
 Env = Dict[str, Member]
