@@ -9,6 +9,7 @@ from lib.examples import rows
 from models.model import Model
 from netflow.inputs.instance import Instance
 from netflow.inputs.source import Input
+from netflow.reading.headings import objective_of
 from netflow.reading.model import Unparsed
 from support import BREAD, TOP, run, write
 
@@ -45,8 +46,9 @@ def test_later_default_overrides():
     assert netflow.solve(DEFAULT, [DATA, "param need;\nparam cost := 1;"]).value == 4
 
 
-def compiled(*texts):
-    with Instance(Input(text=texts[0]), [Input(text=text) for text in texts[1:]]) as instance:
+def compiled(*texts, objective=None):
+    data = [Input(text=text) for text in texts[1:]]
+    with Instance(Input(text=texts[0]), data, objective=objective) as instance:
         return instance.ask("compile").text
 
 
@@ -72,9 +74,8 @@ def test_rows_of_the_examples_can_be_rewritten(tmp_path):
 
 def test_random_models_can_be_rewritten(seed):
     model = Model(seed, 0)
-    texts = model.model_text(), model.data_text()
-    with Instance(Input(text=texts[0]), [Input(text=texts[1])]) as plain:
-        assert compiled(*texts, "") == plain.ask("compile").text
+    texts, chosen = (model.model_text(), model.data_text()), objective_of(model.model_text())
+    assert compiled(*texts, "", objective=chosen) == compiled(*texts, objective=chosen)
 
 
 def test_name_that_is_declared_later_can_be_a_dummy_before():
@@ -98,7 +99,7 @@ def test_text_that_cannot_be_rewritten(monkeypatch):
         with pytest.raises(netflow.DataError, match="the tools cannot rewrite line 1 of bread.dat") as caught:
             netflow.solve(model, **{"data": data, **options})
         assert "offset" not in str(caught.value)
-    with pytest.raises(netflow.ModelError, match="cannot rewrite line 1 .* which decimals need"):
+    with pytest.raises(netflow.ModelError, match="cannot rewrite line 2 .* which decimals need"):
         netflow.solve(DEFAULT, DATA)
     with warnings.catch_warnings():
         warnings.simplefilter("error")
