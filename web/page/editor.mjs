@@ -75,14 +75,20 @@ export class Editor {
     this.number();
   }
 
-  /** Marks the line of an error, selects what is wrong, and moves it into view. */
-  showError(row, column) {
+  /** Marks the line of an error. */
+  markError(row) {
+    this.badRow = row;
+    this.area.setAttribute('aria-invalid', 'true');
+    this.number();
+  }
+
+  /** Selects what is wrong in a line, and moves it into view. */
+  goToError(row, column) {
     const { before, line } = lineAt(this.bytes(), row, column), text = this.area.value;
     let start = 0;
     for (let here = 1; here < row; here++) start = text.indexOf('\n', start) + 1;
     const from = start + before.length, token = firstToken(line.slice(before.length));
-    this.badRow = row;
-    this.area.setAttribute('aria-invalid', 'true');
+    this.area.closest('.box').scrollIntoView({ block: 'nearest' });
     this.area.focus({ preventScroll: true });
     this.area.setSelectionRange(from, from + Math.max(token.length, line.length > before.length ? 1 : 0));
     this.area.scrollTop = Math.max(0, (row - 4) * this.rowHeight());

@@ -21,6 +21,8 @@ const calls = new Calls(byId('worker').textContent, fromBase64(byId('module').te
 const answer = byId('answer');
 // Up to so many arcs the problem is solved once more for its potentials, which show which full arcs would carry more.
 const PRICED = 20_000;
+// The width below which the editors are one above the other, as in style.css.
+const NARROW = matchMedia('(max-width: 46rem)');
 
 let changed = () => {};
 const editors = { model: new Editor('model', () => edited()), data: new Editor('data', () => edited()) };
@@ -35,6 +37,11 @@ function edited() {
 function say(text, kind = '', more = null) {
   byId('status').className = kind;
   byId('status').replaceChildren(text, more ?? '');
+/** Moves the answer into view if it begins in the lowest part of the window or below. */
+function revealAnswer() {
+  if (answer.getBoundingClientRect().top > innerHeight * 0.7) byId('solve').scrollIntoView();
+}
+
 }
 
 /** Offers the names of the model's objectives. */
@@ -60,6 +67,7 @@ async function showPlan(reply, inputs, isCurrent) {
   const network = await compiledNetwork(inputs);
   if (!network || !isCurrent()) return;
   network.setFlows(plan.declarations.flatMap(it => it.arcs.map(arc => arc.flow)));
+  revealAnswer();
   if (network.arcs.length <= PRICED) {
     const certificate = await calls.call('netflow_min', [encoded(network.problem)]);
     if (certificate.status === 0) network.setPotentials(readPotentials(decoded(certificate.text)));
@@ -77,6 +85,7 @@ async function showCut(reply, inputs, isCurrent) {
   const network = await compiledNetwork(inputs);
   if (!network || !isCurrent()) return;
   const problem = encoded(network.problem);
+  revealAnswer();
   const check = async certificate => (await calls.call('netflow_check', [problem, encoded(certificate)])).status === 0;
   const reasons = await reasonsOf(network, sidedCut(network, cut), check);
   if (!isCurrent()) return;
@@ -93,10 +102,13 @@ async function compiledNetwork(inputs) {
 
 function showError(reply, inputs) {
   const line = decoded(reply.text).trim(), error = readError(line), editor = editors[error?.input];
-  const goThere = () => editor.showError(error.row, error.column);
-  answer.replaceChildren(errorView(error, line, error?.input === 'data' ? inputs[2] : inputs[1], PARTS.errors, goThere));
+  const goThere = () => editor.goToError(error.row, error.column), bytes = { model: inputs[1], data: inputs[2] }[error?.input];
+  answer.replaceChildren(errorView(error, line, bytes, PARTS.errors, goThere));
   say(error ? `Error in the ${error.input}, line ${error.row}` : 'The input was rejected', 'bad');
-  if (editor) goThere();
+  editor?.markError(error.row);
+  // In a narrow window the editors and the explanation do not fit together, and the focus would open a phone's keyboard.
+  if (editor && !NARROW.matches) goThere();
+  else revealAnswer();
 }
 
 const FAILURES = {
@@ -133,9 +145,11 @@ async function solve() {
   const endProgress = showProgress();
   try {
     const reply = await callWith('netflow_solve', inputs);
+  let isAnswered = false;
     const time = reply.milliseconds < 1000 ? `${Math.round(reply.milliseconds)} ms` : `${(reply.milliseconds / 1000).toFixed(1)} s`;
     answer.classList.remove('stale');
     if (reply.status === 0) say(`Optimal plan, in ${time}`, 'good');
+    isAnswered = true;
     else if (reply.status === 2) say(`No plan exists (found in ${time})`, 'bad');
     else if (reply.status !== 3) {
       answer.replaceChildren();
@@ -146,7 +160,8 @@ async function solve() {
     else if (reply.status === 0) await showPlan(reply, inputs, isCurrent);
     else if (reply.status === 2) await showCut(reply, inputs, isCurrent);
   } catch (error) {
-    say(error instanceof Stopped ? 'Stopped. No answer was found so far.' : String(error.message), 'bad');
+    const stopped = isAnswered ? 'Stopped. The answer is complete, and its drawing is missing.' : 'Stopped. No answer was found so far.';
+    say(error instanceof Stopped ? stopped : String(error.message), 'bad');
     if (!(error instanceof Stopped)) throw error;
   } finally {
     endProgress();
