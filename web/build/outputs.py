@@ -26,7 +26,7 @@ def page_sources():
     """Returns the sources of the page and the files around it, without the modules."""
     found = [file for folder in ("native", "node", "page") for file in sorted((TOP / "web" / folder).iterdir())]
     found += [TOP / "web" / "build" / it for it in ("markdown.py", "outputs.py", "page.py")]
-    found += [page.ERRORS, page.GUIDE, TOP / "CHANGELOG.md", TOP / "python" / "netflow" / "report" / "style.py"]
+    found += [page.ERRORS, page.GUIDE, *(it for it, _ in page.DOCUMENTS.values()), TOP / "CHANGELOG.md", TOP / "python" / "netflow" / "report" / "style.py"]
     return found + sorted(it for it in (TOP / "examples").glob("*/*") if it.suffix in (".mod", ".dat") or it.name in ("README.md", "objective"))
 
 

@@ -35,9 +35,11 @@ export async function takeFiles(files, name, { editors, takeTable, say }) {
   const found = { model: [], data: [] };
   for (const file of files) {
     if (/\.xlsx?$|\.ods$/i.test(file.name)) return say(`${file.name} is a workbook. Save the sheet as CSV in UTF-8, and open that.`);
-    if (!isTable(file)) found[homeOf(file, name)].push(await bytesOf(file));
+    if (!isTable(file)) found[homeOf(file, name)].push({ name: file.name, bytes: await bytesOf(file) });
   }
-  for (const [home, parts] of Object.entries(found)) if (parts.length) editors[home].show(await joined(parts));
+  for (const [home, parts] of Object.entries(found)) {
+    if (parts.length) editors[home].show(await joined(parts.map(it => it.bytes)), parts.length === 1 ? parts[0].name : '');
+  }
   const both = found.model.length && !found.data.length ? splitModel(decoded(editors.model.bytes())) : null;
   if (both) {
     editors.model.show(encoded(both.model));

@@ -26,22 +26,25 @@ const NARROW = matchMedia('(max-width: 46rem)');
 
 let changed = () => {};
 const editors = { model: new Editor('model', () => edited()), data: new Editor('data', () => edited()) };
-let running = 0, replaced = null;
+// The number of the last solve, the text that an example replaced, and whether an example is shown as it is.
+let running = 0, replaced = null, isExample = false;
 
 function edited() {
+  isExample = false;
   answer.classList.add('stale');
+  byId('welcome').hidden = Boolean(editors.model.area.value || editors.data.area.value);
   listObjectives();
   changed();
 }
 
-function say(text, kind = '', more = null) {
-  byId('status').className = kind;
-  byId('status').replaceChildren(text, more ?? '');
 /** Moves the answer into view if it begins in the lowest part of the window or below. */
 function revealAnswer() {
   if (answer.getBoundingClientRect().top > innerHeight * 0.7) byId('solve').scrollIntoView();
 }
 
+function say(text, kind = '', more = null) {
+  byId('status').className = kind;
+  byId('status').replaceChildren(text, more ?? '');
 }
 
 /** Offers the names of the model's objectives. */
@@ -64,10 +67,10 @@ function saveBar(reply, found) {
 async function showPlan(reply, inputs, isCurrent) {
   const plan = readPlan(decoded(reply.text)), words = wordsOf(decoded(inputs[1]));
   answer.replaceChildren(planHead(plan), saveBar(reply, { plan }), ...declarationSections(declarationsOf(plan, null, words), null));
+  revealAnswer();
   const network = await compiledNetwork(inputs);
   if (!network || !isCurrent()) return;
   network.setFlows(plan.declarations.flatMap(it => it.arcs.map(arc => arc.flow)));
-  revealAnswer();
   if (network.arcs.length <= PRICED) {
     const certificate = await calls.call('netflow_min', [encoded(network.problem)]);
     if (certificate.status === 0) network.setPotentials(readPotentials(decoded(certificate.text)));
@@ -82,10 +85,10 @@ async function showCut(reply, inputs, isCurrent) {
   const cut = readCut(decoded(reply.text));
   const nodes = section('The nodes', element('ul', { class: 'nodes' }, ...cut.nodes.map(it => element('li', {}, it))));
   answer.replaceChildren(cutHead(cut), saveBar(reply, {}), nodes);
+  revealAnswer();
   const network = await compiledNetwork(inputs);
   if (!network || !isCurrent()) return;
   const problem = encoded(network.problem);
-  revealAnswer();
   const check = async certificate => (await calls.call('netflow_check', [problem, encoded(certificate)])).status === 0;
   const reasons = await reasonsOf(network, sidedCut(network, cut), check);
   if (!isCurrent()) return;
@@ -142,14 +145,14 @@ async function solve() {
   for (const it of Object.values(editors)) it.clearError();
   setRunning(true);
   say('Solving');
+  let isAnswered = false;
   const endProgress = showProgress();
   try {
     const reply = await callWith('netflow_solve', inputs);
-  let isAnswered = false;
+    isAnswered = true;
     const time = reply.milliseconds < 1000 ? `${Math.round(reply.milliseconds)} ms` : `${(reply.milliseconds / 1000).toFixed(1)} s`;
     answer.classList.remove('stale');
     if (reply.status === 0) say(`Optimal plan, in ${time}`, 'good');
-    isAnswered = true;
     else if (reply.status === 2) say(`No plan exists (found in ${time})`, 'bad');
     else if (reply.status !== 3) {
       answer.replaceChildren();
@@ -171,9 +174,9 @@ async function solve() {
 
 // ---- inputs
 
-function showInputs({ model, data = '', objective = '' }) {
-  editors.model.show(encoded(model));
-  editors.data.show(encoded(data));
+function showInputs({ model, data = '', objective = '' }, name = '') {
+  editors.model.show(encoded(model), name && `${name}.mod`);
+  editors.data.show(encoded(data), name && `${name}.dat`);
   byId('objective').value = objective;
   listObjectives();
 }
@@ -181,16 +184,44 @@ function showInputs({ model, data = '', objective = '' }) {
 const currentInputs = () => ({ model: editors.model.area.value, data: editors.data.area.value, objective: byId('objective').value });
 
 /** Shows an example; the text that it replaces can be brought back. */
-function showExample(name) {
-  const old = currentInputs(), isShown = it => it.model === old.model && it.data === old.data;
-  const isOwn = (old.model || old.data) && !Object.values(PARTS.examples).some(isShown);
+function showExample(inputs, title, name = '') {
+  const old = currentInputs(), isOwn = (old.model || old.data) && !isExample;
   replaced = isOwn ? old : replaced;
-  showInputs(PARTS.examples[name]);
+  showInputs(inputs, name);
+  isExample = true;
   answer.replaceChildren();
-  const back = isOwn ? button('Bring back my text', () => { showInputs(replaced); say(''); }) : null;
-  say(`${PARTS.examples[name].title} Press Solve.`, '', back);
+  say(`${title} Press Solve.`, '', isOwn ? button('Bring back my text', bringBack) : null);
   byId('solve').focus();
 }
+
+/** Shows work that is not in a file, as far as the page knows. */
+function showWork(work) {
+  showInputs(work);
+  for (const it of Object.values(editors)) it.isChanged = true;
+}
+
+function bringBack() {
+  showWork(replaced);
+  say('');
+}
+
+/** Lets the models in the documents be tried. */
+function offerModels() {
+  for (const block of document.querySelectorAll('footer pre')) {
+    const model = block.textContent;
+    if (!/^(?:minimize|maximize) \w+;/m.test(model) || !/^arc /m.test(model)) continue;
+    block.after(button('Try it', () => showExample({ model: `${model}\n` }, 'A model without data.')));
+  }
+}
+
+/** Opens the document that a link leads to. */
+function openDocument(event) {
+  const link = event.target.closest?.('a[href^="#"]'), place = link && byId(link.getAttribute('href').slice(1));
+  if (place) place.closest('details').open = true;
+}
+
+/** Whether text would be lost if the page were closed. */
+const isUnsaved = () => !byId('keep').checked && Object.values(editors).some(it => it.isChanged && it.area.value);
 
 async function takeTable(name, bytes) {
   try {
@@ -203,7 +234,9 @@ async function takeTable(name, bytes) {
 
 function start() {
   for (const [name, { title }] of Object.entries(PARTS.examples)) byId('example').append(element('option', { value: name, title }, name.replaceAll('_', ' ')));
-  byId('example').addEventListener('change', event => event.target.value && showExample(event.target.value));
+  byId('example').addEventListener('change', ({ target: { value } }) => value && showExample(PARTS.examples[value], PARTS.examples[value].title, value));
+  byId('first').addEventListener('click', () => showExample({ model: PARTS.first }, 'Two plants and two shops.'));
+  offerModels();
   byId('solve').addEventListener('click', solve);
   byId('stop').addEventListener('click', () => calls.stop());
   byId('objective').addEventListener('input', () => edited());
@@ -212,8 +245,10 @@ function start() {
     event.preventDefault();
     solve();
   });
+  document.addEventListener('click', openDocument);
+  addEventListener('beforeunload', event => isUnsaved() && event.preventDefault());
   acceptFiles({ editors, takeTable, say });
-  changed = keepWork(currentInputs, showInputs, text => say(text, 'bad'));
+  changed = keepWork(currentInputs, showWork, text => say(text, 'bad'));
   listObjectives();
   calls.ready.then(() => { document.body.dataset.ready = 'true'; }, error => say(`This browser cannot run netflow: ${error.message}`, 'bad'));
   // For scripts, such as the tests: the calls of the module, from bytes to a status and bytes.
