@@ -105,7 +105,7 @@ class Chromium:
         self.ask("Emulation.setEmulatedMedia", features=[{"name": "prefers-color-scheme", "value": "dark" if is_dark else "light"}])
 
     def shot(self, path, is_whole=False):
-        size = self.run("return [document.documentElement.scrollWidth, document.documentElement.scrollHeight];")
+        size = self.run("return [Math.max(innerWidth, document.documentElement.scrollWidth), document.documentElement.scrollHeight];")
         clip = {"captureBeyondViewport": True, "clip": {"x": 0, "y": 0, "width": size[0], "height": min(size[1], 6000), "scale": 1}} if is_whole else {}
         path.write_bytes(base64.b64decode(self.ask("Page.captureScreenshot", **clip)["data"]))
 

@@ -1,4 +1,5 @@
-"""The page as a person uses it: typing, opening, dropping, solving, a mistake, no plan, stop, tables, saving, the keyboard alone."""
+"""The page as a person uses it: first steps, typing, dropping, solving, a mistake, no plan, stop, tables, saving, a narrow window, the
+keyboard alone."""
 import pathlib
 import re
 
@@ -46,12 +47,13 @@ for (const it of document.querySelectorAll('body *')) {
 if (document.documentElement.scrollWidth > innerWidth + 1) found.push(`the page is ${document.documentElement.scrollWidth} wide in a window of ${innerWidth}`);
 return found;
 """
+# What the buttons of a part of the page save.
 SAVED = """
 const made = [], create = page.URL.createObjectURL, click = page.HTMLAnchorElement.prototype.click;
 const blobs = [];
 page.URL.createObjectURL = blob => { blobs.push(blob); return create.call(page.URL, blob); };
 page.HTMLAnchorElement.prototype.click = function () { made.push(this.download); };
-for (const it of [...document.querySelectorAll('.saving button')]) it.click();
+for (const it of [...document.querySelectorAll(args[0])]) it.click();
 page.URL.createObjectURL = create;
 page.HTMLAnchorElement.prototype.click = click;
 const texts = [];
@@ -103,9 +105,20 @@ class Person:
         self.browser.run("document.querySelector(args[0]).click();", selector)
 
     def use(self):
-        for step in (self.own_model, self.mistake, self.no_plan, self.files, self.table_file, self.examples, self.tables, self.saves, self.stops, self.keeps, self.keyboard, self.looks):
+        for step in (self.first_steps, self.own_model, self.mistake, self.no_plan, self.files, self.table_file, self.examples, self.documents, self.tables,
+                     self.saves, self.stops, self.keeps, self.keyboard, self.narrow, self.looks):
             step()
         return self.complaints
+
+    def first_steps(self):
+        """The page as it opens: it says how to begin, and its small model has a plan."""
+        self.shot("first_steps")
+        self.expect("first steps", self.is_in_view("#welcome"))
+        self.click("#first")
+        seen = self.see()
+        self.expect("the small model", seen["model"] == ship_model() and seen["focus"] == "solve", seen)
+        self.browser.press("Enter")
+        self.expect("its plan", "Cost = 120" in self.see()["answer"] and not self.is_in_view("#welcome"), self.see())
 
     def own_model(self):
         self.type("model", ship_model())
@@ -114,6 +127,10 @@ class Person:
         self.expect("the plan has its grid and its nodes", "Grid" in seen["answer"] and "Plant['Linz']" in seen["answer"], seen)
         self.expect("the network is drawn", self.browser.run("return document.querySelectorAll('.picture .arc path').length;") == 4)
         self.shot("plan")
+
+    def is_in_view(self, selector):
+        """Returns whether the start of an element is in the window."""
+        return self.browser.run("const box = document.querySelector(args[0])?.getBoundingClientRect(); return Boolean(box?.height) && box.top >= -1 && box.top < innerHeight;", selector)
 
     def mistake(self):
         self.type("model", ship_model().replace("to Shop[s]", "to Shops[s]"))
@@ -142,6 +159,8 @@ class Person:
         self.expect("dropped files go by their names", seen["model"] == texts[1][1] and seen["data"] == texts[0][1])
         self.click("#solve")
         self.expect("the answer of dropped files", "Total = 440" in self.see()["answer"])
+        saved = self.browser.run(SAVED, "#model-save, #data-save")
+        self.expect("files are saved under their names", saved == [["bread.mod", texts[1][1]], ["bread.dat", texts[0][1]]], saved)
         self.browser.run(DROP, "data-box", [("both.mod", f"{texts[1][1]}\ndata; # the numbers\n{texts[0][1]}end;\n")])
         seen = self.see()
         self.expect("a file with a model and its data", seen["model"].strip() == texts[1][1].strip() and seen["data"].endswith(texts[0][1]), seen)
@@ -171,6 +190,25 @@ class Person:
             seen = self.see()
             self.expect(f"the example {name}", seen["status"].startswith(("Optimal plan", "No plan exists")), seen)
 
+    def documents(self):
+        """The links of the documents lead to their headings, and each model in them has an answer."""
+        found = self.browser.run("""
+            const found = [];
+            for (const link of document.querySelectorAll('footer a')) {
+              link.click();
+              const place = document.getElementById(link.getAttribute('href').slice(1));
+              if (!place?.getClientRects().length) found.push(link.outerHTML);
+            }
+            const count = document.querySelectorAll('footer pre + button').length;
+            scrollTo(0, 0);
+            return [count, found];""")
+        self.expect("links of the documents", not found[1], found)
+        self.expect("models of the documents", found[0] > 8, found)
+        for number in range(found[0]):
+            self.browser.run("document.querySelectorAll('footer pre + button')[args[0]].click(); document.getElementById('solve').click();", number)
+            seen = self.see()
+            self.expect(f"the model {number} of the documents", seen["status"].startswith(("Optimal plan", "No plan exists")), seen)
+
     def tables(self):
         """A plan with many rows: all are there, a heading sorts, words find."""
         model = "minimize C; node A; node B; arc X {i in 1..3000} >= 0, <= i, from A, to B, obj C 1; arc Y {i in 1..2, j in 1..2} >= i * j, <= 9, from B, to A, obj C j;"
@@ -198,7 +236,7 @@ class Person:
         model = ship_model()
         self.type("model", model)
         self.solve()
-        saved = dict(self.browser.run(SAVED))
+        saved = dict(self.browser.run(SAVED, ".saving button"))
         status, text = self.by_program("solve", [b"", False, model.encode(), b""])
         self.expect("the text is the program's", (0, saved.get("plan.txt")) == (status, text.decode()), saved.get("plan.txt"))
         self.expect("the CSV", saved.get("plan.csv", "").startswith("arc,key 1,key 2,flow,lower,upper,price,from,to\nShip,Linz,Wien,0,0,45,3,"), saved.get("plan.csv"))
@@ -216,9 +254,29 @@ class Person:
         self.expect("stop", state == [True, False] and seen["status"].startswith("Stopped"), (state, seen["status"]))
         self.type("model", ship_model())
         self.expect("the solve after a stop", "Cost = 120" in self.solve()["answer"])
+        # Stopped after the plan is there and before its drawing is.
+        self.type("model", "minimize C; node A; node B; arc X {i in 1..9000} >= 0, <= i, from A, to B, obj C 1;")
+        self.browser.run("""
+            const stop = document.getElementById('stop'), answer = document.getElementById('answer');
+            answer.replaceChildren();
+            new MutationObserver((_, observer) => { observer.disconnect(); setTimeout(() => stop.click()); }).observe(answer, { childList: true });
+            document.getElementById('solve').click();""")
+        seen = self.see()
+        self.expect("stop after the plan", seen["status"] == "Stopped. The answer is complete, and its drawing is missing." and "C = 0" in seen["answer"], seen["status"])
+
+    def warns(self):
+        """Returns whether the browser would ask before it closes the page."""
+        return self.browser.run("const event = new page.Event('beforeunload', { cancelable: true }); page.dispatchEvent(event); return event.defaultPrevented;")
 
     def keeps(self):
-        """Work is kept only if the box is ticked."""
+        """Work is kept only if the box is ticked, and the browser asks before it closes a page with work that is nowhere else."""
+        self.type("model", ship_model())
+        asks = [self.warns()]
+        self.click("#keep")
+        asks.append(self.warns())
+        self.click("#keep")
+        self.browser.run(SAVED, "#model-save, #data-save")
+        self.expect("the browser asks before work is lost", [*asks, self.warns()] == [True, False, False], asks)
         before = self.browser.run("return localStorage.length;")
         self.click("#keep")
         kept = self.browser.run("return localStorage.getItem('netflow');")
@@ -237,7 +295,21 @@ class Person:
                 break
         self.expect("Tab reaches Solve", reached[-1] == "solve" and "data" in reached, reached)
         self.browser.press("Enter")
-        self.expect("Enter on Solve", "Cost = 120" in self.see()["answer"])
+        seen = self.see()
+        self.expect("Enter on Solve", "Cost = 120" in seen["answer"], seen)
+
+    def narrow(self):
+        """In a narrow window the answer moves into view, and a mistake does not take the focus."""
+        self.browser.resize(400, 800)
+        for title, model, shown in (("plan", ship_model(), ".value"), ("mistake", "node ;", ".error")):
+            self.type("model", model)
+            self.browser.run("document.getElementById('solve').scrollIntoView({ block: 'end' }); document.getElementById('solve').focus(); document.getElementById('solve').click();")
+            seen = self.see()
+            self.expect(f"{title} in a narrow window", self.is_in_view(shown) and seen["focus"] != "model", seen)
+        self.click(".error button")
+        seen = self.see()
+        self.expect("the line in a narrow window", self.is_in_view("#model") and seen["focus"] == "model" and seen["selected"] == ";", seen)
+        self.browser.resize(1200, 900)
 
     def looks(self):
         """Names, contrasts and widths, in light and dark, at 1,200 and 400 pixels."""
