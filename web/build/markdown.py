@@ -18,13 +18,14 @@ def anchor(title):
 
 class Document:
     """A document with links. `link` returns where a link leads in the page, such as `#language-sets`, or None: then only its text is
-    shown. With a name, each heading has an id such as `NAME-sets`."""
+    shown. With a name, each heading has an id such as `NAME-sets`. Its highest headings become h3."""
 
     def __init__(self, link=lambda target: None, name=""):
-        self.link, self.name = link, name
+        self.link, self.name, self.top = link, name, 1
 
     def rendered(self, text):
         lines, parts, here = text.strip("\n").split("\n"), [], 0
+        self.top = min((len(it) for it in re.findall(r"(?m)^(#+) ", text)), default=1)
         while here < len(lines):
             take = next(take for starts, take in self.BLOCKS if starts(lines[here]))
             part, here = take(self, lines, here)
@@ -53,7 +54,7 @@ class Document:
         return f"<pre>{escape(chr(10).join(lines[here + 1:end]))}</pre>", end + 1
 
     def take_heading(self, lines, here):
-        level, title = min(6, lines[here].index(" ") + 2), lines[here].lstrip("# ")
+        level, title = min(6, lines[here].index(" ") - self.top + 3), lines[here].lstrip("# ")
         place = f' id="{self.name}-{anchor(title)}"' if self.name else ""
         return f"<h{level}{place}>{self.inline(title)}</h{level}>", here + 1
 

@@ -18,35 +18,7 @@ for (const [name, text] of args[1]) files.items.add(new File([text], name));
 document.getElementById(args[0]).dispatchEvent(new DragEvent('drop', { dataTransfer: files, bubbles: true, cancelable: true }));
 await new Promise(done => setTimeout(done, 300));
 """
-# The labels, roles and names that a screen reader needs, and contrasts, by the rules of WCAG 2.2 that a script can check.
-ACCESS = """
-const found = [], visible = it => it.getClientRects().length && getComputedStyle(it).visibility !== 'hidden';
-for (const it of document.querySelectorAll('button, input, select, textarea, [tabindex="0"], summary')) {
-  if (!visible(it)) continue;
-  const name = it.getAttribute('aria-label') || it.textContent.trim() || [...(it.labels ?? [])].map(label => label.textContent.trim()).join('') || it.querySelector?.('title')?.textContent;
-  if (!name) found.push(`no name: ${it.outerHTML.slice(0, 80)}`);
-}
-const ids = [...document.querySelectorAll('[id]')].map(it => it.id);
-for (const id of ids) if (ids.indexOf(id) !== ids.lastIndexOf(id)) found.push(`the id ${id} twice`);
-for (const it of document.querySelectorAll('[aria-describedby], [aria-labelledby]')) {
-  for (const id of (it.getAttribute('aria-describedby') ?? it.getAttribute('aria-labelledby')).split(' ')) if (!document.getElementById(id)) found.push(`no element ${id}`);
-}
-for (const it of document.querySelectorAll('th')) if (!it.getAttribute('scope')) found.push(`a heading without scope: ${it.textContent}`);
-if (!document.documentElement.lang) found.push('no language');
-if (document.querySelectorAll('h1').length !== 1) found.push('not one h1');
-const levels = [...document.querySelectorAll('h1, h2, h3, h4')].filter(visible).map(it => Number(it.tagName[1]));
-const channel = value => { const part = value / 255; return part <= 0.04045 ? part / 12.92 : ((part + 0.055) / 1.055) ** 2.4; };
-const light = ([r, g, b]) => 0.2126 * channel(r) + 0.7152 * channel(g) + 0.0722 * channel(b);
-const colour = text => (text.match(/[\\d.]+/g) ?? []).map(Number);
-const backOf = it => { for (let at = it; at; at = at.parentElement) { const back = colour(getComputedStyle(at).backgroundColor); if (back.length === 3 || back[3] > 0.99) return back; } return [255, 255, 255]; };
-for (const it of document.querySelectorAll('body *')) {
-  if (!visible(it) || it.closest('svg') || it.disabled || it.closest('.stale') || ![...it.childNodes].some(child => child.nodeType === 3 && child.textContent.trim())) continue;
-  const style = getComputedStyle(it), [one, two] = [light(colour(style.color)), light(backOf(it))], ratio = (Math.max(one, two) + 0.05) / (Math.min(one, two) + 0.05);
-  if (ratio < (parseFloat(style.fontSize) >= 24 ? 3 : 4.5)) found.push(`contrast ${ratio.toFixed(2)}: ${it.tagName} ${it.className} ${it.textContent.trim().slice(0, 40)}`);
-}
-if (document.documentElement.scrollWidth > innerWidth + 1) found.push(`the page is ${document.documentElement.scrollWidth} wide in a window of ${innerWidth}`);
-return found;
-"""
+ACCESS = (TOP / "web" / "tests" / "access.js").read_text(encoding="utf-8")
 # What the buttons of a part of the page save.
 SAVED = """
 const made = [], create = page.URL.createObjectURL, click = page.HTMLAnchorElement.prototype.click;
@@ -312,8 +284,8 @@ class Person:
         self.browser.resize(1200, 900)
 
     def looks(self):
-        """Names, contrasts and widths, in light and dark, at 1,200 and 400 pixels."""
-        for width in (1200, 400):
+        """The rules of access.js in light and dark, from 1,200 to 320 pixels, which is a window of 1,280 at four times its size."""
+        for width in (1200, 400, 320):
             self.browser.resize(width, 900)
             for is_dark in (False, True) if hasattr(self.browser, "set_dark") else (False,):
                 if hasattr(self.browser, "set_dark"):
