@@ -71,7 +71,7 @@ class Page:
     """The page in a browser. With `is_wide`, calls go to the module with 64-bit pointers, in a worker of the page."""
 
     def __init__(self, kind, is_wide=False, page=outputs.OUT / outputs.PAGE):
-        self.name, self.browser, self.milliseconds = f"{kind}, 64-bit pointers" if is_wide else kind, browsers.KINDS[kind](), 0.0
+        self.name, self.browser, self.milliseconds = f"{kind}, 64-bit pointers" if is_wide else kind, browsers.started(kind), 0.0
         self.is_wide, self.known = is_wide, set()
         self.browser.open(page.as_uri())
         assert self.browser.run(BEGIN) == "true", f"{kind}: the page is not ready"
