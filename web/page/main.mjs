@@ -183,14 +183,20 @@ function showInputs({ model, data = '', objective = '' }, name = '') {
 
 const currentInputs = () => ({ model: editors.model.area.value, data: editors.data.area.value, objective: byId('objective').value });
 
-/** Shows an example; the text that it replaces can be brought back. */
+/** Keeps the text that is about to be replaced; returns the button that brings it back, or null if there is none or it is an example. */
+function keepText() {
+  const old = currentInputs();
+  if (isExample || !(old.model || old.data)) return null;
+  replaced = old;
+  return button('Bring back my text', bringBack);
+}
+
+/** Shows an example. */
 function showExample(inputs, title, name = '') {
-  const old = currentInputs(), isOwn = (old.model || old.data) && !isExample;
-  replaced = isOwn ? old : replaced;
+  say(`${title} Press Solve.`, '', keepText());
   showInputs(inputs, name);
   isExample = true;
   answer.replaceChildren();
-  say(`${title} Press Solve.`, '', isOwn ? button('Bring back my text', bringBack) : null);
   byId('solve').focus();
 }
 
@@ -225,8 +231,11 @@ const isUnsaved = () => !byId('keep').checked && Object.values(editors).some(it 
 
 async function takeTable(name, bytes) {
   try {
-    const statement = await askForStatement(name, bytes);
-    if (statement) editors.data.append(statement);
+    const declared = [...editors.model.area.value.matchAll(/\b(?:set|param)\s+([A-Za-z_]\w*)/g)].map(it => it[1]);
+    const statement = await askForStatement(name, bytes, declared);
+    if (!statement) return;
+    editors.data.append(statement);
+    say(`Added ${name} to the data.`);
   } catch (error) {
     say(`${name}: ${error.message}`, 'bad');
   }
@@ -247,7 +256,7 @@ function start() {
   });
   document.addEventListener('click', openDocument);
   addEventListener('beforeunload', event => isUnsaved() && event.preventDefault());
-  acceptFiles({ editors, takeTable, say });
+  acceptFiles({ editors, takeTable, keepText, say });
   changed = keepWork(currentInputs, showWork, text => say(text, 'bad'));
   listObjectives();
   calls.ready.then(() => { document.body.dataset.ready = 'true'; }, error => say(`This browser cannot run netflow: ${error.message}`, 'bad'));
