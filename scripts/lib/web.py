@@ -14,6 +14,7 @@ SHIPPED = [it for it in outputs.FILES if it != outputs.WASM64]
 
 def write(folder):
     """Copies the files into the folder, and returns their paths. Files that are missing or old are built first."""
-    if outputs.complaint() and subprocess.run([TOP / "scripts" / "web"], stdout=subprocess.DEVNULL).returncode:
+    words = outputs.update()
+    if words is not None and subprocess.run([TOP / "scripts" / "web", *words], stdout=subprocess.DEVNULL).returncode:
         raise SystemExit("release: scripts/web failed")
     return [shutil.copyfile(outputs.OUT / name, folder / name) for name in SHIPPED]
