@@ -17,4 +17,4 @@ def write(folder):
     words = outputs.update()
     if words is not None and subprocess.run([TOP / "scripts" / "web", *words], stdout=subprocess.DEVNULL).returncode:
         raise SystemExit("release: scripts/web failed")
-    return [shutil.copyfile(outputs.OUT / name, folder / name) for name in SHIPPED]
+    return [shutil.copy(outputs.OUT / name, folder / name) for name in SHIPPED]

@@ -3,6 +3,7 @@
 They are in web/out: the page, the modules, the command line for node, and the library for C. Two files hold checksums of the sources,
 with the name of the toolchain, so that tests and releases notice outputs that are older than the sources.
 """
+import functools
 import hashlib
 import pathlib
 import shutil
@@ -40,6 +41,7 @@ def sum_of(files):
     return total.hexdigest()
 
 
+@functools.lru_cache(maxsize=None)
 def toolchain():
     """Returns the installed toolchain's name, or an empty text."""
     return subprocess.run(["rt", "version"], capture_output=True, text=True).stdout.split(" ")[0] if shutil.which("rt") else ""
