@@ -31,6 +31,7 @@ let running = 0, replaced = null, isExample = false;
 
 function edited() {
   isExample = false;
+  byId('example').value = '';
   answer.classList.add('stale');
   byId('welcome').hidden = Boolean(editors.model.area.value || editors.data.area.value);
   listObjectives();
@@ -196,6 +197,7 @@ function showExample(inputs, title, name = '') {
   say(`${title} Press Solve.`, '', keepText());
   showInputs(inputs, name);
   isExample = true;
+  byId('example').value = name;
   answer.replaceChildren();
   byId('solve').focus();
 }

@@ -155,9 +155,10 @@ class Person:
 
     def examples(self):
         self.browser.run("const it = document.getElementById('example'); it.value = 'cities'; it.dispatchEvent(new Event('change'));")
-        self.expect("an example", "set LINKS" in self.see()["model"])
+        self.expect("an example", "set LINKS" in self.see()["model"] and self.browser.run("return document.getElementById('example').value;") == "cities")
         self.click("#status button")
         self.expect("one's own text comes back", "param cost: hill lake mill :=" in self.see()["data"])
+        self.expect("no example is chosen any longer", self.browser.run("return document.getElementById('example').value;") == "")
         for name in self.browser.run("return [...document.getElementById('example').options].map(it => it.value).filter(Boolean);"):
             self.browser.run("const it = document.getElementById('example'); it.value = args[0]; it.dispatchEvent(new Event('change')); document.getElementById('solve').click();", name)
             seen = self.see()
