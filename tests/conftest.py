@@ -16,6 +16,7 @@ sys.dont_write_bytecode = True
 def pytest_addoption(parser: pytest.Parser) -> None:
     parser.addoption("--seeds", type=int, default=60, metavar="N", help="how many random models of each kind (60)")
     parser.addoption("--graphs", type=int, default=300, metavar="N", help="how many random graphs (300)")
+    parser.addoption("--converted", type=int, default=200, metavar="N", help="how many random MathProg models (200)")
     parser.addoption("--browser", action="store_true", help="open the pages of netflow-report in Chromium too")
     parser.addoption("--program", metavar="PATH", help="the program to test, instead of the built one")
 
@@ -31,7 +32,7 @@ def pytest_configure(config: pytest.Config) -> None:
 
 
 def pytest_generate_tests(metafunc: pytest.Metafunc) -> None:
-    """Gives a test that asks for a `seed` or `graph_seed` one of each."""
-    for name, option in (("seed", "--seeds"), ("graph_seed", "--graphs")):
+    """Gives a test that asks for a `seed`, `graph_seed` or `program_seed` one of each."""
+    for name, option in (("seed", "--seeds"), ("graph_seed", "--graphs"), ("program_seed", "--converted")):
         if name in metafunc.fixturenames:
             metafunc.parametrize(name, range(metafunc.config.getoption(option)))

@@ -11,6 +11,8 @@ from netflow.reading.network import Network
 
 TOP = pathlib.Path(__file__).resolve().parent.parent
 TOOLS = TOP / "share" / "companions"
+# The helper tools. Their files are the only list of them; tests/test_words.py compares all others with it.
+TOOL_NAMES = sorted(path.name for path in TOOLS.glob("netflow-*"))
 BREAD = TOP / "examples" / "bread"
 BUILT = TOP / "crates" / "netflow" / "out" / "netflow"
 

@@ -294,8 +294,8 @@ def test_pair_outside_its_sets():
 @pytest.mark.parametrize(
     "words, part",
     [
-        ((None, DATA), "model: expected a path or the text of the model, not None"),
-        ((MODEL, 5), "data: expected a path, a text, a dict, or a list of these, not 5"),
+        ((None, DATA), "model: expected a path, a file or the text of the model, not None"),
+        ((MODEL, 5), "data: expected a path, a file, a text, a dict, or a list of these, not 5"),
         ((MODEL, {"van"}), "not {'van'}"),
     ],
 )

@@ -12,7 +12,10 @@ BLOCK = re.compile(r"```\n((?:(?!```).*\n)*)```")
 SHORT = {"lake 45": "lake 85", "south 50": "south 90"}
 # A page, the call that it shows, and what was changed in the tutorial's data before.
 SHOWN = (
-    ("docs/tutorial.md", "netflow-why bread.mod bread.dat", SHORT),
+    ("docs/tutorial.md", "netflow-plan bread.mod bread.dat", {}),
+    ("docs/tutorial.md", "netflow-plan bread.mod bread.dat", SHORT),
+    ("docs/tutorial.md", "netflow-plan bread.mod bread.dat", {"van := 40": "van := 4O"}),
+    ("docs/guide/tools.md", "netflow-plan bread.mod bread.dat --used", {}),
     ("docs/guide/tools.md", "netflow-explain bread.mod bread.dat", {"mill 25;": "mill 25"}),
     ("docs/guide/tools.md", "netflow-sheet plan bread.mod bread.dat --grid", {}),
     (
@@ -37,7 +40,9 @@ def test_example_is_the_tutorial():
     assert f"```\n{sheets}```\n" in read(TOP / "docs" / "guide" / "tools.md")
 
 
-@pytest.mark.parametrize("page, call, changes", SHOWN, ids=[call for _, call, _ in SHOWN])
+@pytest.mark.parametrize(
+    "page, call, changes", SHOWN, ids=[f"{call} {'; '.join(changes.values())}" for _, call, changes in SHOWN]
+)
 def test_shown_call(tmp_path, page, call, changes):
     """Each call of a tool that a document shows gives exactly what is below it."""
     model, data = BLOCK.findall(read(TOP / "docs" / "tutorial.md"))[:2]
@@ -57,5 +62,12 @@ def test_shown_call(tmp_path, page, call, changes):
     )
     blocks = [block for block in BLOCK.findall(read(TOP / page)) if block.startswith(f"$ {call}\n")]
     assert blocks, f"{page} does not show this call"
-    for block in blocks:
-        assert done.stdout == block.split("\n", 1)[1]
+    # A page can show a call more than once, with other data.
+    assert done.stdout in [block.split("\n", 1)[1] for block in blocks]
+
+
+@pytest.mark.parametrize("page", ["docs/tutorial.md", "docs/guide/tools.md", "docs/guide/shadow-prices.md"])
+def test_every_shown_call_is_run(page):
+    """Each block that shows a call of a helper tool with its output is one of those above."""
+    calls = [block.split("\n")[0][2:] for block in BLOCK.findall(read(TOP / page)) if block.startswith("$ netflow-")]
+    assert sorted(calls) == sorted(call for other, call, _ in SHOWN if other == page)

@@ -1,27 +1,14 @@
 """The examples and the inputs of scripts/check_examples, one test each, so that `pytest -k bread` runs one of them."""
 import pytest
 
-from lib.examples import folders, inputs, pages, rows, streams
+from lib.examples import checks, rows
 from support import TOP
 
 
-def example_folders():
-    """Yields the folders with answers, by their names."""
-    for top in ("examples", "examples/faults"):
-        for folder in sorted((TOP / top).iterdir()):
-            if any((folder / kind).exists() for kind in ("status", "faults.txt")):
-                yield pytest.param(folder, id=folder.name)
-
-
-@pytest.mark.parametrize("folder", example_folders())
+@pytest.mark.parametrize("folder", [pytest.param(folder, id=folder.name) for folder in checks.example_folders()])
 def test_folder(folder):
     complaints = []
-    if (folder / "problem.min").exists():
-        folders.check_problem(folder, complaints)
-    elif (folder / "faults.txt").exists():
-        folders.check_line_faults(folder, complaints)
-    else:
-        folders.check_folder(folder, complaints)
+    checks.check_named([folder], complaints)
     assert not complaints, "\n".join(complaints)
 
 
@@ -44,18 +31,11 @@ def test_row(tmp_path, row):
     assert not complaints, "\n".join(complaints)
 
 
-# The checks of scripts/check_examples that are functions without a table of their own.
-CHECKS = [
-    check
-    for module in (pages, streams, inputs, folders)
-    for name, check in vars(module).items()
-    if name.startswith("check_")
-    and check.__module__ == module.__name__
-    and check.__code__.co_varnames[: check.__code__.co_argcount] == ("complaints",)
-]
+# Each row has a test of its own.
+CHECKS = [check for check in checks.CHECKS if check is not rows.check_rows]
 
 
-@pytest.mark.parametrize("check", [*CHECKS, rows.check_problem_rows], ids=lambda check: check.__name__)
+@pytest.mark.parametrize("check", CHECKS, ids=lambda check: check.__name__)
 def test_inputs(check):
     complaints = []
     check(complaints)

@@ -11,8 +11,8 @@ import pytest
 from cases import bread_mistakes, mistakes, planner_mistakes, port_mistakes
 from lib.examples import rows
 from netflow.hints import diagnostic as diagnostics
-from netflow.tools import explain
-from support import BREAD, TOOLS, TOP, run, write
+from netflow.hints import explanation
+from support import BREAD, TOOL_NAMES, TOOLS, TOP, run, write
 
 
 def test_catalogue():
@@ -55,7 +55,7 @@ def test_mark(tmp_path, row):
         return
     paths = list(map(str, words))
     found = diagnostics.Diagnostic(line.rstrip("\n"), "compile", paths, paths)
-    mark = next((line for line in explain.lines_of(found) if line.strip() == "^"), None)
+    mark = next((line for line in explanation.lines_of(found) if line.strip() == "^"), None)
     assert mark is not None or not found.shown.strip(), "no mark"
     if mark and found.shown.isascii() and found.column <= 60:
         assert mark.index("^") == found.column + 3
@@ -97,9 +97,11 @@ def test_mistake_of_planner(tmp_path, whole, text, right, wrong, code, named, ab
     # Without a command decimals are scaled.
     status, _, told = run("netflow-explain", *["solve"] * (code == "E04"), paths["model"], paths["data"])
     assert status == 3 and told.startswith(code)
-    assert named in " ".join(told.split())
-    advice = " ".join(told.split("\n  ", 1)[-1].split())
-    assert absent is None or absent not in advice.replace(named, "")
+    # What is said of this mistake, without the sentence on the code; the hints are one after the other.
+    advice = re.sub(r"(?s)\n  E\d\d: .*?(?=\n  To fix|\nMore errors|\Z)", "", told)
+    hints = " ".join(re.findall(r"Hint: .*", advice))
+    assert named in hints or named in " ".join(told.split())
+    assert absent is None or absent not in " ".join(advice.split("\n", 1)[1].split()).replace(named, "")
 
 
 def test_later_errors(tmp_path):
@@ -169,7 +171,7 @@ def test_rewritten(tmp_path):
         run("netflow-explain", "compile", *files, "--set", "van=40")[1].count("\na ") == 8
     ), "explain compile --set: no problem"
     for words, said in (
-        (["--set", "van=x"], "E36 KindMismatch data\nin --set van=x\n--set van=x: A number, text"),
+        (["--set", "van=x"], "E36 KindMismatch data\nin --set van=x\n--set van=x: Hint: 'x' is a text"),
         (["--set", "wants[hil]=3"], "Hint: hil: is hill meant?"),
         (["--set", "fan=3"], "fan: the model declares no such set or parameter"),
     ):
@@ -199,50 +201,48 @@ def test_rewritten(tmp_path):
     assert f"\n{wrong}:2:22: " in told and "is a ; missing at the end of line 2?" in told
 
 
-def test_refusals(tmp_path):
-    """Each tool passes on the program's errors; and input from a pipe is read once."""
+@pytest.mark.parametrize("words", [["netflow-why"], ["netflow-report"], ["netflow-sheet", "plan"], ["netflow-plan"]])
+def test_rejected_input(tmp_path, words):
+    """Each tool prints the program's error, with its status, and then the place and the hint."""
     wrong = write(tmp_path, "w.mod", "node ;\n")
-    for words in (["netflow-why"], ["netflow-report"], ["netflow-sheet", "plan"]):
-        assert run(*words, wrong, "/dev/null") == (
-            3,
-            "",
-            f"E10 Syntax model 1:6\nFor a hint: netflow-explain {wrong} /dev/null\n",
-        ), f"{words}: refused"
-        assert run(*words, "/nowhere/x", "/dev/null") == (
-            4,
-            "",
-            (
-                "E90 ReadFault model: /nowhere/x: No such file or directory\n"
-                "For a hint: netflow-explain /nowhere/x /dev/null\n"
-            ),
-        ), f"{words}: no file"
-        assert run(*words)[0] == 64, f"{words}: no words"
-        assert run(*words, "--help")[0] == 0, f"{words}: help"
-        assert run(*words, "/dev/stdin", "/dev/null", text="node ;\n") == (
-            3,
-            "",
-            "E10 Syntax model 1:6\n",
-        ), f"{words}: a pipe"
-    bread = TOP / "examples" / "bread"
-    for words in (["netflow-why"], ["netflow-report"], ["netflow-sheet", "plan"]):
-        found = run(*words, bread / "bread.mod", bread / "bread.dat", "--set", "van=x")
-        assert found == (
-            3,
-            "",
-            (
-                "E36 KindMismatch data\nin --set van=x\n"
-                f"For a hint: netflow-explain {bread / 'bread.mod'} {bread / 'bread.dat'} --set van=x\n"
-            ),
-        ), f"{words}: a wrong --set"
+    status, out, told = run(*words, wrong, "/dev/null")
+    assert (status, out) == (3, "") and told.startswith(f"E10 Syntax model 1:6\n{wrong}:1:6: ")
+    assert "    node ;\n         ^\n" in told and "netflow-explain" not in told
+    status, out, told = run(*words, "/nowhere/x", "/dev/null")
+    assert (status, out) == (4, "")
+    assert told.startswith("E90 ReadFault model: /nowhere/x: No such file or directory\n/nowhere/x: Hint: ")
+    assert run(*words)[0] == 64, "no words"
+    assert run(*words, "--help")[0] == 0, "help"
+    status, _, told = run(*words, "/dev/stdin", "/dev/null", text="node ;\n")
+    assert status == 3 and told.startswith("E10 Syntax model 1:6\n/dev/stdin:1:6: "), "a pipe"
+
+
+@pytest.mark.parametrize("words", [["netflow-why"], ["netflow-report"], ["netflow-sheet", "plan"], ["netflow-plan"]])
+def test_rejected_change_and_second_file(tmp_path, words):
+    """The place is the option, or the line of the file among several; the hint comes with it."""
+    files = [BREAD / "bread.mod", BREAD / "bread.dat"]
+    status, out, told = run(*words, *files, "--set", "van=x")
+    assert (status, out) == (3, "")
+    assert told.startswith(
+        "E36 KindMismatch data\nin --set van=x\n--set van=x: Hint: 'x' is a text, and van is a number"
+    )
     more = write(tmp_path, "more.dat", "# two lines\nparam wants := hil 3;\n")
-    assert run("netflow-why", bread / "bread.mod", bread / "bread.dat", more) == (
-        3,
-        "",
-        (
-            f"E33 OutsideSet data 2:16 wants['hil']\nin {more}:2:16\n"
-            f"For a hint: netflow-explain {bread / 'bread.mod'} {bread / 'bread.dat'} {more}\n"
-        ),
-    ), "an error in the second file"
+    status, out, told = run(*words, *files, more)
+    assert (status, out) == (3, "")
+    assert told.startswith(
+        f"E33 OutsideSet data 2:16 wants['hil']\nin {more}:2:16\n{more}:2:16: Hint: hil: is hill meant?"
+    )
+
+
+def test_hint_comes_before_the_general_sentence(tmp_path):
+    """For a missing ; the hint is the first thing that is said."""
+    data = write(tmp_path, "b.dat", (BREAD / "bread.dat").read_text(encoding="utf-8").replace("mill 25;", "mill 25"))
+    lines = run("netflow-why", BREAD / "bread.mod", data)[2].split("\n")
+    assert lines[1] == f"{data}:5:11: Hint: is a ; missing at the end of line 4?"
+    assert lines[4].startswith("  E20: The first token that is not allowed in a data file")
+
+
+def test_explain_reads_pipes():
     assert run("netflow-explain", "solve", "/dev/stdin", "/dev/null", text="node ;\n")[0] == 3, "explain: a pipe"
     for words in (["-"], ["/dev/stdin", "/dev/null"], ["solve", "-", "/dev/null"]):
         place = "-" if "-" in words else "/dev/stdin"
@@ -278,7 +278,7 @@ def test_file_as_standard_input():
 @pytest.mark.parametrize(
     "end, status, has_message", [(">/dev/full", 4, True), (">&-", 4, True), ("| head -n 1", 0, False)]
 )
-@pytest.mark.parametrize("name", ["netflow-why", "netflow-report", "netflow-sheet", "netflow-explain"])
+@pytest.mark.parametrize("name", TOOL_NAMES)
 def test_standard_output(name, end, status, has_message):
     """Standard output that is full, closed, or a pipe without a reader."""
     kind = ["plan"] if name == "netflow-sheet" else []

@@ -153,3 +153,13 @@ def test_results():
         "minimize C; set S := 1..2; node A {i in S}: net_in = i; arc X {i in S} >= 0, <= 9, to A[i], obj C 1;"
     )
     assert one["X"].to_pandas().to_dict() == {1: 1, 2: 2}, "one key"
+
+
+def test_index_of_flows_has_the_names_of_the_model():
+    """As in to_rows: so that `groupby("SHOPS")` works."""
+    plan = netflow.solve(MODEL, DATA)
+    series = plan["Drive"].to_pandas()
+    assert list(series.index.names) == ["BAKERIES", "SHOPS"]
+    assert series.groupby("SHOPS").sum().to_dict() == {"hill": 30, "lake": 45, "mill": 25}
+    text = "minimize C; set S; node A {i in S}: net_in = 1; arc X {i in S} >= 0, <= 9, to A[i];"
+    assert netflow.solve(text, S=["a"])["X"].to_pandas().index.name == "S"

@@ -45,7 +45,7 @@ def test_simple_min_cost_flow():
         large.add_arc_with_capacity_and_unit_cost(*arc)
         with pytest.raises(error):
             large.solve()
-    small = netflow.SimpleMinCostFlow()
+    small = netflow.SimpleMinCostFlow(decimals=True)
     small.add_arc_with_capacity_and_unit_cost(0, 1, 2.5, 0.1)
     small.set_nodes_supplies([0, 1], [2.5, -2.5])
     assert (small.solve(), small.optimal_cost(), small.flow(0)) == (small.OPTIMAL, 0.25, 2.5), "decimals"

@@ -3,14 +3,12 @@ scripts/check_web."""
 
 import pathlib
 import re
-import sys
 
 import pytest
 
+import lib  # noqa: F401  makes the modules of web/ importable
 from support import TOP
-
-sys.path.append(str(TOP / "web"))
-from build import markdown, outputs, page, retarget  # noqa: E402
+from web.build import markdown, outputs, page, retarget
 
 MODULE = """target datalayout = "e-m:e-p270:32:32-p271:32:32-p272:64:64-i64:64-i128:128-f80:128-n8:16:32:64-S128"
 target triple = "x86_64-unknown-linux-gnu"

@@ -4,11 +4,12 @@ import importlib.util
 import json
 import pathlib
 import re
+import subprocess
 
 import pytest
 
 from netflow.reading.headings import first_comment
-from support import TOOLS, TOP, run, write
+from support import BREAD, TOOL_NAMES, TOP, run, write
 
 
 def script(path):
@@ -22,19 +23,48 @@ def script(path):
 LOOK = script(TOP / "scripts" / "first_look")
 
 
+# Each text that has to list the helper tools: a file, and the pattern of a line about one of them or of all of them.
+LISTS = (
+    ("python/pyproject.toml", r"^(netflow-\w+) ="),
+    ("python/README.md", r"helper tools ([^\n]*)"),
+    ("crates/netflow/src/words.rt", r"^  (netflow-\w+)  +\w"),
+    ("docs/guide/tools.md", r"^## (netflow-\w+):"),
+    ("share/netflow-companions.1", r"^(netflow-\w+, .*) \\-"),
+    ("share/completions/netflow.bash", r"^complete .* _netflow_companion (.*)"),
+    ("share/completions/netflow.fish", r"^for tool in (.*)"),
+    ("share/completions/_netflow-companions", r"^#compdef (.*)"),
+)
+
+
+@pytest.mark.parametrize("file, pattern", LISTS, ids=[file for file, _ in LISTS])
+def test_lists_of_tools(file, pattern):
+    lines = re.findall(pattern, (TOP / file).read_text(encoding="utf-8"), re.M)
+    assert sorted(set(re.findall(r"netflow-\w+", " ".join(lines)))) == TOOL_NAMES
+
+
+def test_installed_tools(tmp_path):
+    subprocess.run([TOP / "scripts" / "install", tmp_path], check=True, stdout=subprocess.DEVNULL)
+    for folder, end in (
+        ("bin", ""),
+        ("share/man/man1", ".1"),
+        ("share/bash-completion/completions", ""),
+        ("share/fish/vendor_completions.d", ".fish"),
+    ):
+        linked = [path for path in (tmp_path / folder).glob("netflow-*") if path.is_symlink()]
+        assert sorted(path.name for path in linked) == [name + end for name in TOOL_NAMES]
+        assert all(path.resolve().is_file() for path in linked)
+    words = [tmp_path / "bin" / "netflow-why", BREAD / "bread.mod", BREAD / "bread.dat"]
+    assert "Total = 440" in subprocess.run(words, check=True, capture_output=True, encoding="utf-8").stdout
+
+
 def test_words():
-    """Each tool and each of its options is in the manual page and in the completions, and is installed."""
+    """Each tool and each of its options is in the manual page and in the completions."""
     manual = (TOP / "share" / "netflow-companions.1").read_text(encoding="utf-8").replace("\\-", "-")
     completions = [
         (TOP / "share" / "completions" / name).read_text(encoding="utf-8")
         for name in ("netflow.bash", "netflow.fish", "_netflow-companions")
     ]
-    installed = re.search(r"for companion in (.*); do", (TOP / "scripts" / "install").read_text(encoding="utf-8"))[
-        1
-    ].split()
-    names = sorted(path.name for path in TOOLS.iterdir() if path.name.startswith("netflow-"))
-    assert sorted(f"netflow-{name}" for name in installed) == names, "what scripts/install installs"
-    for name in names:
+    for name in TOOL_NAMES:
         usage = run(name, "--help")[1].partition("\n\n")[0]
         assert f".B {name}" in manual and all(
             name in completion for completion in completions
@@ -75,7 +105,7 @@ TITLES = (
     ("set S; # no title\n", ""),
     ("# Costs of 3.5 (see p. 4). More", "Costs of 3.5 (see p. 4)"),
     ("# one\n\n# two", "one"),
-    ("# " + "word " * 40, "word " * 19 + "word\u2026"),
+    ("# " + "word " * 40, "word " * 39 + "word"),
 )
 
 

@@ -6,6 +6,7 @@ from typing import TYPE_CHECKING, Any
 if TYPE_CHECKING:
     from .analysis.reasons import Reason
     from .hints.diagnostic import Diagnostic
+    from .inputs.instance import Instance
     from .reading.network import Network
 
 
@@ -26,13 +27,16 @@ def _rebuilt(kind: type[NetflowError], arguments: tuple[Any, ...], attributes: d
 
 class ProgramError(NetflowError):
     """The program could not be run, or ended without an answer. `line` is the error line with its place in the joined
-    data; `words` are the words of the command that asked, if they can be given again."""
+    data; `instance` is the question that a tool asked, if it was one."""
 
     def __init__(self, status: int, message: str, line: str | None = None) -> None:
         super().__init__(message.rstrip("\n"))
         self.status, self.message = status, message
         self.line = line if line is not None else message
-        self.words: list[str] = []
+        self.instance: Instance | None = None
+
+    def __reduce__(self) -> tuple[Any, ...]:
+        return _rebuilt, (type(self), self.args, {**self.__dict__, "instance": None})
 
 
 class Unreadable(NetflowError):

@@ -5,17 +5,25 @@ import decimal
 import math
 import re
 from fractions import Fraction
-from typing import Any, Iterable, Union
+from typing import Any, Iterable, Mapping, Union
 
 Number = Union[int, Fraction]
 NUMERAL = re.compile(r"[+-]?(?:[0-9]+(?:\.[0-9]+)?|\.[0-9]+)(?:[eEdD][+-]?[0-9]+)?")
 # The largest absolute value that a model or its data can have, and the most digits of a power that are worked out.
 LARGEST = 10**12
 MOST_DIGITS = 60
+# The most digits of a computed float.
+DIGITS = 12
+# The format specification of a number, as the documentation of Python has it.
+SPEC = re.compile(
+    r"(?:(?P<fill>.)?(?P<align>[<>=^]))?(?P<sign>[-+ ]?)z?#?(?P<zero>0?)(?P<width>\d*)(?P<group>[,_]?)"
+    r"(?:\.(?P<precision>\d+))?(?P<type>[a-zA-Z%]?)",
+    re.S,
+)
 
 
 class Exact(Fraction):
-    """A fraction that prints as a decimal: `12.75`, or `1/3` without a finite decimal."""
+    """A fraction that prints and formats as a decimal: `12.75`, or `1/3` without a finite decimal."""
 
     def __str__(self) -> str:
         return decimal_text(self)
@@ -24,13 +32,54 @@ class Exact(Fraction):
         return f"Exact('{self}')"
 
     def __format__(self, spec: str) -> str:
-        return format(decimal_text(self), spec)
+        """Formats the number as a Decimal is formatted; a whole one takes the types of an int too."""
+        parts = SPEC.fullmatch(spec)
+        if parts is not None and self.denominator == 1 and (parts["type"] or "f") in "bcdoxX":
+            return format(self.numerator, spec)
+        if parts is not None and parts["precision"] is None and "/" in str(self):
+            if not parts["type"]:
+                return _fraction_text(self, parts.groupdict())
+            spec = f"{spec[:-1]}.6{spec[-1]}"  # the digits of a float
+        is_underlined = parts is not None and parts["group"] == "_"
+        text = format(_as_decimal(self, spec), spec.replace("_", ",") if is_underlined else spec)
+        return text.replace(",", "_") if is_underlined else text
+
+    def __round__(self, ndigits: int | None = None) -> Any:
+        """Returns an int without a number of digits, else an Exact."""
+        result = super().__round__(ndigits)
+        return result if ndigits is None else Exact(result)
+
+    def __pos__(self) -> "Exact":
+        return self
 
     def __neg__(self) -> "Exact":
         return Exact(-Fraction(self))
 
     def __abs__(self) -> "Exact":
         return Exact(abs(Fraction(self)))
+
+
+def _as_decimal(number: Fraction, spec: str) -> decimal.Decimal:
+    """Returns a fraction as a Decimal: exactly if it has a finite decimal, else with so many digits that a rounding to
+    those of the format is that of the fraction."""
+    text = decimal_text(number)
+    if "/" not in text:
+        return decimal.Decimal(text)
+    precision = SPEC.fullmatch(spec)
+    digits = MOST_DIGITS + len(str(abs(number.numerator))) + int((precision and precision["precision"]) or 0)
+    context = decimal.Context(prec=digits, rounding=decimal.ROUND_05UP)
+    return context.divide(decimal.Decimal(number.numerator), decimal.Decimal(number.denominator))
+
+
+def _fraction_text(number: Fraction, parts: Mapping[str, str]) -> str:
+    """Returns a number without a finite decimal as `a/b`, with the sign, groups and width of a format."""
+    sign, group = parts["sign"] or "", parts["group"] or ""
+    text = f"{format(number.numerator, sign + group)}/{format(number.denominator, group)}"
+    fill, align = parts["fill"] or ("0" if parts["zero"] else " "), parts["align"] or (">=")[bool(parts["zero"])]
+    if align == "=":
+        has_sign = text[0] in "+- "
+        return text[:has_sign] + text[has_sign:].rjust(int(parts["width"] or 0) - has_sign, fill)
+    return format(text, f"{fill}{align}{parts['width'] or 0}")
 
 
 def _exact_method(name: str) -> Any:
@@ -44,8 +93,8 @@ def _exact_method(name: str) -> Any:
     return method
 
 
-for _name in ("__add__", "__radd__", "__sub__", "__rsub__", "__mul__", "__rmul__", "__truediv__", "__rtruediv__"):
-    setattr(Exact, _name, _exact_method(_name))
+for _name in ("add", "radd", "sub", "rsub", "mul", "rmul", "truediv", "rtruediv", "mod", "rmod", "pow"):
+    setattr(Exact, f"__{_name}__", _exact_method(f"__{_name}__"))
 
 
 def decimal_text(number: Fraction) -> str:
@@ -63,6 +112,12 @@ def decimal_text(number: Fraction) -> str:
         return str(top)
     text = str(abs(top) * 10**digits // bottom).rjust(digits + 1, "0")
     return f"{'-' if top < 0 else ''}{text[:-digits]}.{text[-digits:]}"
+
+
+def power_text(number: int) -> str:
+    """Returns a large power of ten as one, such as 10^12."""
+    digits = str(number)
+    return f"10^{len(digits) - 1}" if len(digits) > 7 and digits.rstrip("0") == "1" else digits
 
 
 def divided(number: Number, factor: int) -> Number:
@@ -94,10 +149,37 @@ def as_fraction(value: Any) -> Fraction | None:
     if isinstance(value, decimal.Decimal):
         return Fraction(value) if value.is_finite() else None
     if hasattr(value, "item") and not isinstance(value, (str, bytes)):
-        return as_fraction(value.item()) if getattr(value, "size", 1) == 1 else None  # a number of NumPy
+        if getattr(value, "size", 1) != 1:
+            return None
+        # A number of NumPy; a short float has its own shortest decimal.
+        is_short = getattr(value, "itemsize", 8) < 8 and isinstance(value.item(), float) and math.isfinite(value)
+        return Fraction(str(value)) if is_short else as_fraction(value.item())
     if isinstance(value, float):
         return Fraction(repr(value)) if math.isfinite(value) else None
     return None
+
+
+def has_many_digits(value: Any, number: Fraction) -> bool:
+    """Whether a Python number is a float that no model can have: with more than 12 digits, as `0.1 + 0.2` and `1/3`."""
+    is_float = isinstance(value, float) or hasattr(value, "item") and isinstance(value.item(), float)
+    return is_float and number.denominator > 1 and len(str(abs(number) * 10 ** decimals(number))) > DIGITS
+
+
+def decimals(number: Fraction) -> int:
+    """Returns how many digits a decimal has after its point."""
+    return len(decimal_text(number).partition(".")[2])
+
+
+def rounded_together(computed: Iterable[Fraction], numbers: Iterable[Fraction]) -> list[Fraction]:
+    """Returns computed values rounded to the last of the 12 digits that the largest of the numbers has, so that all of
+    them can be scaled by one factor."""
+    largest = max((abs(number) for number in numbers), default=Fraction(1))
+    places = DIGITS
+    while largest >= Fraction(10) ** (DIGITS - places):
+        places -= 1
+    while 0 < largest < Fraction(10) ** (DIGITS - places - 1):
+        places += 1
+    return [round(value, places) for value in computed]
 
 
 def common_factor(values: Iterable[Fraction]) -> int:

@@ -12,6 +12,7 @@ import weakref
 from typing import Any, Iterator, Mapping, Sequence
 
 from .errors import ProgramError, Unreadable
+from .reading.text import MOST_BYTES
 from .types import Path
 
 __all__ = ["Answer", "Session", "Unreadable", "call", "program", "problem_text", "ProgramError"]
@@ -90,7 +91,7 @@ class Session:
         try:
             with open(path, "rb") as source, tempfile.NamedTemporaryFile(prefix="netflow-", delete=False) as copy:
                 self.copies.append(copy.name)
-                shutil.copyfileobj(source, copy)
+                copy.write(source.read(MOST_BYTES + 1))
         except OSError:
             return path
         return copy.name

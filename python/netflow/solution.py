@@ -1,73 +1,22 @@
-"""Solves a model from Python: `solve` and its result, a `Solution`."""
+"""The result of `solve`, a `Solution`."""
 from __future__ import annotations
 
-import os
-import re
-import warnings
 from fractions import Fraction
 from html import escape
-from typing import TYPE_CHECKING, Dict, Iterator, List, Mapping, Sequence, Union
+from typing import TYPE_CHECKING, Dict, Iterator, Mapping, Sequence, Union
 
-from .analysis.reasons import reasons
 from .analysis.sensitivity import Marginal
-from .errors import DataError, Infeasible, ModelError, ProgramError
-from .hints.diagnostic import Diagnostic
-from .inputs.grouped_digits import grouped_lines_of
 from .inputs.instance import Instance
-from .inputs.python_data import override
-from .inputs.source import Input
-from .program import REJECTED, UNREADABLE_FILE, call
-from .reading.headings import headings
-from .reading.model import Shapes, Unparsed, parse
-from .reading.network import Arc, Network
+from .keyed import FlowKey, Flows
+from .prices import Prices, number_of
+from .program import call
+from .reading.network import Arc, Network, Node
 from .reading.output import read_prices
 from .report.json_objects import arc_rows, dumps, plan_json
-from .types import Amount, Data, Key, Member, Number, Path
+from .types import Amount, Member, Number
 
 if TYPE_CHECKING:
     import pandas
-
-# A key as `Flows` takes it: that of one index is the member itself.
-FlowKey = Union[Member, Key]
-Source = Union[Path, Mapping[str, Data]]
-
-
-class Flows(Mapping[FlowKey, Number]):
-    """The flows of one declaration of arcs by key; the key of one index is the member itself."""
-
-    def __init__(self, name: str, arcs: Sequence[Arc]) -> None:
-        self.name = name
-        self.arcs: dict[Key, Arc] = {tuple(arc.key): arc for arc in arcs}
-
-    def __getitem__(self, key: FlowKey) -> Number:
-        return self.arc(key).flow
-
-    def arc(self, key: FlowKey) -> Arc:
-        """Returns the arc with its bounds, price and ends."""
-        parts = tuple(key) if isinstance(key, (tuple, list)) else (key,)
-        try:
-            return self.arcs[parts]
-        except KeyError:
-            raise KeyError(f"{self.name} has no arc {parts}") from None
-
-    def __iter__(self) -> Iterator[FlowKey]:
-        return (key[0] if len(key) == 1 else key for key in self.arcs)
-
-    def __len__(self) -> int:
-        return len(self.arcs)
-
-    def __repr__(self) -> str:
-        return f"Flows({self.name}, {dict(self)!r})"
-
-    def to_pandas(self) -> pandas.Series:
-        """Returns a pandas Series of the flows."""
-        import pandas
-
-        keys = list(self)
-        is_multiple = bool(keys) and isinstance(keys[0], tuple)
-        index = pandas.MultiIndex.from_tuples(keys) if is_multiple else pandas.Index(keys)
-        series = pandas.Series([arc.flow for arc in self.arcs.values()], index, name=self.name, dtype=object)
-        return series.infer_objects() if all(isinstance(flow, int) for flow in series) else series.astype(float)
 
 
 class Solution(Mapping[str, Union[Flows, Number]]):
@@ -85,6 +34,7 @@ class Solution(Mapping[str, Union[Flows, Number]]):
         self._is_table = dict(net.declarations)
         self._flows: dict[str, Flows] = {}
         self._marginal: Marginal | None = None
+        self._prices: Prices | None = None
 
     @property
     def arcs(self) -> list[Arc]:
@@ -98,7 +48,7 @@ class Solution(Mapping[str, Union[Flows, Number]]):
         if not self._is_table[name]:
             return arcs[0].flow
         if name not in self._flows:
-            self._flows[name] = Flows(name, arcs)
+            self._flows[name] = Flows(name, arcs, self.headings.get(name, ()))
         return self._flows[name]
 
     def __iter__(self) -> Iterator[str]:
@@ -139,19 +89,28 @@ class Solution(Mapping[str, Union[Flows, Number]]):
         return self._marginal
 
     @property
-    def prices(self) -> dict[str, Number]:
-        """By how much the value changes if a node requires one more unit, exactly; nodes whose need cannot change alone
-        have no entry."""
-        sign, costs = self.network.sign, self._priced().more
-        return {node.text: sign * cost for node, cost in zip(self.network.nodes, costs) if cost is not None}
+    def nodes(self) -> list[Node]:
+        """All nodes in the model's order, each with its text, the bounds of its net inflow, and the inflow."""
+        return self.network.nodes
 
-    def price_range(self, node: str) -> Amount:
-        """For how many more required units at a node, such as `"Shop['hill']"`, its price holds; infinity for any
-        number."""
-        numbers = {other.text: number for number, other in enumerate(self.network.nodes)}
-        if node not in numbers:
-            raise KeyError(f"the model has no node {node}")
-        return self._priced().units_more(numbers[node])
+    @property
+    def prices(self) -> Prices:
+        """By how much the value changes if a node requires one more unit, by declaration and key. Of a node whose need
+        cannot change alone it is the potential: `price_range` is 0 there, and `pair_price` the exact price."""
+        if self._prices is None:
+            self._prices = Prices(self.network, self._priced().more)
+        return self._prices
+
+    def price_range(self, node: str, *key: Member) -> Amount:
+        """For how many more required units at a node, such as `"Shop", "hill"`, its price holds; infinity for any
+        number, 0 if the need of the node cannot change alone."""
+        return self._priced().units_more(number_of(self.network, node, key))
+
+    def pair_price(self, node: str, *key: Member) -> tuple[str, Number] | None:
+        """By how much the value changes if a node requires one more unit and the best node that supplies units has one
+        more: that node, and the exact change. None if there is no plan with such a pair."""
+        pair = self._priced().pair(number_of(self.network, node, key))
+        return None if pair is None else (self.network.nodes[pair[0]].text, self.network.sign * pair[1])
 
     @property
     def reduced_costs(self) -> dict[str, dict[FlowKey, Number]]:
@@ -172,145 +131,3 @@ class Solution(Mapping[str, Union[Flows, Number]]):
         height = 720 if len(self.arcs) > 20 else 560
         style = f"width:100%;height:{height}px;border:0"
         return f'<iframe style="{style}" srcdoc="{escape(self.report(), quote=True)}"></iframe>'
-
-
-def solve(
-    model: Path,
-    data: Source | Sequence[Source] | None = None,
-    *,
-    objective: str | None = None,
-    scale: Mapping[str, int] | None = None,
-    bounds: bool = False,
-    **sets_and_params: Data,
-) -> Solution:
-    """Solves a model and returns its best plan.
-
-    `model` is a file or a text, and `data` a file, a text, a dict of sets and parameters, or a list of these, of which
-    later ones override earlier ones value by value; keyword arguments override all of them. A `pathlib.Path` is a file.
-    A `str` is a text if it has a line end or a `;`, and else the path of a file.
-
-    A set is a list of members or tuples; a parameter is a number, a dict by key, a list of tuples that end with the
-    value, a list of dicts, or a pandas object. A set or parameter named `model`, `data`, `objective`, `scale` or
-    `bounds` is given in a dict of `data`.
-
-    Decimals are scaled exactly; `scale` gives the factor of a parameter. `bounds=True` lets arcs have no upper or lower
-    bound.
-
-    Raises ModelError if the model or its data have an error, Infeasible if no plan exists, DataError if Python data do
-    not fit. Warns of decimals in a model or data file that may be whole numbers with grouped digits, such as 1.200.
-    """
-    first = input_of(model)
-    options = {"data": data, "objective": objective, "scale": scale, "bounds": bounds or None}
-    require_no_parameter(first, {name: value for name, value in options.items() if value is not None})
-    require_options(objective, scale, bounds)
-    texts, changes = inputs_of(data)
-    override(changes, sets_and_params)
-    instance = Instance(first, texts, objective=objective, changes=changes, scale=dict(scale or {}), add_bounds=bounds)
-    try:
-        net = instance.network()[1]
-    except ProgramError as problem:
-        raise model_error(problem, instance) from None
-    except Unparsed as problem:
-        raise DataError(f"the model has a form that options cannot change (offset {problem.offset})") from None
-    for line in grouped_lines_of(instance):
-        warnings.warn(line, stacklevel=2)
-    if net.cut is not None:
-        raise infeasible(net)
-    text = instance.model.text()
-    titles = {name: headings(text, name, len(arcs[0].key)) for name, arcs in net.declared().items()}
-    return Solution(net, instance, titles, os.path.basename(first.path) if first.path else "model")
-
-
-def require_no_parameter(model: Input, options: Mapping[str, object]) -> None:
-    """Raises DataError if the model has a set or parameter with the name of an option that is given, and no data have
-    it.
-
-    In a model with `param scale`, `scale=5` would be an option, and the parameter would have no value.
-    """
-    if model.path is not None and not os.path.isfile(model.path):
-        return
-    text = model.text()
-    named = [name for name in options if re.search(rf"\b(?:set|param)\s+{name}\b", text)]
-    if not named:
-        return
-    try:
-        shapes = Shapes(parse(text), text)
-    except Unparsed:
-        return
-    for name in named:
-        kind = shapes.decls[name].kind if name in shapes.decls else ""
-        if kind in ("set", "param") and not has_data(name, options.get("data")):
-            raise DataError(
-                f"{name}: the model declares {kind} {name}, and {name} is also an option of solve: "
-                f"give the {kind} in a dict, data={{'{name}': ..}}"
-            )
-
-
-def has_data(name: str, data: object) -> bool:
-    """Whether data give a value to a set or parameter, as far as their texts show."""
-    for source in data if isinstance(data, (list, tuple)) else [data]:
-        if isinstance(source, Mapping):
-            if name in source:
-                return True
-        elif isinstance(source, (str, os.PathLike)):
-            text = input_of(source)
-            if text.path is not None and not os.path.isfile(text.path) or re.search(rf"\b{name}\b", text.text()):
-                return True
-    return False
-
-
-def require_options(objective: object, scale: object, bounds: object) -> None:
-    """Raises TypeError or DataError if an option of `solve` has no usable value."""
-    if objective is not None and not isinstance(objective, str):
-        raise TypeError(f"objective: expected the name of an objective as a text, not {objective!r}")
-    if not isinstance(bounds, bool):
-        raise TypeError(f"bounds: expected True or False, not {bounds!r}")
-    if scale is not None and not isinstance(scale, Mapping):
-        raise TypeError(f"scale: expected a dict of parameters and factors, such as {{'cost': 100}}, not {scale!r}")
-    for name, factor in (scale or {}).items():
-        if isinstance(factor, bool) or not hasattr(factor, "__index__") or factor < 1:
-            raise DataError(
-                f"scale of {name}: {factor!r} is no factor; expected a whole number of 1 or more, such as 100"
-            )
-
-
-def input_of(value: object, what: str = "model", expected: str = "a path or the text of the model") -> Input:
-    """Returns a model or data text; raises TypeError for a value that is none."""
-    if isinstance(value, str) and ("\n" in value or ";" in value):
-        return Input(text=value)
-    if isinstance(value, (str, os.PathLike)):
-        path = os.fspath(value)
-        if isinstance(path, str):
-            return Input(path)
-    raise TypeError(f"{what}: expected {expected}, not {value!r}")
-
-
-def inputs_of(data: object) -> tuple[list[Input], dict[str, object]]:
-    """Returns the data texts, and the sets and parameters of dicts."""
-    texts: List[Input] = []
-    changes: Dict[str, object] = {}
-    for source in data if isinstance(data, (list, tuple)) else [data] if data is not None else []:
-        if isinstance(source, Mapping):
-            override(changes, source)
-        else:
-            texts.append(input_of(source, "data", "a path, a text, a dict, or a list of these"))
-    return texts, changes
-
-
-def model_error(problem: ProgramError, instance: Instance) -> Exception:
-    """Returns the ModelError of what the program reports, or another problem unchanged."""
-    if problem.status not in (REJECTED, UNREADABLE_FILE):
-        return problem
-    diagnostic = Diagnostic.of_instance(problem, instance)
-    return ModelError(diagnostic) if diagnostic else problem
-
-
-def infeasible(net: Network) -> Infeasible:
-    """Returns the exception for a network with a cut."""
-    side, inside = net.cut if net.cut is not None else ("", set())
-    short = reasons(net)
-    nodes = [net.nodes[number].text for number in sorted(inside)]
-    return Infeasible(f"no plan: {short[0].headline(net)}", nodes, side, short, net)
-
-
-__all__ = ["Flows", "Solution", "solve"]

@@ -5,13 +5,17 @@ import sys
 
 sys.dont_write_bytecode = True
 TOP = pathlib.Path(__file__).resolve().parent.parent.parent
+# The program, where a build writes it.
+PROGRAM = TOP / "crates" / "netflow" / "out" / "netflow"
 
 
 def parser(documentation):
     """Returns an argument parser whose help is the script's documentation."""
     name = pathlib.Path(sys.argv[0])
     program = f"{name.parent.name}/{name.name}" if name.parent.name in ("scripts", "bench") else name.name
-    return argparse.ArgumentParser(prog=program, description=documentation.strip(), formatter_class=argparse.RawDescriptionHelpFormatter)
+    return argparse.ArgumentParser(
+        prog=program, description=documentation.strip(), formatter_class=argparse.RawDescriptionHelpFormatter
+    )
 
 
 def count(word):

@@ -1,4 +1,5 @@
-"""The definitions that a theorem cites, directly or through others, and the table of docs/verification.md made of them."""
+"""The definitions that a theorem cites, directly or through others, and the table of docs/verification.md made of
+them."""
 import re
 
 from lib.command import TOP
@@ -10,7 +11,7 @@ MEANS = ["net_driver/specs/Meaning.antt:IsCompilation", "net_driver/specs/Meanin
 WORD = re.compile(r"[A-Za-z_][\w'-]*(?:\.[A-Za-z_][\w'-]*)?")
 USE = re.compile(r"^(?:pub )?use Rattle\.(\w+)\.specs\.([\w.]+?)(?:\.\{([^}]*)\})?(?: as (\w+))?$", re.M)
 NAMED = re.compile(r"^ {0,2}(?:(?:abbrev|unfoldable|pub|record|data) )*([A-Za-z_◌][\w◌>=&|+-]*)(?: .*)?:", re.M)
-BOUND = [re.compile(it) for it in (r"λ ([^.]*)\.", r"[({]([\w\s'-]+?) :", r"\blet ([\w'-]+)")]
+BOUND = [re.compile(pattern) for pattern in (r"λ ([^.]*)\.", r"[({]([\w\s'-]+?) :", r"\blet ([\w'-]+)")]
 HEAD = re.compile(r"(?:abbrev|unfoldable|pub|record|data|mutual)\b|[a-z_◌]\S* :")
 
 
@@ -26,17 +27,23 @@ class Spec:
                 continue
             if alias:
                 self.aliases[alias] = target
-            for item in filter(None, (it.strip() for it in (listed or "").split(","))):
+            for item in filter(None, (item.strip() for item in (listed or "").split(","))):
                 name, _, local = item.partition(" as ")
                 self.names[local or name] = target, name
         self.take_blocks(text)
 
     def take_blocks(self, text):
         """Splits the file into definitions, each with the comment above it and its equations; a `mutual` is one."""
-        chunk, remark = [], []
+        chunk: list[str] = []
+        remark: list[str] = []
         lines = [line for line in text.splitlines() if not line.startswith(("use ", "pub use "))]
         for line in [*lines, "\0"]:
-            begins = line[:1] not in (" ", "") and not line.startswith("--") and HEAD.match(line) and not self.goes_on(chunk, line)
+            begins = (
+                line[:1] not in (" ", "")
+                and not line.startswith("--")
+                and HEAD.match(line)
+                and not self.goes_on(chunk, line)
+            )
             if begins or line.startswith(("--", "\0")):
                 if chunk:
                     self.keep(chunk)
@@ -52,28 +59,28 @@ class Spec:
     @staticmethod
     def goes_on(chunk, line):
         """Returns whether the line is an equation of the current definition and not a new one."""
-        name = next((m[1] for it in chunk if (m := NAMED.match(it))), None)
+        name = next((m[1] for line in chunk if (m := NAMED.match(line))), None)
         return name is not None and line.split()[0] == name
 
     def keep(self, chunk):
-        names = NAMED.findall("\n".join(it for it in chunk if not it.startswith("--")))
-        for name in names[:1] if not any("mutual" in it for it in chunk) else names:
+        names = NAMED.findall("\n".join(line for line in chunk if not line.startswith("--")))
+        for name in names[:1] if not any("mutual" in line for line in chunk) else names:
             self.blocks[name] = chunk
-        if any(re.match(r"(?:pub )?data ", it) for it in chunk):
+        if any(re.match(r"(?:pub )?data ", line) for line in chunk):
             for name in re.findall(r"(?m)^  ([a-z_]\w*) :", "\n".join(chunk)):
                 self.blocks.setdefault(name, chunk)
 
 
 def cited(block):
     """Returns the names that a definition cites, without those that it binds in the head of an equation or after λ."""
-    text = "\n".join(it for it in block if not it.startswith("--"))
+    text = "\n".join(line for line in block if not line.startswith("--"))
     bound = {word for pattern in BOUND for found in pattern.findall(text) for word in found.split()}
     names = set(NAMED.findall(text))
     for line in block:
         front, equals, _ = line.partition(" = ")
         if equals and line.split()[0] in names and " : " not in front:
             bound.update(WORD.findall(front)[1:])
-    return [it for it in WORD.findall(text) if it.partition(".")[0] not in bound]
+    return [word for word in WORD.findall(text) if word.partition(".")[0] not in bound]
 
 
 class Reading:
@@ -93,7 +100,7 @@ class Reading:
             path, name = todo.pop(0)
             spec = self.spec(path)
             block = spec.blocks.get(name)
-            if block is None or any(block is it for it in self.reached.get(path, [])):
+            if block is None or any(block is other for other in self.reached.get(path, [])):
                 continue
             self.reached.setdefault(path, []).append(block)
             for word in cited(block):
@@ -107,7 +114,9 @@ class Reading:
 
     def rows(self):
         """Returns for each file its name below crates/, the number of definitions reached, and their lines."""
-        return [(str(path.relative_to(CRATES)), len(blocks), sum(map(len, blocks))) for path, blocks in self.reached.items()]
+        return [
+            (str(path.relative_to(CRATES)), len(blocks), sum(map(len, blocks))) for path, blocks in self.reached.items()
+        ]
 
 
 def read(starts=MAIN_THEOREM):
@@ -124,8 +133,8 @@ STAGES = [
     ("meaning", ["net_meaning"]),
     ("model as written", ["net_inst", "net_linear"]),
     ("problem", ["net_normal", "net_check", "net_dimacs", "net_report"]),
-    ("text to declarations", ["net_lex", "net_tree", "net_model", "net_resolve", "net_data"]),
-    ("sets and parameters", ["net_eval"]),
+    ("text to declarations", ["net_lex", "net_tree", "net_model", "net_names", "net_data"]),
+    ("sets and parameters", ["net_bind"]),
     ("values", ["net_expr", "net_sets"]),
     ("errors", ["net_base"]),
 ]
@@ -144,19 +153,22 @@ def crate_names():
 def table():
     """Yields the table: a row for each crate, in the order of an audit, then crates that the theorem does not reach."""
     rows, meant, names = read().rows(), read(MEANS).rows(), crate_names()
-    yield from ("| Crate | Stage | Files | Definitions | Lines to read | For `means` | Start with | Mutants |", "|---|---|---|---|---|---|---|---|")
+    yield from (
+        "| Crate | Stage | Files | Definitions | Lines to read | For `means` | Start with | Mutants |",
+        "|---|---|---|---|---|---|---|---|",
+    )
     staged = [(stage, crate) for stage, crates in STAGES for crate in crates if crate in names]
-    rest = [("", crate) for crate in names if crate not in {it for _, it in staged}]
+    rest = [("", crate) for crate in names if crate not in {crate for _, crate in staged}]
     for stage, crate in staged + rest:
-        own, theirs = ([it for it in reached if it[0].partition("/")[0] == crate] for reached in (rows, meant))
+        own, theirs = ([row for row in reached if row[0].partition("/")[0] == crate] for reached in (rows, meant))
         mutants = len(list((CRATES / crate / "must-fail").glob("*.edit")))
-        first = FIRST_FILES.get(crate) or next((it[0] for it in own + theirs), None)
+        first = FIRST_FILES.get(crate) or next((row[0] for row in own + theirs), None)
         start = f"`crates/{first}`" if first else ""
-        sizes = (len(own), sum(it[1] for it in own), sum(it[2] for it in own), sum(it[2] for it in theirs))
+        sizes = (len(own), sum(row[1] for row in own), sum(row[2] for row in own), sum(row[2] for row in theirs))
         link = f"[{crate}](../crates/{crate}/README.md)"
         yield "| " + " | ".join(map(str, (link, stage, *sizes, start, mutants))) + " |"
     mutants = len(list(CRATES.glob("*/must-fail/*.edit")))
-    sizes = (len(rows), sum(it[1] for it in rows), sum(it[2] for it in rows), sum(it[2] for it in meant))
+    sizes = (len(rows), sum(row[1] for row in rows), sum(row[2] for row in rows), sum(row[2] for row in meant))
     yield "| " + " | ".join(map(str, ("together", "", *sizes, "", mutants))) + " |"
 
 

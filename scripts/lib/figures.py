@@ -28,13 +28,16 @@ def code_lines(text):
 
 def sizes():
     """Returns the lines of each crate by its name, without those of tests and measurements."""
-    names = [it for it in definitions.crate_names() if it not in ("net_tests", "net_bench")]
-    return {name: sum(code_lines(path.read_text(encoding="utf-8")) for path in (CRATES / name / "src").rglob("*.rt")) for name in names}
+    names = [name for name in definitions.crate_names() if name not in ("net_tests", "net_bench")]
+    return {
+        name: sum(code_lines(path.read_text(encoding="utf-8")) for path in (CRATES / name / "src").rglob("*.rt"))
+        for name in names
+    }
 
 
 def listed(names, mark=""):
     """Returns names as a sentence lists them."""
-    names = [f"{mark}{it}{mark}" for it in sorted(names)]
+    names = [f"{mark}{name}{mark}" for name in sorted(names)]
     return ", ".join(names[:-1]) + " and " + names[-1] if len(names) > 1 else "".join(names)
 
 
@@ -44,13 +47,13 @@ def large_crates():
 
 def repeated_names():
     names = [path.name for path in CRATES.glob("*/src/**/*.rt")]
-    return listed({it for it in names if names.count(it) > 1}, "`")
+    return listed({name for name in names if names.count(name) > 1}, "`")
 
 
 def lines_for_means(*crates):
     """Returns the number of lines that the clauses `means` cite, of these crates or of all."""
     rows = definitions.read(definitions.MEANS).rows()
-    return sum(it[2] for it in rows if not crates or it[0].partition("/")[0] in crates)
+    return sum(row[2] for row in rows if not crates or row[0].partition("/")[0] in crates)
 
 
 def libraries():
@@ -78,14 +81,22 @@ LENGTHS = r"if a function has more than (\d+ lines or a file more than \d+, and 
 # A page, a sentence in it with the figure as its group, and the value of the figure.
 FIGURES = (
     (DECISIONS, r"reads the relations alone, ([\d,]+) lines with their comments", lambda: f"{lines_for_means():,}"),
-    (DECISIONS, r"of which (\d+) are in net_driver and net_meaning", lambda: lines_for_means("net_driver", "net_meaning")),
+    (
+        DECISIONS,
+        r"of which (\d+) are in net_driver and net_meaning",
+        lambda: lines_for_means("net_driver", "net_meaning"),
+    ),
     (DECISIONS, r"Crates with more than ([\d,]+) lines", lambda: f"{LARGE:,}"),
     (DECISIONS, r"\(`scripts/check_sizes` prints them\), are ([a-z_, ]+)\.", large_crates),
     (DECISIONS, r"each occurs once, except for ([^.]+\.rt`(?:(?:, | and )[^., ]+\.rt`)*)", repeated_names),
     (DECISIONS, r"(\d+) crates; the path from", lambda: len(definitions.crate_names())),
     (VERIFICATION, r"ports of (\w+) Rust crates", lambda: NUMBERS[len(libraries())]),
-    (VERIFICATION, r"Rust crates \(([^)]*)\)", lambda: ", ".join(f"`{it}`" for it in sorted(libraries()))),
-    (VERIFICATION, r"`proofs/Examples\.antt` of (\w+) crates", lambda: NUMBERS[len(list(CRATES.glob("*/proofs/Examples.antt")))]),
+    (VERIFICATION, r"Rust crates \(([^)]*)\)", lambda: ", ".join(f"`{library}`" for library in sorted(libraries()))),
+    (
+        VERIFICATION,
+        r"`proofs/Examples\.antt` of (\w+) crates",
+        lambda: NUMBERS[len(list(CRATES.glob("*/proofs/Examples.antt")))],
+    ),
     ("CONTRIBUTING.md", LENGTHS, length_limits),
     ("docs/contributing/proofs.md", LENGTHS, length_limits),
     ("README.md", r"with (\w+) recipes", lambda: NUMBERS[recipes()]),

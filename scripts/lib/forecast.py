@@ -1,7 +1,9 @@
-"""How long a build will take: from the stored costs of the crates, the speed of the machine so far, and the order of the build.
+"""How long a build will take: from the stored costs of the crates, the speed of the machine so far, and the order of
+the build.
 
-scripts/lib/build_costs.txt has the processor seconds that each crate took in one build from nothing. The same crates take up to twice
-as long on another machine, or on a busy one; the crates that have ended say how much longer they take here and now."""
+scripts/lib/build_costs.txt has the processor seconds that each crate took in one build from nothing. The same crates
+take up to twice as long on another machine, or on a busy one; the crates that have ended say how much longer they take
+here and now."""
 from lib.command import TOP
 
 COSTS = TOP / "scripts" / "lib" / "build_costs.txt"
@@ -16,12 +18,16 @@ def read(path=COSTS):
     """Returns the processor seconds of each crate."""
     if not path.exists():
         return {}
-    lines = [line.split() for line in path.read_text(encoding="utf-8").splitlines() if line and not line.startswith("#")]
+    lines = [
+        line.split() for line in path.read_text(encoding="utf-8").splitlines() if line and not line.startswith("#")
+    ]
     return {name: float(seconds) for name, seconds in lines}
 
 
 def save(costs, path=COSTS):
-    path.write_text(HEAD + "".join(f"{name} {seconds:.0f}\n" for name, seconds in sorted(costs.items())), encoding="utf-8")
+    path.write_text(
+        HEAD + "".join(f"{name} {seconds:.0f}\n" for name, seconds in sorted(costs.items())), encoding="utf-8"
+    )
 
 
 class Forecast:
@@ -31,7 +37,8 @@ class Forecast:
         self.below, self.lanes, self.costs = below, lanes, read() if costs is None else costs
 
     def slowness(self, spent, running):
-        """Returns how much longer than stored the ended crates took, or the running ones at least; None if too little has run."""
+        """Returns how much longer than stored the ended crates took, or the running ones at least; None if too little
+        has run."""
         known = {name: seconds for name, seconds in spent.items() if self.costs.get(name)}
         if sum(known.values()) >= ENOUGH:
             return sum(known.values()) / sum(self.costs[name] for name in known)
@@ -39,8 +46,8 @@ class Forecast:
         return max([1.0, *over]) if sum(running.values()) >= ENOUGH else None
 
     def seconds_left(self, done, running, spent, share):
-        """Returns the seconds by the clock until all crates are built. `running` and `spent` have the processor seconds of running and
-        ended crates, `share` is the part of a processor that a process gets next to other programs."""
+        """Returns the seconds by the clock until all crates are built. `running` and `spent` have the processor seconds
+        of running and ended crates, `share` is the part of a processor that a process gets next to other programs."""
         slowness = self.slowness(spent, running)
         if slowness is None or not share or any(name not in self.costs for name in self.below):
             return None
@@ -48,11 +55,14 @@ class Forecast:
         return self.simulated({name: max(seconds, 5.0) for name, seconds in work.items()}) / share
 
     def simulated(self, work):
-        """Returns the time that this work of each crate takes: a crate begins after those below it, those with the longest path above
-        them first, and the first of them gets the processors that the others leave."""
+        """Returns the time that this work of each crate takes: a crate begins after those below it, those with the
+        longest path above them first, and the first of them gets the processors that the others leave."""
         paths, clock, work = self.paths(work), 0.0, dict(work)
         while work:
-            ready = sorted((name for name in work if not any(it in work for it in self.below[name])), key=lambda it: -paths[it])
+            ready = sorted(
+                (name for name in work if not any(library in work for library in self.below[name])),
+                key=lambda crate: -paths[crate],
+            )
             ready = ready[: self.lanes]
             jobs = {name: 1 for name in ready} | {ready[0]: max(1, self.lanes - len(ready) + 1)}
             pace = {name: 1 / (1 - SHARED + SHARED / jobs[name]) for name in ready}
@@ -66,8 +76,8 @@ class Forecast:
 
     def paths(self, work):
         """Returns for each crate the work on the longest path from it upwards, itself included."""
-        lengths = {}
-        for name in sorted(work, key=lambda it: -len(self.below[it])):
-            above = [lengths[it] for it in lengths if name in self.below[it]]
+        lengths: dict[str, float] = {}
+        for name in sorted(work, key=lambda crate: -len(self.below[crate])):
+            above = [lengths[crate] for crate in lengths if name in self.below[crate]]
             lengths[name] = work[name] + max(above, default=0)
         return lengths

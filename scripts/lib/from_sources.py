@@ -1,12 +1,10 @@
-"""Runs a crate's program or tests from their sources: `from_sources.py CRATE [FLAG ..] [-- WORD ..]` does what `rt try` does in the crate's
-folder, in less processor time. `rt try` also checks all sources a second time at once, which only tells whether a later check will
-reject a name; the checks of the gate and the build do that too."""
+"""Runs a crate's program or tests from their sources: `-m lib.from_sources CRATE [FLAG ..] [-- WORD ..]` does what `rt
+try` does in the crate's folder, in less processor time. `rt try` also checks all sources a second time at once, which
+only tells whether a later check will reject a name; the checks of the gate and the build do that too."""
 import os
-import pathlib
 import sys
 
-sys.path.insert(0, str(pathlib.Path(__file__).resolve().parent.parent))
-from lib.prover import RT, TOP  # noqa: E402
+from lib.prover import RT, TOP
 
 
 def main(name, *words):

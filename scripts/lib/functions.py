@@ -1,11 +1,11 @@
-"""Functions in the source text of a crate: copies under other names, with their proofs, so that two mutants of a function fit
-into one check; and stubs instead of bodies, so that checking their callers costs less.
+"""Functions in the source text of a crate: copies under other names, with their proofs, so that two mutants of a
+function fit into one check; and stubs instead of bodies, so that checking their callers costs less.
 
-Sources are formatted by rt fmt: a function ends at the first brace at its own margin, or at an empty body `{}`. A copy goes to
-the end of its file, or to the head of its type's impl. A function can be copied if it is not a method of a trait, is in no
-cycle of calls, and no proof but its own cites its goals. A stub keeps the signature and the contract, so the goals of its
-callers stay the same; its own goals cannot be proved. The functions of a cycle become stubs together, if all of them can. Stubs
-that nothing names are removed.
+Sources are formatted by rt fmt: a function ends at the first brace at its own margin, or at an empty body `{}`. A copy
+goes to the end of its file, or to the head of its type's impl. A function can be copied if it is not a method of a
+trait, is in no cycle of calls, and no proof but its own cites its goals. A stub keeps the signature and the contract,
+so the goals of its callers stay the same; its own goals cannot be proved. The functions of a cycle become stubs
+together, if all of them can. Stubs that nothing names are removed.
 """
 import pathlib
 import re
@@ -32,15 +32,23 @@ class Function:
         self.file, self.name, self.margin = file, header[3], header[1]
         above = max(text.rfind("\n\n", 0, header.start()) + 2, text.rfind("{\n", 0, header.start()) + 2)
         # The body ends at a lone brace, or is `{}` at the end of the signature's line.
-        end = re.compile(r".*\{\}\n").match(text, header.start()) or re.compile(rf"\n{self.margin}(?:\{{\}}|\}})\n").search(text, header.start())
+        end = re.compile(r".*\{\}\n").match(text, header.start()) or re.compile(
+            rf"\n{self.margin}(?:\{{\}}|\}})\n"
+        ).search(text, header.start())
         self.start, self.end = above, end.end() if end else above
-        self.text = text[self.start:self.end]
-        self.impl = list(IMPL.finditer(text, 0, header.start()))[-1] if self.margin and IMPL.search(text, 0, header.start()) else None
-        module = file[len("src/"):-len(".rt")]
-        self.path = [it for it in module.split("/") if it not in ("lib", "main")] + ([self.impl[2]] if self.impl else [])
+        self.text = text[self.start : self.end]
+        self.impl = (
+            list(IMPL.finditer(text, 0, header.start()))[-1]
+            if self.margin and IMPL.search(text, 0, header.start())
+            else None
+        )
+        module = file[len("src/") : -len(".rt")]
+        self.path = [part for part in module.split("/") if part not in ("lib", "main")] + (
+            [self.impl[2]] if self.impl else []
+        )
         self.is_const = bool(header[2])
         # The signature and the contract, or None if they cannot be found.
-        self.head = self.head_of(text[header.start():self.end])
+        self.head = self.head_of(text[header.start() : self.end])
         self.cycle = (CYCLE.search(self.text) or {1: None})[1]
 
     @staticmethod
@@ -53,19 +61,25 @@ class Function:
         """Yields the functions of a file, those of an impl included."""
         for header in FUNCTION.finditer(text):
             function = Function(file, text, header)
-            outside = not function.margin or function.impl and text.find("\n}\n", function.impl.start()) > header.start()
+            outside = (
+                not function.margin or function.impl and text.find("\n}\n", function.impl.start()) > header.start()
+            )
             if len(function.margin) == (4 if function.impl else 0) and outside:
                 yield function
 
     def head_of(self, whole):
-        """Returns the text before the body, which begins at a lone brace after a contract, else at the end of the signature's line."""
-        line, contract = re.search(r"[{;]\n", whole), re.search(rf"(?m)^{self.margin}    (?:requires|ensures|ghost)\b", whole)
+        """Returns the text before the body, which begins at a lone brace after a contract, else at the end of the
+        signature's line."""
+        line, contract = re.search(r"[{;]\n", whole), re.search(
+            rf"(?m)^{self.margin}    (?:requires|ensures|ghost)\b", whole
+        )
         if contract and (not line or contract.start() < line.start()):
             line = re.search(rf"(?m)^{self.margin}\{{\n", whole)
-        return whole[:line.end()] if line and line[0] != ";\n" else None
+        return whole[: line.end()] if line and line[0] != ";\n" else None
 
     def owner(self):
-        """Returns the prover's name for the impl that it is in: the type, with a capital letter also if it is primitive, and the trait."""
+        """Returns the prover's name for the impl that it is in: the type, with a capital letter also if it is
+        primitive, and the trait."""
         return f"{self.impl[2][0].upper()}{self.impl[2][1:]}{(self.impl[1] or '').split('::')[-1]}"
 
     def qualified(self, name):
@@ -87,8 +101,12 @@ class Function:
     def is_cited(self, room):
         """Returns whether a proof other than its own cites its goals or the records of its steps."""
         own = self.folder(room, self.name)
-        others = (it for it in pathlib.Path(room, "proofs").rglob("*.antt") if own not in it.parents)
-        return any(it[1] == "proofs" for file in others for it in self.mentions().finditer(file.read_text(encoding="utf-8")))
+        others = (path for path in pathlib.Path(room, "proofs").rglob("*.antt") if own not in path.parents)
+        return any(
+            match[1] == "proofs"
+            for file in others
+            for match in self.mentions().finditer(file.read_text(encoding="utf-8"))
+        )
 
     def copy(self, room, text, name):
         """Adds a function of this name and text to the copy of the crate, with the proof of this one."""
@@ -103,10 +121,14 @@ class Function:
             shutil.copytree(self.folder(room, self.name), self.folder(room, name))
             for file in self.folder(room, name).glob("*.antt"):
                 dotted = ".".join([*self.path, name])
-                file.write_text(self.mentions().sub(lambda it: f"{it[1]}.{dotted}", file.read_text(encoding="utf-8")), encoding="utf-8")
+                file.write_text(
+                    self.mentions().sub(lambda match: f"{match[1]}.{dotted}", file.read_text(encoding="utf-8")),
+                    encoding="utf-8",
+                )
 
     def can_be_stub(self):
-        """Returns whether any body will do: not one that the compiler evaluates or infers a type from, and not `main`."""
+        """Returns whether any body will do: not one that the compiler evaluates or infers a type from, and not
+        `main`."""
         plain = self.head and self.text and not self.is_const and not re.search(r"->[^{]*\bimpl\b", self.head)
         return bool(plain) and (self.name, self.file) != ("main", "src/main.rt")
 
@@ -116,7 +138,9 @@ class Function:
         if parts:
             folder = pathlib.Path(room, "proofs", *parts)
             folder.mkdir(parents=True, exist_ok=True)
-            (folder / "Answers.antt").write_text(STUB_ANSWER.format(".".join([crate, "proofs", *parts])), encoding="utf-8")
+            (folder / "Answers.antt").write_text(
+                STUB_ANSWER.format(".".join([crate, "proofs", *parts])), encoding="utf-8"
+            )
 
     def proof_path(self):
         """Returns the folders of its proof, or None for a method of a trait with arguments."""
@@ -128,18 +152,19 @@ class Function:
 
     def stub(self):
         """Returns its text with a stub as its body, outside any cycle."""
-        whole = self.text[:self.text.index(self.head) + len(self.head)]
+        whole = self.text[: self.text.index(self.head) + len(self.head)]
         return f"{CYCLE.sub('', whole)}{self.margin}    {STUB}\n{self.margin}}}\n"
 
 
 def without_main(room, names):
-    """Removes `main` from the copy unless it is one of these: a crate without it is checked as a library, and nothing is linked."""
+    """Removes `main` from the copy unless it is one of these: a crate without it is checked as a library, and nothing
+    is linked."""
     path = pathlib.Path(room, "src", "main.rt")
     text = path.read_text(encoding="utf-8") if path.is_file() else ""
     header = re.search(r"(?m)^fn main\b", text)
     if header and "main" not in names:
         main = Function.at("src/main.rt", text, header.end())
-        path.write_text(text[:main.start] + text[main.end:], encoding="utf-8")
+        path.write_text(text[: main.start] + text[main.end :], encoding="utf-8")
 
 
 def remove_proof(folder):
@@ -154,53 +179,67 @@ IMPORT = re.compile(r"(?m)^( *(?:pub(?:\([^)]*\))? )?use (?:\w+::)*)(\w+|\{[^{}]
 
 def without(imported, removed):
     """Returns a line of imports without the removed names."""
-    names = [it.strip() for it in imported[2].strip("{}").split(",") if it.strip()]
-    left = [it for it in names if it not in removed]
+    names = [name.strip() for name in imported[2].strip("{}").split(",") if name.strip()]
+    left = [name for name in names if name not in removed]
     if left == names:
         return imported[0]
     return f"{imported[1]}{{{', '.join(left)}}};\n" if left else ""
 
 
 def without_functions(text, functions):
-    for function in sorted(functions, key=lambda it: -it.start):
-        text = text[:function.start] + text[function.end:]
+    for function in sorted(functions, key=lambda stub: -stub.start):
+        text = text[: function.start] + text[function.end :]
     return text
 
 
 def drop_unnamed(room, stubs):
-    """Removes stubs that only imports and contracts of other stubs name, since reading them takes time; returns the other stubs.
-    Names of modules and of trait methods stay."""
+    """Removes stubs that only imports and contracts of other stubs name, since reading them takes time; returns the
+    other stubs. Names of modules and of trait methods stay."""
     texts = {file: file.read_text(encoding="utf-8") for file in pathlib.Path(room, "src").rglob("*.rt")}
-    stubbed = {file: [it for it in Function.all_of(str(file.relative_to(room)), text) if STUB in it.text] for file, text in texts.items()}
+    stubbed = {
+        file: [function for function in Function.all_of(str(file.relative_to(room)), text) if STUB in function.text]
+        for file, text in texts.items()
+    }
     bodies = {file: without_functions(text, stubbed[file]) for file, text in texts.items()}
-    named = {it for text in bodies.values() for it in re.findall(r"\w+", IMPORT.sub("", text))}
-    named |= {it.stem for it in texts} | {it.parent.name for it in texts}
-    cited = "".join(it.read_text(encoding="utf-8") for it in pathlib.Path(room).rglob("*.antt"))
-    removed = [it for it in stubs if it.name not in named and not (it.impl and it.impl[1]) and not it.mentions().search(cited)]
-    names = {it.name for it in removed}
-    names -= {it.name for it in stubs if it not in removed}
+    named = {word for text in bodies.values() for word in re.findall(r"\w+", IMPORT.sub("", text))}
+    named |= {file.stem for file in texts} | {file.parent.name for file in texts}
+    cited = "".join(path.read_text(encoding="utf-8") for path in pathlib.Path(room).rglob("*.antt"))
+    removed = [
+        stub
+        for stub in stubs
+        if stub.name not in named and not (stub.impl and stub.impl[1]) and not stub.mentions().search(cited)
+    ]
+    names = {stub.name for stub in removed}
+    names -= {stub.name for stub in stubs if stub not in removed}
     for file, text in texts.items():
-        text = without_functions(text, [it for it in stubbed[file] if it.name in names])
-        file.write_text(IMPORT.sub(lambda it: without(it, names), text), encoding="utf-8")
-    return [it for it in stubs if it.name not in names]
+        text = without_functions(text, [function for function in stubbed[file] if function.name in names])
+        file.write_text(IMPORT.sub(lambda match: without(match, names), text), encoding="utf-8")
+    return [stub for stub in stubs if stub.name not in names]
 
 
 def stub_all_but(room, names, crate=None):
-    """Replaces all functions of the copy by stubs, except these (by the prover's names) and those of their cycles, and removes stubs
-    that nothing names."""
+    """Replaces all functions of the copy by stubs, except these (by the prover's names) and those of their cycles, and
+    removes stubs that nothing names."""
     texts = {file: file.read_text(encoding="utf-8") for file in pathlib.Path(room, "src").rglob("*.rt")}
     functions = {file: list(Function.all_of(str(file.relative_to(room)), text)) for file, text in texts.items()}
     every = [function for found in functions.values() for function in found]
-    stays = {id(it) for it in every if it.qualified(it.name) in names or not it.can_be_stub()}
+    stays = {
+        id(function) for function in every if function.qualified(function.name) in names or not function.can_be_stub()
+    }
     # A cycle consists of functions alone if each of its attributes was found at a function.
     cycles = {name for text in texts.values() for name in CYCLE.findall(text)}
     stubs = []
-    kept = {it.cycle for it in every if id(it) in stays} | {name for name in cycles if sum(it.cycle == name for it in every) != sum(CYCLE.findall(text).count(name) for text in texts.values())}
+    kept = {function.cycle for function in every if id(function) in stays} | {
+        name
+        for name in cycles
+        if sum(function.cycle == name for function in every)
+        != sum(CYCLE.findall(text).count(name) for text in texts.values())
+    }
     for file, found in functions.items():
         text = texts[file]
-        for function in sorted(found, key=lambda it: -it.start):
+        for function in sorted(found, key=lambda stub: -stub.start):
             if id(function) not in stays and (function.cycle is None or function.cycle not in kept):
-                text = text[:function.start] + function.stub() + text[function.end:]
+                text = text[: function.start] + function.stub() + text[function.end :]
                 remove_proof(function.folder(room, function.name))
                 stubs.append(function)
         file.write_text(text, encoding="utf-8")

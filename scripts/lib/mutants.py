@@ -1,10 +1,10 @@
 """Mutants of crates: how they are tried together in one check, and judged.
 
-A mutant is a file must-fail/NAME.edit with a line `file: src/FILE.rt` and pairs of lines `old: TEXT` and `new: TEXT`. It is
-rejected if the prover fails at a goal of the function that it changes: not because a callee is unproved, and not because a proof
-names something that the mutant removed. A mutant that changes only definitions (files in specs/) is tried by itself and is rejected
-if a goal or a lemma fails: in a check of the whole crate or, if it has a line `law: MODULE::FUNCTION`, of this theorem and the lemmas
-that its proof cites.
+A mutant is a file must-fail/NAME.edit with a line `file: src/FILE.rt` and pairs of lines `old: TEXT` and `new: TEXT`.
+It is rejected if the prover fails at a goal of the function that it changes: not because a callee is unproved, and not
+because a proof names something that the mutant removed. A mutant that changes only definitions (files in specs/) is
+tried by itself and is rejected if a goal or a lemma fails: in a check of the whole crate or, if it has a line `law:
+MODULE::FUNCTION`, of this theorem and the lemmas that its proof cites.
 """
 import os
 import pathlib
@@ -33,14 +33,15 @@ class Mutant:
 
     def __init__(self, crate, path):
         self.crate, self.path, self.name = crate, path, f"{crate.name}/{os.path.basename(path)}"
-        self.changes, self.functions, self.bad = [], set(), None
+        self.changes: list[tuple[str, str, str]] = []
+        self.functions: set[str] = set()
         # For each change inside a function, that function as it is in the crate.
         self.places = []
         # The goals that the mutant removed, as found by a check.
-        self.lost = set()
+        self.lost: set[str] = set()
         # For a mutant of definitions, the theorem that has to notice it, if it names one.
         self.law = None
-        texts, self.bad = RT.read_edit(path, crate.folder)
+        _, self.bad = RT.read_edit(path, crate.folder)
         if self.bad is None:
             self.read(open(path, encoding="utf-8").read())
             if not self.functions and not self.is_of_definitions():
@@ -50,13 +51,13 @@ class Mutant:
         file = old = ""
         for line in text.split("\n"):
             if line.startswith("file: "):
-                file = line[len("file: "):].strip()
+                file = line[len("file: ") :].strip()
             elif line.startswith("law: "):
-                self.law = line[len("law: "):].strip()
+                self.law = line[len("law: ") :].strip()
             elif line.startswith("old: "):
-                old = line[len("old: "):]
+                old = line[len("old: ") :]
             elif line.startswith("new:"):
-                self.changes.append((file, old, re.sub(r"\A ", "", line[len("new:"):])))
+                self.changes.append((file, old, re.sub(r"\A ", "", line[len("new:") :])))
                 whole = pathlib.Path(self.crate.folder, file).read_text(encoding="utf-8")
                 if file.startswith("src/") and not re.match(r"\s*(ghost )?use ", old) and old in whole:
                     function = Function.at(file, whole, whole.index(old) + len(old))
@@ -67,8 +68,9 @@ class Mutant:
         return all(file.startswith("specs/") for file, _, _ in self.changes)
 
     def apply(self, copy, taken):
-        """Applies the mutant to the copy of the crate; returns the functions that it changes there, or None if it does not fit next
-        to the mutants of the taken functions. A second mutant of a function changes a copy of it under another name."""
+        """Applies the mutant to the copy of the crate; returns the functions that it changes there, or None if it does
+        not fit next to the mutants of the taken functions. A second mutant of a function changes a copy of it under
+        another name."""
         if not self.functions & taken:
             return self.functions if self.changes_texts(copy) else None
         return self.apply_to_copy(copy)
@@ -84,13 +86,17 @@ class Mutant:
                 return None
             text = text.replace(old, new)
         whole = pathlib.Path(copy, function.file).read_text(encoding="utf-8")
-        name = next(it for it in (f"{function.name}_{number}" for number in range(2, 99)) if f"fn {it}(" not in whole and f"fn {it}<" not in whole)
+        name = next(
+            candidate
+            for candidate in (f"{function.name}_{number}" for number in range(2, 99))
+            if f"fn {candidate}(" not in whole and f"fn {candidate}<" not in whole
+        )
         function.copy(copy, text, name)
         return {function.qualified(name)}
 
     def changes_texts(self, copy):
         """Changes each text in the copy, if it still occurs exactly once there; returns whether it did."""
-        texts = {}
+        texts: dict[str, str] = {}
         for file, old, new in self.changes:
             text = texts.get(file) or pathlib.Path(copy, file).read_text(encoding="utf-8")
             if text.count(old) != 1:
@@ -113,23 +119,30 @@ def leave_out(copy, functions, goals):
 
 def lost_goals(output, functions):
     """Returns the goals that answers of these functions name and the prover does not find."""
-    return set(re.findall(LOST.format("|".join(re.escape(it.replace("::", "/")) for it in functions)), output))
+    return set(
+        re.findall(LOST.format("|".join(re.escape(function.replace("::", "/")) for function in functions)), output)
+    )
 
 
 def lines_about(output, functions):
-    """Returns what a check printed about these functions: the verdict line of each, and the errors in their own proofs."""
+    """Returns what a check printed about these functions: the verdict line of each, and the errors in their own
+    proofs."""
     lines = dict(re.findall(r"(?m)^fn \w+::(\S+): (.*)$", output))
-    words = [line for name, line in lines.items() if name in functions or any(name.endswith(f"::{it}") for it in functions)]
-    files = "|".join(re.escape(it.replace("::", "/")) for it in functions)
+    words = [
+        line
+        for name, line in lines.items()
+        if name in functions or any(name.endswith(f"::{function}") for function in functions)
+    ]
+    files = "|".join(re.escape(function.replace("::", "/")) for function in functions)
     errors = re.findall(rf"(?m)^(?:\./)?proofs/(?:\S*/)?(?:{files})/\S+: error:.*$", output)
     # The functions of a cycle have one proof; each goal begins with the name of its function.
     cycles = re.findall(r"(?m)^(?:\./)?proofs/(?:\S*/)?\+\w+/\S+: error:.*$", output)
-    return words, errors + [it for it in cycles if owns(functions, re.findall(r"error: `([^`]+)`", it))]
+    return words, errors + [error for error in cycles if owns(functions, re.findall(r"error: `([^`]+)`", error))]
 
 
 def owns(functions, goals):
     """Returns whether one of these goals of a cycle belongs to one of these functions."""
-    names = tuple(it.split("::")[-1] + "-" for it in functions)
+    names = tuple(function.split("::")[-1] + "-" for function in functions)
     return any(goal.split("::")[-1].startswith(names) for goal in goals)
 
 
@@ -148,7 +161,7 @@ def refusal(output, functions):
     for line in words:
         if is_refusal(line, functions):
             return line
-    own = [it for it in errors if not REMOVED.search(it)]
+    own = [error for error in errors if not REMOVED.search(error)]
     return own[0] if own and any(line.startswith("not proved") for line in words) else None
 
 
@@ -158,9 +171,11 @@ def unread(output, files):
 
 
 def applied(crate, mutants, copy):
-    """Applies the mutants that fit together to this copy of the crate; returns each of them with the functions that it changes."""
+    """Applies the mutants that fit together to this copy of the crate; returns each of them with the functions that it
+    changes."""
     prover.copy_of(crate.folder, copy)
-    fitting, taken = {}, set()
+    fitting: dict[Mutant, set[str]] = {}
+    taken: set[str] = set()
     for mutant in mutants:
         functions = mutant.apply(copy, taken)
         if functions:
@@ -171,7 +186,8 @@ def applied(crate, mutants, copy):
 
 
 def misread(crate, mutants):
-    """Returns the first error of the compiler or prover about files that it cannot read with these mutants, or None. Nothing is proved."""
+    """Returns the first error of the compiler or prover about files that it cannot read with these mutants, or None.
+    Nothing is proved."""
     with tempfile.TemporaryDirectory(prefix="mutants-") as copy:
         fitting = applied(crate, mutants, copy)
         _, _, output = prover.check(crate, copy, "--only", "")
@@ -180,13 +196,20 @@ def misread(crate, mutants):
 
 def spoiled(fitting, output):
     """Returns whether a check of these mutants says nothing, because one of them cannot be read."""
-    return unread(output, {file for mutant in fitting for file, _, _ in mutant.changes}) is not None and "\nfn " not in output
+    return (
+        unread(output, {file for mutant in fitting for file, _, _ in mutant.changes}) is not None
+        and "\nfn " not in output
+    )
 
 
 def unknown(fitting, output):
     """Returns the mutants that change a function whose name the prover does not know, each with a complaint."""
     names = set(UNKNOWN.findall(output))
-    return {mutant: f"the prover knows no function {', '.join(functions & names)}" for mutant, functions in fitting.items() if functions & names}
+    return {
+        mutant: f"the prover knows no function {', '.join(functions & names)}"
+        for mutant, functions in fitting.items()
+        if functions & names
+    }
 
 
 def misread_alone(crate, mutants):
@@ -201,8 +224,9 @@ def misread_alone(crate, mutants):
 
 
 def tried(crate, mutants, stubs):
-    """Applies the mutants that fit together to one copy and checks the functions that they change, over stubs for what these call or
-    over all of it. Returns each fitting mutant with its functions, the output of the check, and its processor seconds."""
+    """Applies the mutants that fit together to one copy and checks the functions that they change, over stubs for what
+    these call or over all of it. Returns each fitting mutant with its functions, the output of the check, and its
+    processor seconds."""
     with tempfile.TemporaryDirectory(prefix="mutants-") as copy:
         fitting = applied(crate, mutants, copy)
         taken = set().union(*fitting.values())
@@ -238,14 +262,14 @@ def judge_definitions(mutant, output):
         return ALL_PROVED
     goals = [line for line in re.findall(r"(?m)^fn \w+::\S+: (no proof.*)$", output) if "did not prove" in line]
     errors = re.findall(r"(?m)^(?:\./)?proofs/\S+: error:.*$", output)
-    if goals or any(not REMOVED.search(it) for it in errors):
+    if goals or any(not REMOVED.search(error) for error in errors):
         return None
     return f"no goal and no lemma fails for its meaning: {(errors or [output.strip()])[0][-200:]}"
 
 
 def try_definitions(crate, mutant):
-    """Checks the crate, or the theorem that the mutant names, with a mutant of its definitions; returns the complaint or None, and
-    processor seconds."""
+    """Checks the crate, or the theorem that the mutant names, with a mutant of its definitions; returns the complaint
+    or None, and processor seconds."""
     with tempfile.TemporaryDirectory(prefix="mutants-") as copy:
         prover.copy_of(crate.folder, copy)
         mutant.changes_texts(copy)
@@ -261,10 +285,11 @@ def has_lost(mutant, functions, output):
 
 
 def try_batch(crate, mutants):
-    """Tries a batch of mutants of a crate; returns a complaint for each (or None), the number of checks, and processor seconds. Mutants
-    that do not fit together, or that remove goals with answers, are tried in further checks; those that are neither rejected nor proved
-    over stubs are tried again over everything they call, then without the rejected ones, and finally alone. One that cannot be read
-    or whose function is unknown, so that the check of all says nothing, is left out."""
+    """Tries a batch of mutants of a crate; returns a complaint for each (or None), the number of checks, and processor
+    seconds. Mutants that do not fit together, or that remove goals with answers, are tried in further checks; those
+    that are neither rejected nor proved over stubs are tried again over everything they call, then without the rejected
+    ones, and finally alone. One that cannot be read or whose function is unknown, so that the check of all says
+    nothing, is left out."""
     verdicts, checks, total = {}, 0, 0
     for mutant in filter(Mutant.is_of_definitions, mutants):
         verdicts[mutant], seconds = try_definitions(crate, mutant)
@@ -283,12 +308,18 @@ def try_batch(crate, mutants):
             together = [mutant for mutant in together if mutant not in spoilers]
             waiting += [(together, True)] if together else []
             continue
-        verdicts.update({mutant: judge(mutant, fitting[mutant], output) if mutant in fitting else "again" for mutant in together})
+        verdicts.update(
+            {mutant: judge(mutant, fitting[mutant], output) if mutant in fitting else "again" for mutant in together}
+        )
         left = [mutant for mutant in together if verdicts[mutant] not in (None, STILL_PROVED)]
         checks, total = checks + 1, total + seconds
         if stubs:
             again = [mutant for mutant in left if mutant not in fitting or has_lost(mutant, fitting[mutant], output)]
-            waiting += [(part, over) for part, over in ((again, bool(fitting)), ([mutant for mutant in left if mutant not in again], False)) if part]
+            waiting += [
+                (part, over)
+                for part, over in ((again, bool(fitting)), ([mutant for mutant in left if mutant not in again], False))
+                if part
+            ]
         elif len(left) < len(together):
             waiting += [(left, False)] if left else []
         elif len(together) > 1:

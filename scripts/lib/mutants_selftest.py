@@ -265,7 +265,7 @@ def is_work_counted():
 def wrong_verdicts(complaints):
     """Yields the mutants that got another verdict than expected."""
     for name, want in EXPECTED.items():
-        found = next((it.split(": ", 1)[1] for it in complaints if f"/{name}: " in it), None)
+        found = next((complaint.split(": ", 1)[1] for complaint in complaints if f"/{name}: " in complaint), None)
         if (want is None) != (found is None) or want and want not in found:
             yield f"{name}: wanted {want}, got {found}"
 
@@ -275,7 +275,9 @@ def wrong_judgements(crate):
     mutants, _ = mutants_of(crate, crate)
     pair = [mutant for mutant in mutants if os.path.basename(mutant.path) in ("none_more.edit", "nothing_changed.edit")]
     _, output, _ = tried(crate, pair, False)
-    if [mutant.name for mutant in pair if refusal(output, mutant.functions)] != ["sample/none_more.edit"] or "which is not proved" not in output:
+    if [mutant.name for mutant in pair if refusal(output, mutant.functions)] != [
+        "sample/none_more.edit"
+    ] or "which is not proved" not in output:
         yield "a mutant next to a broken callee was counted as rejected"
     pair[0].functions = {"nowhere"}
     _, output, _ = tried(crate, pair, False)
@@ -289,7 +291,12 @@ def wrong_ends(crate, folder):
     for code in ("print('rt: garbled proved'); raise SystemExit(3)", went_on):
         failing = Proving([sys.executable, "-c", code], folder, io.StringIO())
         status = failing.wait()
-        if not status or not failing.has_failed() or "sample" in failing.proved or list(in_turn([(crate, [])], failing, 1)):
+        if (
+            not status
+            or not failing.has_failed()
+            or "sample" in failing.proved
+            or list(in_turn([(crate, [])], failing, 1))
+        ):
             yield "a failure of the proofs was not reported, or more was tried after it"
     prover.Checks.are_over.clear()
 
@@ -314,9 +321,15 @@ def self_test():
         # The reports of these runs are full of complaints, as they should be.
         with contextlib.redirect_stdout(io.StringIO()):
             wrong = wrong_in(folder)
-    if [it for part in parts(list(range(101)), 25) for it in part] != list(range(101)) or max(map(len, parts(list(range(101)), 25))) > 25:
+    if [item for part in parts(list(range(101)), 25) for item in part] != list(range(101)) or max(
+        map(len, parts(list(range(101)), 25))
+    ) > 25:
         wrong.append("parts of a list are not the list, or too large")
     if not is_work_counted():
         wrong.append("of a busy and a waiting process, not exactly one was counted")
-    print("\n".join(wrong) or f"self-test: the {len(EXPECTED)} mutants are judged as expected, a broken callee is no reason, and changed crates are stale")
+    print(
+        "\n".join(wrong)
+        or f"self-test: the {len(EXPECTED)} mutants are judged as expected, a broken callee is no reason, and changed "
+        "crates are stale"
+    )
     return 1 if wrong else 0

@@ -8,7 +8,8 @@ def all_of_them():
     for name in filter(str.isdigit, os.listdir("/proc")):
         try:
             with open(f"/proc/{name}/stat", encoding="utf-8", errors="replace") as stat:
-                # After the command's name in parentheses: state, parent, and as 12th to 15th field the times, its own and its children's.
+                # After the command's name in parentheses: state, parent, and as 12th to 15th field the times, its own
+                # and its children's.
                 fields = stat.read().rpartition(")")[2].split()
         except OSError:
             # It has ended.
@@ -19,7 +20,8 @@ def all_of_them():
 
 def started_by(pid):
     """Returns a process and all that it started, with the processor seconds of each and of its ended children."""
-    children, seconds = {}, {}
+    children: dict[int, list[int]] = {}
+    seconds = {}
     for number, above, own, ended in all_of_them():
         children.setdefault(above, []).append(number)
         seconds[number] = own + ended

@@ -1,22 +1,20 @@
-"""The toolchain for scripts/build, scripts/check_mutants, scripts/costs and scripts/answers: a check of one crate over the libraries
-below it, with its processor time; the build of a crate; and how many checks the machine can run side by side.
+"""The toolchain for scripts/build, scripts/check_mutants, scripts/costs and scripts/answers: a check of one crate over
+the libraries below it, with its processor time; the build of a crate; and how many checks the machine can run side by
+side.
 
-As a program: `prover.py CRATE JOBS` builds a crate over libraries that are built, for scripts/build."""
+As a program: `-m lib.prover CRATE JOBS` builds a crate over libraries that are built, for scripts/build."""
 import importlib.machinery
 import importlib.util
 import os
 import pathlib
-import resource
 import shutil
 import subprocess
 import sys
 import tempfile
 import threading
 
-sys.dont_write_bytecode = True
-TOP = pathlib.Path(__file__).resolve().parent.parent.parent
-sys.path.insert(0, str(TOP / "scripts"))
-from lib import processes  # noqa: E402
+from lib import processes
+from lib.command import TOP
 
 
 def toolchain():
@@ -69,7 +67,8 @@ class Stopped(Exception):
 class Checks:
     """The running checks, which end together when the run fails."""
 
-    running, are_over = set(), threading.Event()
+    running: set[int] = set()
+    are_over = threading.Event()
 
     @classmethod
     def stop(cls):
@@ -95,14 +94,10 @@ def check(crate, folder, *more):
         return running.returncode, usage.ru_utime + usage.ru_stime, output.read()
 
 
-def processor_seconds():
-    used = [resource.getrusage(who) for who in (resource.RUSAGE_SELF, resource.RUSAGE_CHILDREN)]
-    return sum(it.ru_utime + it.ru_stime for it in used)
-
-
 def build(name, jobs):
-    """Does what `rt lib` does in the crate's folder (for a program `rt run`), over libraries that are built, and without a lock,
-    because crates share libraries and each `rt lib` would lock the others out. The caller holds the locks of all crates."""
+    """Does what `rt lib` does in the crate's folder (for a program `rt run`), over libraries that are built, and
+    without a lock, because crates share libraries and each `rt lib` would lock the others out. The caller holds the
+    locks of all crates."""
     RT.rtlib.Crate.cuts_libraries = False
     crate = crates_of(TOP)[name]
     os.chdir(crate.folder)

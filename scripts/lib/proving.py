@@ -12,14 +12,14 @@ from lib import processes
 PROVED = re.compile(r"rt: (\w+) (?:proved$|is kept: )")
 # The line that it prints after a failed proof or test, before it goes on with other crates.
 FAILED = re.compile(r"rt: .*\b(NOT PROVED|FAILED)\b")
-# Seconds of processor time that a check has used soon after it began. The shell that `rt` keeps next to its checks waits and
-# uses none.
+# Seconds of processor time that a check has used soon after it began. The shell that `rt` keeps next to its checks
+# waits and uses none.
 SPENT = 0.1
 
 
 class Proving:
-    """`rt ci` running in a folder. A crate gets the processors that no other crate waits for, because most crates are on one path.
-    It is stopped at its first failure."""
+    """`rt ci` running in a folder. A crate gets the processors that no other crate waits for, because most crates are
+    on one path. It is stopped at its first failure."""
 
     def __init__(self, command, folder, out=sys.stdout):
         self.out = out
@@ -27,7 +27,13 @@ class Proving:
         self.status, self.seconds = None, 0.0
         self.proved, self.failure = set(), None
         self.running = subprocess.Popen(
-            command, cwd=folder, stdin=subprocess.DEVNULL, stdout=subprocess.PIPE, stderr=subprocess.STDOUT, text=True, errors="replace",
+            command,
+            cwd=folder,
+            stdin=subprocess.DEVNULL,
+            stdout=subprocess.PIPE,
+            stderr=subprocess.STDOUT,
+            text=True,
+            errors="replace",
         )
         self.following = threading.Thread(target=self.follow)
         self.following.start()
@@ -64,7 +70,8 @@ class Proving:
         return self.status == 0 or bool(self.proved) and all(below.name in self.proved for below in crate.below())
 
     def checks(self):
-        """Returns the number of its running checks: the greater of two samples, since there is a pause between checks."""
+        """Returns the number of its running checks: the greater of two samples, since there is a pause between
+        checks."""
         looks = [at_work(self.running.pid)]
         if self.status is None:
             time.sleep(2)

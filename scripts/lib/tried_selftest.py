@@ -1,15 +1,18 @@
-"""The self-test of lib/tried.py: which changes make a crate stale, that the parts are all mutants, and that a survivor in one is found."""
+"""The self-test of lib/tried.py: which changes make a crate stale, that the parts are all mutants, and that a survivor
+in one is found."""
 import pathlib
 import sys
 
 from lib import prover, tried
-from lib.mutant_runs import in_order, record_rejected, Report, run_chosen
+from lib.mutant_runs import Report, in_order, record_rejected, run_chosen
 from lib.proving import Proving
 
 TOOLCHAIN = "logic"
 # A crate's file, and what a change of it is called.
 CHANGES = {
-    "src/lib.rt": "a changed source", "specs/Doubles.antt": "a changed definition", "proofs/New.antt": "a new proof",
+    "src/lib.rt": "a changed source",
+    "specs/Doubles.antt": "a changed definition",
+    "proofs/New.antt": "a new proof",
     "must-fail/new.edit": "a new mutant",
 }
 
@@ -43,22 +46,25 @@ def wrong_choices(top):
     if len(choice(folder, count - 1, record)) != count - 1:
         yield "a removed mutant does not make the crate stale"
     removed.write_text(text, encoding="utf-8")
-    if len(choice(folder, count, {"defined": true_line._replace(count=count - 1)})) != count:
+    if len(choice(folder, count, {"defined": true_line._replace(number=count - 1)})) != count:
         yield "a record with a wrong number does not make the crate stale"
     if len(choice(folder, count, record, "another")) != count or len(choice(folder, count, {})) != count:
         yield "another toolchain, or a crate that is not in the record, does not make it stale"
     parts = {number: part for part, number in (tried.part_of(list(range(count)), str(commit)) for commit in range(200))}
-    if sorted(it for part in parts.values() for it in part) != list(range(count)) or len(parts) != tried.PARTS:
+    if sorted(number for part in parts.values() for number in part) != list(range(count)) or len(parts) != tried.PARTS:
         yield "the parts do not hold each mutant once"
 
 
 def wrong_samples(by_crate, crates):
-    """Yields what is wrong with a run that takes a part of an unchanged crate's mutants, one of which the prover does not reject."""
+    """Yields what is wrong with a run that takes a part of an unchanged crate's mutants, one of which the prover does
+    not reject."""
     name = "sample"
     mutants, folders = {name: by_crate[name]}, {name: crates[name].folder}
     record = {name: tried.Tried(tried.checksum(folders[name]), len(by_crate[name]), TOOLCHAIN, "2026-01-01")}
-    survivor = next(it for it in by_crate[name] if it.name == "sample/nothing_changed.edit")
-    commit = next(it for it in map(str, range(999)) if survivor in tried.part_of(in_order(by_crate[name]), it)[0])
+    survivor = next(mutant for mutant in by_crate[name] if mutant.name == "sample/nothing_changed.edit")
+    commit = next(
+        number for number in map(str, range(999)) if survivor in tried.part_of(in_order(by_crate[name]), number)[0]
+    )
     chosen = tried.select({name: in_order(by_crate[name])}, folders, commit, record, TOOLCHAIN).mutants
     proving, report = Proving([sys.executable, "-c", ""], crates[name].folder), Report()
     proving.wait()

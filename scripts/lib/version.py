@@ -1,8 +1,8 @@
 """The version and the licence of netflow.
 
-The version is that of the newest release in CHANGELOG.md. A commit after that release has the version `1.2.3+12.gabc1234`: 12
-commits later, and the abbreviated hash of the commit. The release itself is the commit with the tag `v1.2.3`; without a tag, the
-commit that gave CHANGELOG.md the heading of the release.
+The version is that of the newest release in CHANGELOG.md. A commit after that release has the version
+`1.2.3+12.gabc1234`: 12 commits later, and the abbreviated hash of the commit. The release itself is the commit with the
+tag `v1.2.3`; without a tag, the commit that gave CHANGELOG.md the heading of the release.
 """
 import json
 import re
@@ -26,7 +26,8 @@ COPIES = {
 
 
 def newest_release():
-    """Returns the number and the date of the newest release; fails if CHANGELOG.md has no heading `## [1.2.3] - 2026-01-31`."""
+    """Returns the number and the date of the newest release; fails if CHANGELOG.md has no heading `## [1.2.3] -
+    2026-01-31`."""
     found = RELEASE.search((TOP / "CHANGELOG.md").read_text(encoding="utf-8"))
     if not found:
         raise SystemExit("CHANGELOG.md: no heading of the form '## [1.2.3] - 2026-01-31'")
@@ -56,7 +57,8 @@ def release_commit(number):
 
 
 def version_of_commit():
-    """Returns the version of the commit that is checked out: `1.2.3` for the release itself, `1.2.3+12.gabc1234` for a later commit."""
+    """Returns the version of the commit that is checked out: `1.2.3` for the release itself, `1.2.3+12.gabc1234` for a
+    later commit."""
     number = version()
     count = int(git("rev-list", "--count", f"{release_commit(number)}..HEAD"))
     return f"{number}+{count}.g{git('rev-parse', '--short=7', 'HEAD')}" if count else number

@@ -1,15 +1,12 @@
 """The part of a release that runs in a browser, in node and from C: the files that scripts/web makes."""
 import shutil
 import subprocess
-import sys
 
 from lib.command import TOP
-
-sys.path.insert(1, str(TOP / "web"))
-from build import outputs  # noqa: E402
+from web.build import outputs
 
 # The second module is for comparison, and is not shipped.
-SHIPPED = [it for it in outputs.FILES if it != outputs.WASM64]
+SHIPPED = [name for name in outputs.FILES if name != outputs.WASM64]
 
 
 def write(folder):

@@ -21,7 +21,7 @@ def number_of(text):
 
 def after(line, prefix):
     wanted(line.startswith(prefix), f"{line!r}: the line should begin with {prefix!r}")
-    return number_of(line[len(prefix):])
+    return number_of(line[len(prefix) :])
 
 
 def plan_of(text, model):
@@ -36,7 +36,7 @@ def plan_of(text, model):
         line = next(lines, "")
         wanted(line == f"{decl.name} :=", f"{line!r}: the arcs of {decl.name} should begin here")
         for key in decl.keys:
-            plan.append(after(next(lines, ""), "".join(f"{shown(it)} " for it in key)))
+            plan.append(after(next(lines, ""), "".join(f"{shown(part)} " for part in key)))
         wanted(next(lines, "") == ";", f"the arcs of {decl.name} do not end with ';'")
     wanted(next(lines, None) is None, "lines after the last arc")
     return value, plan
@@ -61,7 +61,7 @@ def check_cut(text, model, form):
     wanted(lines[0] == "infeasible" and lines[-1] == "" and len(lines) > 2, "no cut")
     found = re.fullmatch(r"(over|under) (\S+) (\S+)", lines[1])
     wanted(found, f"{lines[1]!r} says no sums of a cut")
-    names = [f"node {reference(it)}" for it in model.instance.nodes] + ["outside"]
+    names = [f"node {reference(node)}" for node in model.instance.nodes] + ["outside"]
     places, last = set(), -1
     for line in lines[2:-1]:
         wanted(line in names and names.index(line) > last, f"{line!r} is no node, or not in its order")
@@ -70,12 +70,16 @@ def check_cut(text, model, form):
     supply, most, least = form.across(places)
     said, allowed = number_of(found[2]), number_of(found[3])
     wanted(said == supply, f"the set supplies {supply}, not {said}")
-    wanted(allowed == (most if found[1] == "over" else least), f"the arcs allow {most} at most and {least} at least, not {allowed}")
+    wanted(
+        allowed == (most if found[1] == "over" else least),
+        f"the arcs allow {most} at most and {least} at least, not {allowed}",
+    )
     wanted(supply > most if found[1] == "over" else supply < least, f"{lines[1]!r} shows nothing")
 
 
 def check_solve(call, model, best, form, words):
-    """Checks the answer of `solve`. `best` is the correct value, or None if there is no plan; `words` choose the form of the problem."""
+    """Checks the answer of `solve`. `best` is the correct value, or None if there is no plan; `words` choose the form
+    of the problem."""
     status, text, stderr = call(["solve", "model.mod", "model.dat", *model.words(), *words])
     wanted(status in (0, 2) and not stderr, f"solve: status {status}: {stderr.strip()}")
     said = "no plan" if best is None else best
@@ -88,7 +92,8 @@ def check_solve(call, model, best, form, words):
 
 
 def check_compile(call, model, best, form, words, keep):
-    """The text is the model's problem in this form, line by line; and what `min` finds of it leads to the same value."""
+    """The text is the model's problem in this form, line by line; and what `min` finds of it leads to the same
+    value."""
     status, text, stderr = call(["compile", "model.mod", "model.dat", *model.words(), *words])
     wanted(status == 0 and not stderr, f"compile: status {status}: {stderr.strip()}")
     keep("model.min", text)

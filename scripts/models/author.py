@@ -1,9 +1,33 @@
 """Random expressions over what is declared so far."""
 from models.expressions import (
-    Binary, Choice, Dummy, Fault, Joined, Member, Negated, Not, ParamRef, Parens, Reduced, Relation, every_dummy,
+    Binary,
+    Choice,
+    Dummy,
+    Fault,
+    Joined,
+    Member,
+    Negated,
+    Not,
+    ParamRef,
+    Parens,
+    Reduced,
+    Relation,
+    every_dummy,
 )
 from models.sets import (
-    Braces, Comprehension, Item, Literal, Membership, Range, SetBinary, SetChoice, SetParens, SetRef, Tuple, Within,
+    Braces,
+    Comprehension,
+    Item,
+    Literal,
+    Membership,
+    Range,
+    SetBinary,
+    SetChoice,
+    SetExpr,
+    SetParens,
+    SetRef,
+    Tuple,
+    Within,
 )
 
 DUMMIES = "i j k l m n p q s t u v".split() + ["from_city", "day", "P", "T", "_x", "a1"]
@@ -22,9 +46,9 @@ class Author:
 
     def dummy_names(self, count, scope):
         """Makes names that mean nothing yet in the scope."""
-        taken = self.names | {it.name for it in scope}
-        free = [it for it in DUMMIES if it not in taken]
-        free += [f"z{it}" for it in range(40) if f"z{it}" not in taken][: max(0, count - len(free))]
+        taken = self.names | {dummy.name for dummy in scope}
+        free = [name for name in DUMMIES if name not in taken]
+        free += [f"z{number}" for number in range(40) if f"z{number}" not in taken][: max(0, count - len(free))]
         return self.rng.sample(free, count)
 
     def dummy_name(self, scope):
@@ -34,8 +58,8 @@ class Author:
 
     def subscript(self, scope, kind, domain):
         """Makes a subscript, usually a member of the domain; None if nothing fits."""
-        fitting = [it for it in scope if it.domain == domain and it.kind == kind]
-        numbers = [it for it in fitting if it.kind == "number"]
+        fitting = [dummy for dummy in scope if dummy.domain == domain and dummy.kind == kind]
+        numbers = [dummy for dummy in fitting if dummy.kind == "number"]
         if numbers and self.chance(0.12):
             return Binary(self.rng.choice("+-"), self.rng.choice(numbers), Member(1))
         if fitting and self.chance(0.06):
@@ -43,7 +67,11 @@ class Author:
             return other and Choice(self.condition(scope, 0), other, self.rng.choice(fitting))
         if fitting and self.chance(0.9):
             return self.rng.choice(fitting)
-        named = [it for it in self.params if it.ready and it.kind == "name" and it.domain == domain and not it.braces]
+        named = [
+            param
+            for param in self.params
+            if param.ready and param.kind == "name" and param.domain == domain and not param.braces
+        ]
         if named and self.chance(0.5):
             return ParamRef(self.rng.choice(named), [])
         if self.domains.get(domain):
@@ -54,11 +82,11 @@ class Author:
         return Member(member, self.rng.choice("'\""))
 
     def param(self, scope, kind="number"):
-        fitting = [it for it in self.params if it.ready and it.kind == kind]
+        fitting = [candidate for candidate in self.params if candidate.ready and candidate.kind == kind]
         self.rng.shuffle(fitting)
         for param in fitting[:3]:
             key = param.braces.key() if param.braces else []
-            parts = [self.subscript(scope, it.kind, it.domain) for it in key]
+            parts = [self.subscript(scope, part.kind, part.domain) for part in key]
             if None not in parts:
                 return ParamRef(param, parts)
         return None
@@ -66,7 +94,7 @@ class Author:
     # Numbers
 
     def leaf(self, scope):
-        numbers = [it for it in scope if it.kind == "number"]
+        numbers = [dummy for dummy in scope if dummy.kind == "number"]
         if numbers and self.chance(0.3):
             return self.rng.choice(numbers)
         found = self.param(scope) if self.chance(0.7) else None
@@ -75,7 +103,9 @@ class Author:
     def number(self, scope, depth=2):
         if depth <= 0 or self.chance(0.3):
             return self.leaf(scope)
-        kind = self.rng.choices(["sum", "product", "div", "reduced", "choice", "sign", "parens"], [6, 3, 2, 4, 2, 1, 1])[0]
+        kind = self.rng.choices(
+            ["sum", "product", "div", "reduced", "choice", "sign", "parens"], [6, 3, 2, 4, 2, 1, 1]
+        )[0]
         if kind == "sum":
             return Binary(self.rng.choice("++-"), self.number(scope, depth - 1), self.number(scope, depth - 1))
         if kind == "product":
@@ -99,9 +129,13 @@ class Author:
     # Conditions
 
     def condition(self, scope, depth=2):
-        kind = self.rng.choices(["compare", "same", "member", "joined", "not", "within"], [4, 4, 4, 2 * depth, depth, 1])[0]
+        kind = self.rng.choices(
+            ["compare", "same", "member", "joined", "not", "within"], [4, 4, 4, 2 * depth, depth, 1]
+        )[0]
         if kind == "joined":
-            return Joined(self.rng.choice(["and", "or"]), self.condition(scope, depth - 1), self.condition(scope, depth - 1))
+            return Joined(
+                self.rng.choice(["and", "or"]), self.condition(scope, depth - 1), self.condition(scope, depth - 1)
+            )
         if kind == "not":
             return Not(self.condition(scope, depth - 1))
         if kind == "within":
@@ -121,7 +155,7 @@ class Author:
         if not scope:
             return None
         left = self.rng.choice(scope)
-        others = [it for it in scope if it is not left and it.domain == left.domain]
+        others = [dummy for dummy in scope if dummy is not left and dummy.domain == left.domain]
         right = self.rng.choice(others) if others else self.subscript([], left.kind, left.domain)
         operator = self.rng.choice(["=", "<>", "<>", "<>"])
         return right and Relation(operator, left, right, self.rng.choice(SPELLED[operator]))
@@ -136,7 +170,7 @@ class Author:
     # Sets and braces
 
     def declared_set(self, dimen):
-        fitting = [it for it in self.sets if it.dimen == dimen]
+        fitting = [decl for decl in self.sets if decl.dimen == dimen]
         return SetRef(self.rng.choice(fitting)) if fitting else None
 
     def range(self, scope):
@@ -150,23 +184,28 @@ class Author:
         if model is None or not model.declared.rows:
             return None
         rows = [self.rng.choice(model.declared.rows) for _ in range(self.rng.randint(1, 3))]
-        items = [[self.member(it) for it in row] for row in rows]
+        items = [[self.member(component) for component in row] for row in rows]
         if dimen == 1 and model.kinds[0] == "number" and self.chance(0.5):
             items.append([self.number(scope, 1)])
-        return Literal([Tuple(it) if dimen > 1 else it[0] for it in items], model.kinds, model.domains)
+        return Literal([Tuple(item) if dimen > 1 else item[0] for item in items], model.kinds, model.domains)
 
     def set_of(self, scope, depth, dimen):
         """A set of this dimension; declared ones most of all."""
-        kind = self.rng.choices(["declared", "range", "literal", "binary", "cross", "braces", "parens", "choice"],
-                                [8, 2 * (dimen == 1), 1, 2 * depth, 2 * (dimen == 2), depth, 0.5 * depth, 0.3 * depth])[0]
+        kind = self.rng.choices(
+            ["declared", "range", "literal", "binary", "cross", "braces", "parens", "choice"],
+            [8, 2 * (dimen == 1), 1, 2 * depth, 2 * (dimen == 2), depth, 0.5 * depth, 0.3 * depth],
+        )[0]
         made = None
         if kind == "range":
             made = self.range(scope)
         elif kind == "literal":
             made = self.literal(scope, dimen)
         elif kind == "binary":
-            made = SetBinary(self.rng.choice(["union", "diff", "symdiff", "inter"]), self.set_of(scope, depth - 1, dimen),
-                             self.set_of(scope, depth - 1, dimen))
+            made = SetBinary(
+                self.rng.choice(["union", "diff", "symdiff", "inter"]),
+                self.set_of(scope, depth - 1, dimen),
+                self.set_of(scope, depth - 1, dimen),
+            )
         elif kind == "cross":
             made = SetBinary("cross", self.set_of(scope, depth - 1, 1), self.set_of(scope, depth - 1, 1))
         elif kind == "braces":
@@ -179,7 +218,7 @@ class Author:
 
     def plain(self, dimen):
         """A set that needs no declaration."""
-        made = Range(Member(1), Member(3))
+        made: SetExpr = Range(Member(1), Member(3))
         for _ in range(dimen - 1):
             made = SetBinary("cross", made, Range(Member(1), Member(2)))
         return made
@@ -187,14 +226,15 @@ class Author:
     def set_braces(self, scope, depth, dimen):
         items, inside, every = [], list(scope), [self.set_of(scope, depth, 1) for _ in range(dimen)]
         for place, members in enumerate(every):
-            later = [it for following in every[place + 1:] for it in every_dummy(following)]
+            later = [name for following in every[place + 1 :] for name in every_dummy(following)]
             items.append(self.item(inside + later, members, fresh=True))
             inside += items[-1].new
         return Comprehension(Braces(items, self.condition(inside, 1) if self.chance(0.7) else None))
 
     def item(self, scope, members, fresh=False):
         """`pattern in members`; a component may be a dummy of before, which selects, unless all have to be fresh."""
-        pattern, new = [], []
+        pattern: list = []
+        new: list[Dummy] = []
         for kind, domain in zip(members.kinds, members.domains):
             selects = None
             if not fresh and self.chance(0.35 if members.dimen > 1 else 0.04):
@@ -208,7 +248,7 @@ class Author:
 
     def selecting(self, scope, kind, domain, is_tuple):
         """Makes a component that is not a new dummy, or None: an earlier dummy, a number next to it, or a member."""
-        old = [it for it in scope if it.domain == domain and it.kind == kind]
+        old = [dummy for dummy in scope if dummy.domain == domain and dummy.kind == kind]
         if old and kind == "number" and self.chance(0.15):
             return Binary(self.rng.choice("+-"), self.rng.choice(old), Member(1))
         if old and self.chance(0.9):

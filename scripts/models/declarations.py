@@ -13,7 +13,7 @@ def in_order(rng, phrases):
     """Phrases in any order, with commas or without."""
     phrases = list(phrases)
     rng.shuffle(phrases)
-    return "".join(rng.choice([" ", " ", ", ", ",\n    "]) + it for it in phrases)
+    return "".join(rng.choice([" ", " ", ", ", ",\n    "]) + phrase for phrase in phrases)
 
 
 class SetDecl(Declared):
@@ -26,7 +26,7 @@ class SetDecl(Declared):
     def finish(self, rng):
         is_explicit = self.made is None and not self.within and self.dimen > 1
         phrases = [f"dimen {self.dimen}"] if is_explicit or rng.random() < 0.2 else []
-        phrases += [f"within {it.at(SET)}" for it in self.within]
+        phrases += [f"within {outer.at(SET)}" for outer in self.within]
         phrases += [f":= {self.made.at(VALUE)}"] if self.made else []
         self.phrases = in_order(rng, phrases)
         return self
@@ -35,7 +35,7 @@ class SetDecl(Declared):
         return f"set {self.name}{self.phrases};"
 
     def twin(self):
-        within = "".join(f" within {it.twin()}" for it in self.within)
+        within = "".join(f" within {outer.twin()}" for outer in self.within)
         return f"set {self.name} dimen {self.dimen}{within}" + (f" := {self.made.twin()};" if self.made else ";")
 
 
@@ -131,7 +131,7 @@ class NetCondition:
 
     def range(self, env):
         """Returns the least and the greatest net inflow; None for a missing side."""
-        low, high = (None if it is None else it - self.base(env) for it in self.middle_range(env))
+        low, high = (None if bound is None else bound - self.base(env) for bound in self.middle_range(env))
         if self.sign() == 1:
             return low, high
         return None if high is None else -high, None if low is None else -low
@@ -165,13 +165,19 @@ class NodeDecl(Declared):
 
     def twin(self, arcs):
         """With all arcs whose ends are here, wherever their subscripts agree."""
-        own = [it.twin() for it in self.braces.key()] if self.braces else []
+        own = [dummy.twin() for dummy in self.braces.key()] if self.braces else []
         parts = []
         for arc in arcs:
             for sign, end in (("+", arc.end["to"]), ("-", arc.end["from"])):
                 if end and end[0] is self:
-                    same = [f"({name} = {it.twin()})" for name, it in zip(own, end[1])]
-                    front = f"sum{arc.braces.twin(*same)} " if arc.braces else f"if {' and '.join(same)} then " if same else ""
+                    same = [f"({name} = {subscript.twin()})" for name, subscript in zip(own, end[1])]
+                    front = (
+                        f"sum{arc.braces.twin(*same)} "
+                        if arc.braces
+                        else f"if {' and '.join(same)} then "
+                        if same
+                        else ""
+                    )
                     parts.append(f"{sign} ({front}{arc.variable()})")
         inflow = f"(0 {' '.join(parts)})"
         said = self.condition.twin(inflow) if self.condition else f"{inflow} = 0"
@@ -183,7 +189,8 @@ class ArcDecl(Declared):
     """`end` has, for from and to, None or (node declaration, subscripts); `prices` are (objective, expression)."""
 
     def __init__(self, name, braces, ends, bounds):
-        self.name, self.braces, self.end, self.low, self.high = name, braces, ends, *bounds
+        self.name, self.braces, self.end = name, braces, ends
+        self.low, self.high = bounds
         self.steps = braces.walk({}) if braces else [((), {})]
         self.keys, self.prices, self.phrases = [key for key, _ in self.steps], [], ""
 
@@ -191,7 +198,7 @@ class ArcDecl(Declared):
         phrases = [f">= {self.low.at(SUM)}", f"<= {self.high.at(SUM)}"]
         for word, end in self.end.items():
             if end:
-                inside = ",".join(it.at(SUM) for it in end[1])
+                inside = ",".join(subscript.at(SUM) for subscript in end[1])
                 phrases.append(f"{word} {end[0].name}" + (f"[{inside}]" if end[1] else ""))
         phrases += [f"obj {objective.name} {price.at(SUM)}" for objective, price in self.prices]
         self.phrases = in_order(rng, phrases + (["integer"] if rng.random() < 0.1 else []))
@@ -201,7 +208,9 @@ class ArcDecl(Declared):
         return f"arc {self.name}{' ' + self.braces.text() if self.braces else ''}{self.phrases};"
 
     def variable(self):
-        return f"{self.name}[{','.join(it.twin() for it in self.braces.key()) or 1}]" if self.braces else self.name
+        return (
+            f"{self.name}[{','.join(dummy.twin() for dummy in self.braces.key()) or 1}]" if self.braces else self.name
+        )
 
     def twin(self):
         made, domain = self.braces.keys_twin(self.name) if self.braces else ("", "")
@@ -220,6 +229,10 @@ class Objective(Declared):
     def twin(self, arcs):
         if self.expression:
             return f"{self.sense} {self.name}: {self.expression.twin()};"
-        parts = [(f"sum{arc.braces.twin()} " if arc.braces else "") + f"({price.twin()} * {arc.variable()})"
-                 for arc in arcs for objective, price in arc.prices if objective is self]
-        return f"{self.sense} {self.name}: 0 {''.join(f'+ ({it})' for it in parts)};"
+        parts = [
+            (f"sum{arc.braces.twin()} " if arc.braces else "") + f"({price.twin()} * {arc.variable()})"
+            for arc in arcs
+            for objective, price in arc.prices
+            if objective is self
+        ]
+        return f"{self.sense} {self.name}: 0 {''.join(f'+ ({part})' for part in parts)};"

@@ -14,6 +14,12 @@ class Expr:
 
     level = PRIMARY
 
+    def text(self):
+        raise NotImplementedError
+
+    def twin(self):
+        raise NotImplementedError
+
     def ends_open(self):
         """Returns whether a following product would become part of it."""
         return False
@@ -154,9 +160,10 @@ class Reduced(Expr):
 
     def value(self, env):
         values = [self.inner.value(each) for _, each in self.braces.walk(env)]
-        if any(isinstance(it, str) for it in values) or (self.word != "sum" and not values):
+        if any(isinstance(value, str) for value in values) or (self.word != "sum" and not values):
             raise Fault(self.word)
-        return {"sum": sum, "min": min, "max": max}[self.word](values)
+        operators: dict = {"sum": sum, "min": min, "max": max}
+        return operators[self.word](values)
 
     def text(self):
         return f"{self.word} {self.braces.text()} {self.inner.at(PRODUCT)}"
@@ -190,8 +197,12 @@ class Choice(Expr):
 class Relation(Expr):
     level = RELATION
     TESTS = {
-        "=": lambda a, b: a == b, "<>": lambda a, b: a != b, "<": lambda a, b: a < b, "<=": lambda a, b: a <= b,
-        ">": lambda a, b: a > b, ">=": lambda a, b: a >= b,
+        "=": lambda a, b: a == b,
+        "<>": lambda a, b: a != b,
+        "<": lambda a, b: a < b,
+        "<=": lambda a, b: a <= b,
+        ">": lambda a, b: a > b,
+        ">=": lambda a, b: a >= b,
     }
 
     def __init__(self, operator, left, right, spelled=None):
@@ -249,23 +260,23 @@ class ParamRef(Expr):
         self.param, self.subscripts = param, subscripts
 
     def value(self, env):
-        return self.param.at_key(tuple(it.value(env) for it in self.subscripts))
+        return self.param.at_key(tuple(subscript.value(env) for subscript in self.subscripts))
 
     def text(self):
-        inside = ",".join(it.at(SUM) for it in self.subscripts)
+        inside = ",".join(subscript.at(SUM) for subscript in self.subscripts)
         return f"{self.param.name}[{inside}]" if self.subscripts else self.param.name
 
     def twin(self):
-        inside = ",".join(it.twin() for it in self.subscripts)
+        inside = ",".join(subscript.twin() for subscript in self.subscripts)
         return f"{self.param.name}[{inside}]" if self.subscripts else self.param.name
 
 
 def copied(expr):
     """The expression with dummies of its own, and these; what is declared stays the same."""
-    memo = {}
+    memo: dict = {}
     return copy.deepcopy(expr, memo), memo.get("dummies", [])
 
 
 def every_dummy(thing):
     """Returns all named dummies of braces or a set, including inner ones; none for None."""
-    return [it for it in copied(thing)[1] if it.name] if thing else []
+    return [dummy for dummy in copied(thing)[1] if dummy.name] if thing else []

@@ -37,7 +37,9 @@ class Instance:
     """Nodes with their ranges, arcs, and an objective: its name, its sense and its constant."""
 
     def __init__(self, layout):
-        self.nodes, self.arcs, self.constant = [], [], 0
+        self.nodes: list[Node] = []
+        self.arcs: list[Arc] = []
+        self.constant = 0
         self.objective, self.sense = None, "minimize"
         self.decls = layout.nodes
         places = {}
@@ -47,12 +49,13 @@ class Instance:
                 self.nodes.append(Node(decl.name, key, decl.braces is not None))
         for decl in layout.arcs:
             for key, env in decl.steps:
-                ends = [self.end(end, env, places) for end in (decl.end["from"], decl.end["to"])]
-                self.arcs.append(Arc(decl.name, key, decl.braces is not None, *ends, decl.low.value(env), decl.high.value(env)))
+                src, dst = (self.end(end, env, places) for end in (decl.end["from"], decl.end["to"]))
+                low, high = decl.low.value(env), decl.high.value(env)
+                self.arcs.append(Arc(decl.name, key, decl.braces is not None, src, dst, low, high))
 
     @staticmethod
     def end(end, env, places):
-        return end and places[end[0].name, tuple(it.value(env) for it in end[1])]
+        return end and places[end[0].name, tuple(subscript.value(env) for subscript in end[1])]
 
     def take_ranges(self):
         """The nodes' ranges, once every parameter has its values."""
@@ -89,8 +92,9 @@ class Instance:
 
 
 class Normal:
-    """The normal form of docs/reference/command-line.md, or its lean form: supplies by node, the outside last, and arcs as (src, dst, low, cap,
-    cost); and for each arc of the model its offset and its number, which is 0 if it is left out."""
+    """The normal form of docs/reference/command-line.md, or its lean form: supplies by node, the outside last, and arcs
+    as (src, dst, low, cap, cost); and for each arc of the model its offset and its number, which is 0 if it is left
+    out."""
 
     def __init__(self, instance, lean=False):
         outside, sign = len(instance.nodes), 1 if instance.sense == "minimize" else -1
@@ -99,7 +103,7 @@ class Normal:
         self.constant = instance.worth(self.offsets)
         self.supplies, self.arcs, most, least = instance.inflows(self.offsets), [], [0] * outside, [0] * outside
         for arc, offset in zip(instance.arcs, self.offsets):
-            ends = [outside if it is None else it for it in (arc.src, arc.dst)]
+            ends = [outside if node is None else node for node in (arc.src, arc.dst)]
             if not lean or arc.low < arc.high:
                 self.arcs.append((*ends, arc.low - offset, arc.high - offset, sign * arc.price))
             self.numbers.append(0 if lean and arc.low == arc.high else len(self.arcs))
@@ -126,14 +130,16 @@ class Normal:
     def links(self, instance):
         lines = [f"c constant {self.constant}", f"c sign {self.sign}"]
         lines += [f"c node {place} {reference(node)}" for place, node in enumerate(instance.nodes, 1)]
-        lines += [f"c arc {number} {offset} {reference(arc)}"
-                  for number, arc, offset in zip(self.numbers, instance.arcs, self.offsets)]
+        lines += [
+            f"c arc {number} {offset} {reference(arc)}"
+            for number, arc, offset in zip(self.numbers, instance.arcs, self.offsets)
+        ]
         return "".join(line + "\n" for line in lines)
 
     def across(self, places):
         """Of a set of nodes: what it supplies, the most that can leave it, and the least that must."""
         leaving = [arc for arc in self.arcs if arc[0] in places and arc[1] not in places]
         entering = [arc for arc in self.arcs if arc[1] in places and arc[0] not in places]
-        supply = sum(self.supplies[it] for it in places)
-        most = sum(it[3] for it in leaving) - sum(it[2] for it in entering)
-        return supply, most, sum(it[2] for it in leaving) - sum(it[3] for it in entering)
+        supply = sum(self.supplies[place] for place in places)
+        most = sum(arc[3] for arc in leaving) - sum(arc[2] for arc in entering)
+        return supply, most, sum(arc[2] for arc in leaving) - sum(arc[3] for arc in entering)

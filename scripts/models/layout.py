@@ -1,6 +1,18 @@
 """Random nodes, arcs and objectives over a world."""
 from models.declarations import ArcDecl, NetCondition, NodeDecl, Objective
-from models.expressions import Binary, Choice, Fault, Joined, Member, Negated, ParamRef, Parens, Reduced, copied, every_dummy
+from models.expressions import (
+    Binary,
+    Choice,
+    Fault,
+    Joined,
+    Member,
+    Negated,
+    ParamRef,
+    Parens,
+    Reduced,
+    copied,
+    every_dummy,
+)
 from models.linear import ArcRef
 from models.sets import Braces, Item, Keys, Membership, SetRef, Tuple
 from models.world import World
@@ -25,7 +37,7 @@ class Layout(World):
     def renamed(self, braces, scope):
         """The same braces with dummies of other names than those of the scope."""
         made, dummies = copied(braces)
-        named = [it for it in dummies if it.name]
+        named = [candidate for candidate in dummies if candidate.name]
         for dummy, name in zip(named, self.dummy_names(len(named), scope)):
             dummy.name = name
         return made
@@ -33,7 +45,7 @@ class Layout(World):
     def named_copy(self, braces, scope):
         """The same, and every component of the key has a name."""
         made = self.renamed(braces, scope)
-        lacking = [it for it in made.key() if it.name is None]
+        lacking = [dummy for dummy in made.key() if dummy.name is None]
         for dummy, name in zip(lacking, self.dummy_names(len(lacking), [*scope, *every_dummy(made)])):
             dummy.name = name
         return made
@@ -59,12 +71,15 @@ class Layout(World):
         self.nodes.append(node)
 
     def empty_key(self):
-        """Makes braces whose one key has no members, by an item that selects and binds nothing; None if there is no set."""
-        there = [it for it in self.sets if it.rows]
+        """Makes braces whose one key has no members, by an item that selects and binds nothing; None if there is no
+        set."""
+        there = [decl for decl in self.sets if decl.rows]
         if not there:
             return None
         chosen = self.rng.choice(there)
-        return Braces([Item([self.member(it) for it in self.rng.choice(chosen.rows)], SetRef(chosen), [])])
+        return Braces(
+            [Item([self.member(component) for component in self.rng.choice(chosen.rows)], SetRef(chosen), [])]
+        )
 
     def terms(self, braces, scope):
         """Signed terms, of which one is the net flow."""
@@ -137,9 +152,12 @@ class Layout(World):
         """Braces, and the ends with their subscripts; only keys at which both nodes are there."""
         braces = self.arc_braces(ends)
         scope = self.scope_of(braces)
-        subscripts = [it and [self.subscript(scope, part.kind, part.domain) for part in (it.braces.key() if it.braces else [])]
-                      for it in ends]
-        if any(it and None in it for it in subscripts):
+        subscripts = [
+            node
+            and [self.subscript(scope, part.kind, part.domain) for part in (node.braces.key() if node.braces else [])]
+            for node in ends
+        ]
+        if any(parts and None in parts for parts in subscripts):
             return None
         try:
             steps = braces.walk({}) if braces else [((), {})]
@@ -157,21 +175,24 @@ class Layout(World):
 
     def arc_braces(self, ends):
         kind = self.rng.choice(["restated", "random", "random", "plain", "plain", "none"])
-        own = [it for it in ends if it and it.braces]
+        own = [node for node in ends if node and node.braces]
         if kind == "none" and self.chance(0.6):
             return self.empty_key() if self.chance(0.15) else None
         if kind == "restated" and own:
             made = self.named_copy(self.rng.choice(own).braces, [])
             if len(own) == 2 and self.chance(0.5) and own[1].braces:
                 other = self.named_copy(own[1].braces, every_dummy(made))
-                both = [it for it in (made.condition, other.condition) if it]
+                both = [condition for condition in (made.condition, other.condition) if condition]
                 joined = Joined("and", *both) if len(both) == 2 else (both or [None])[0]
                 made = Braces(made.items + other.items, joined)
             return made
         return self.index(named=True) if kind == "plain" else self.braces([], 1)
 
     def are_there(self, ends, subscripts, env):
-        return all(it is None or tuple(part.value(env) for part in parts) in it.keys for it, parts in zip(ends, subscripts))
+        return all(
+            node is None or tuple(part.value(env) for part in parts) in node.keys
+            for node, parts in zip(ends, subscripts)
+        )
 
     def guarded(self, braces, ends, subscripts):
         """The condition of the braces, and that the nodes are there."""
@@ -197,8 +218,11 @@ class Layout(World):
         if self.chance(0.35):
             low = self.sound(lambda: self.number(scope, 1), envs, lambda value, _: -25 <= value <= 12) or low
         high = self.sound(lambda: self.number(scope, 2), envs, lambda value, env: low.value(env) <= value <= 150, 8)
-        return low, high or (Member(self.rng.randint(3, 25)) if isinstance(low, Member) and low.member == 0
-                             else Binary("+", low, Member(self.rng.randint(0, 20))))
+        return low, high or (
+            Member(self.rng.randint(3, 25))
+            if isinstance(low, Member) and low.member == 0
+            else Binary("+", low, Member(self.rng.randint(0, 20)))
+        )
 
     # Objectives
 
@@ -227,7 +251,9 @@ class Layout(World):
             term = self.over_arc(arc)
             made = Binary(self.rng.choice("++-"), made, term) if made else Negated(term) if self.chance(0.2) else term
         if self.chance(0.2):
-            made = Choice(self.condition([], 1), made, self.over_arc(self.rng.choice(self.arcs)) if self.chance(0.6) else None)
+            made = Choice(
+                self.condition([], 1), made, self.over_arc(self.rng.choice(self.arcs)) if self.chance(0.6) else None
+            )
         elif self.chance(0.2):
             made = Binary("*", Parens(made), self.number([], 1))
         return made
@@ -247,7 +273,10 @@ class Layout(World):
         price = self.number(scope, 1)
         kind = self.rng.choice(["left", "left", "right", "alone", "sign", "choice", "parens"])
         return {
-            "left": Binary("*", price, arc), "right": Binary("*", arc, price), "alone": arc, "sign": Negated(arc),
+            "left": Binary("*", price, arc),
+            "right": Binary("*", arc, price),
+            "alone": arc,
+            "sign": Negated(arc),
             "choice": Parens(Choice(self.condition(scope, 1), arc, Binary("*", price, arc))),
             "parens": Binary("*", Parens(Binary("-", arc, Member(2))), price),
         }[kind]

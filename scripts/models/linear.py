@@ -39,15 +39,15 @@ class ArcRef(Expr):
         self.declared, self.subscripts = declared, subscripts
 
     def value(self, env):
-        key = tuple(it.value(env) for it in self.subscripts)
+        key = tuple(subscript.value(env) for subscript in self.subscripts)
         if key not in self.declared.keys:
             raise Fault("no such arc")
         return Linear(0, {(self.declared.name, key): 1})
 
     def text(self):
-        inside = ",".join(it.at(SUM) for it in self.subscripts)
+        inside = ",".join(subscript.at(SUM) for subscript in self.subscripts)
         return f"{self.declared.name}[{inside}]" if self.subscripts else self.declared.name
 
     def twin(self):
-        inside = ",".join(it.twin() for it in self.subscripts) or "1"
+        inside = ",".join(subscript.twin() for subscript in self.subscripts) or "1"
         return f"{self.declared.name}[{inside}]" if self.declared.braces else self.declared.name

@@ -1,5 +1,6 @@
 """A random model: its texts, and the network that it comes to."""
 import random
+from typing import Callable
 
 from models.declarations import Check, Param, SetDecl
 from models.instance import Instance, Normal
@@ -35,8 +36,14 @@ class Model:
             layout.scalar()
         for _ in range(rng.randint(1, 3)):
             layout.base_set()
-        counts = {layout.tuple_set: [0, 1, 1, 2], layout.derived_set: [0, 1, 2], layout.symbol: [0, 1], layout.scalar: [0, 1],
-                  layout.table: [1, 2, 3, 4], layout.check: [0, 1, 2]}
+        counts: dict[Callable, list[int]] = {
+            layout.tuple_set: [0, 1, 1, 2],
+            layout.derived_set: [0, 1, 2],
+            layout.symbol: [0, 1],
+            layout.scalar: [0, 1],
+            layout.table: [1, 2, 3, 4],
+            layout.check: [0, 1, 2],
+        }
         steps = [step for step, count in counts.items() for _ in range(rng.choice(count))]
         rng.shuffle(steps)
         for step in steps:
@@ -48,7 +55,8 @@ class Model:
         while not layout.arcs or rng.random() < 0.65 and len(layout.arcs) < 5:
             layout.arc()
             if rng.random() < 0.15:
-                rng.choice([layout.table, layout.derived_set, layout.check, layout.node])()
+                steps = [layout.table, layout.derived_set, layout.check, layout.node]
+                rng.choice(steps)()
         if not layout.objectives or rng.random() < 0.3:
             layout.objective(True)
 
@@ -57,7 +65,9 @@ class Model:
 
     def model_text(self):
         remarks = ["\n"] * 20 + ["  # a remark; with : = and 'marks\n", " /* two\n lines */\n", " "]
-        text = f"# Seed {self.seed}.\n" + "".join(it.text() + self.rng.choice(remarks) for it in self.layout.declared)
+        text = f"# Seed {self.seed}.\n" + "".join(
+            declaration.text() + self.rng.choice(remarks) for declaration in self.layout.declared
+        )
         if self.rng.random() < 0.3:
             for mark in MARKS:
                 # No text of a set has one of these with its blanks.
@@ -74,7 +84,11 @@ class Model:
     def twin(self):
         """The same in MathProg: arcs are variables, nodes constraints."""
         layout = self.layout
-        out = [it.twin() for it in layout.declared if isinstance(it, (SetDecl, Param, Check))]
-        out += [it.twin() for it in layout.arcs]
-        out += [self.chosen.twin(layout.arcs)] + [it.twin(layout.arcs) for it in layout.nodes]
-        return "".join(it + "\n" for it in out) + "solve;\ndata;\n" + twin_text(layout.declared) + "end;\n"
+        out = [
+            declaration.twin() for declaration in layout.declared if isinstance(declaration, (SetDecl, Param, Check))
+        ]
+        out += [arc.twin() for arc in layout.arcs]
+        out += [self.chosen.twin(layout.arcs)] + [node.twin(layout.arcs) for node in layout.nodes]
+        return (
+            "".join(statement + "\n" for statement in out) + "solve;\ndata;\n" + twin_text(layout.declared) + "end;\n"
+        )

@@ -18,7 +18,9 @@ def solved(folder):
     (folder / "twin.txt").write_text(done.stdout)
     if done.returncode or not (folder / "twin.sol").exists():
         raise TwinFault(done.stdout.strip().splitlines()[-1] if done.stdout else "no output")
-    line = next(it for it in (folder / "twin.sol").read_text().splitlines() if it.startswith("s "))
+    line = next(
+        status_line for status_line in (folder / "twin.sol").read_text().splitlines() if status_line.startswith("s ")
+    )
     status, value = line.split()[4], float(line.split()[6])
     if status not in "fni" or (status == "f" and abs(value - round(value)) > 1e-6):
         raise TwinFault(line)

@@ -10,7 +10,7 @@ def chosen_plan(instance, ranges, rng):
     plan = [rng.randint(arc.low, arc.high) for arc in instance.arcs]
     for _ in range(400):
         sums = instance.inflows(plan)
-        place = next((it for it, (low, high) in enumerate(ranges) if not low <= sums[it] <= high), None)
+        place = next((place for place, (low, high) in enumerate(ranges) if not low <= sums[place] <= high), None)
         if place is None:
             break
         low, high = ranges[place]
@@ -25,7 +25,8 @@ def chosen_plan(instance, ranges, rng):
 def way(instance, plan, ranges, sums, start, is_over):
     """A path on which one unit less comes into the node, or one more: (arc, step) pairs; None if there is none."""
     # A step moves a unit away from the node, or to it if it lacks one.
-    seen, line = {start: None}, collections.deque([start])
+    seen: dict = {start: None}
+    line = collections.deque([start])
     while line:
         place = line.popleft()
         low, high = ranges[place]
@@ -76,15 +77,16 @@ def relax(instance, plan, rng):
     for decl in instance.decls:
         here = range(place, place + len(decl.keys))
         place += len(decl.keys)
-        if all(ranges[it][0] <= sums[it] <= ranges[it][1] for it in here) or rng.random() < 0.15:
+        if all(ranges[place][0] <= sums[place] <= ranges[place][1] for place in here) or rng.random() < 0.15:
             continue
-        low, high = min(sums[it] for it in here), max(sums[it] for it in here)
+        low, high = min(sums[place] for place in here), max(sums[place] for place in here)
         sides = [("<=", Member(low), True), ("<=", Member(high), False)] if low < high else [("=", Member(low), False)]
         decl.condition = NetCondition("net_in", [(1, None)], sides)
 
 
 def decide_free(instance, plan, rng, is_spoiled):
-    """Gives the free parameters the values at which the plan meets the nodes' conditions; spoiled ones something else."""
+    """Gives the free parameters the values at which the plan meets the nodes' conditions; spoiled ones something
+    else."""
     sums, place = instance.inflows(plan), 0
     for decl in instance.decls:
         for key, env in decl.steps:
@@ -97,7 +99,11 @@ def decide_free(instance, plan, rng, is_spoiled):
 
 def decide_node(decl, env, key, inflow, rng, is_spoiled):
     condition = decl.condition
-    middle = condition.base(env) + condition.sign() * inflow + (rng.choice([-1, 1]) * rng.randint(1, 40) if is_spoiled else 0)
+    middle = (
+        condition.base(env)
+        + condition.sign() * inflow
+        + (rng.choice([-1, 1]) * rng.randint(1, 40) if is_spoiled else 0)
+    )
     for (operator, _, is_left), free in zip(condition.sides, decl.free):
         operator = {"<=": ">=", ">=": "<="}.get(operator, operator) if is_left else operator
         slack = rng.choice([0, 0, 1, 3, 10])

@@ -7,8 +7,8 @@ MOST = 400
 
 
 class SetExpr(Expr):
-    """MathProg allows no braces after `in`, so a set has two more texts there: `wider` is a set without braces that contains it,
-    and `has` the condition that a tuple of texts is in it. `twin` is its text after `:=`."""
+    """MathProg allows no braces after `in`, so a set has two more texts there: `wider` is a set without braces that
+    contains it, and `has` the condition that a tuple of texts is in it. `twin` is its text after `:=`."""
 
     is_exact = True
 
@@ -54,9 +54,9 @@ class Range(SetExpr):
     def value(self, env):
         first, last = self.first.value(env), self.last.value(env)
         step = self.step.value(env) if self.step else 1
-        if any(isinstance(it, str) for it in (first, last, step)) or step < 1 or last - first > MOST:
+        if any(isinstance(bound, str) for bound in (first, last, step)) or step < 1 or last - first > MOST:
             raise Fault("range")
-        return [(it,) for it in range(first, last + 1, step)]
+        return [(number,) for number in range(first, last + 1, step)]
 
     def text(self):
         front = f"{self.first.at(SUM)} .. {self.last.at(SUM)}"
@@ -76,13 +76,13 @@ class Tuple(Expr):
         self.parts = parts
 
     def value(self, env):
-        return tuple(it.value(env) for it in self.parts)
+        return tuple(part.value(env) for part in self.parts)
 
     def text(self):
-        return "(" + ", ".join(it.at(SUM) for it in self.parts) + ")"
+        return "(" + ", ".join(part.at(SUM) for part in self.parts) + ")"
 
     def twin(self):
-        return "(" + ", ".join(it.twin() for it in self.parts) + ")"
+        return "(" + ", ".join(part.twin() for part in self.parts) + ")"
 
 
 class Literal(SetExpr):
@@ -92,15 +92,15 @@ class Literal(SetExpr):
         self.items, self.kinds, self.domains, self.dimen = items, kinds, domains, len(kinds)
 
     def value(self, env):
-        rows = [it.value(env) for it in self.items]
-        return list(dict.fromkeys(it if isinstance(it, tuple) else (it,) for it in rows))
+        rows = [item.value(env) for item in self.items]
+        return list(dict.fromkeys(row if isinstance(row, tuple) else (row,) for row in rows))
 
     def text(self):
-        return "{" + ", ".join(it.at(SET) for it in self.items) + "}"
+        return "{" + ", ".join(item.at(SET) for item in self.items) + "}"
 
     def twin(self):
         # A member can occur twice, which MathProg rejects within one pair of braces.
-        return "(" + " union ".join("{" + it.twin() + "}" for it in self.items) + ")" if self.items else "{}"
+        return "(" + " union ".join("{" + item.twin() + "}" for item in self.items) + ")" if self.items else "{}"
 
 
 class SetBinary(SetExpr):
@@ -110,8 +110,8 @@ class SetBinary(SetExpr):
         self.word, self.left, self.right = word, left, right
         self.level = {"cross": CROSS, "inter": INTER}.get(word, SET)
         both = (left, right) if word == "cross" else (left,)
-        self.kinds = sum((it.kinds for it in both), ())
-        self.domains = sum((it.domains for it in both), ())
+        self.kinds = sum((operand.kinds for operand in both), ())
+        self.domains = sum((operand.domains for operand in both), ())
         if word in ("union", "symdiff"):
             self.kinds = tuple(a if a == b else "mixed" for a, b in zip(left.kinds, right.kinds))
             self.domains = tuple(a if a == b else None for a, b in zip(left.domains, right.domains))
@@ -124,10 +124,12 @@ class SetBinary(SetExpr):
             if len(left) * len(right) > MOST:
                 raise Fault("cross")
             return [a + b for a in left for b in right]
-        kept = [it for it in left if (it in others) == (self.word == "inter")]
+        kept = [row for row in left if (row in others) == (self.word == "inter")]
         return {
-            "union": left + [it for it in right if it not in there], "diff": kept, "inter": kept,
-            "symdiff": kept + [it for it in right if it not in there],
+            "union": left + [row for row in right if row not in there],
+            "diff": kept,
+            "inter": kept,
+            "symdiff": kept + [row for row in right if row not in there],
         }[self.word]
 
     def text(self):
@@ -147,7 +149,9 @@ class SetBinary(SetExpr):
             return f"({self.left.has(parts[:self.left.dimen])} and {self.right.has(parts[self.left.dimen:])})"
         left, right = self.left.has(parts), self.right.has(parts)
         return {
-            "union": f"({left} or {right})", "inter": f"({left} and {right})", "diff": f"({left} and not {right})",
+            "union": f"({left} or {right})",
+            "inter": f"({left} and {right})",
+            "diff": f"({left} and not {right})",
             "symdiff": f"(({left} and not {right}) or ({right} and not {left}))",
         }[self.word]
 
@@ -159,8 +163,8 @@ class Comprehension(SetExpr):
 
     def __init__(self, braces):
         self.braces = braces
-        self.kinds = tuple(it.kind for it in braces.key())
-        self.domains = tuple(it.domain for it in braces.key())
+        self.kinds = tuple(dummy.kind for dummy in braces.key())
+        self.domains = tuple(dummy.domain for dummy in braces.key())
         self.dimen = len(self.kinds)
 
     def value(self, env):
@@ -173,13 +177,13 @@ class Comprehension(SetExpr):
         return self.braces.text()
 
     def twin(self):
-        return f"(setof{self.braces.twin()} {tupled([it.twin() for it in self.braces.key()])})"
+        return f"(setof{self.braces.twin()} {tupled([dummy.twin() for dummy in self.braces.key()])})"
 
     def wider(self):
-        return f"({' cross '.join(it.members.wider() for it in self.braces.items)})"
+        return f"({' cross '.join(item.members.wider() for item in self.braces.items)})"
 
     def has(self, parts):
-        same = [f"({it.twin()} = {part})" for it, part in zip(self.braces.key(), parts)]
+        same = [f"({dummy.twin()} = {part})" for dummy, part in zip(self.braces.key(), parts)]
         return f"(exists{self.braces.twin(*same)} 1 = 1)"
 
 
@@ -215,6 +219,7 @@ class SetParens(Parens, SetExpr):
     def has(self, parts):
         return self.inner.has(parts)
 
+
 class Membership(Expr):
     """`in` and `not in`."""
 
@@ -232,7 +237,7 @@ class Membership(Expr):
 
     def twin(self):
         parts = self.left.parts if isinstance(self.left, Tuple) else [self.left]
-        return f"({'not ' if self.negated else ''}{self.members.has([it.twin() for it in parts])})"
+        return f"({'not ' if self.negated else ''}{self.members.has([part.twin() for part in parts])})"
 
 
 class Within(Expr):
@@ -263,7 +268,9 @@ class Item:
 
     def components(self):
         """Each component, and whether it is a new dummy there: in `(i, i)` the first alone."""
-        return [(it, it in self.new and it not in self.pattern[:place]) for place, it in enumerate(self.pattern)]
+        return [
+            (dummy, dummy in self.new and dummy not in self.pattern[:place]) for place, dummy in enumerate(self.pattern)
+        ]
 
     def steps(self, env):
         components = self.components()
@@ -280,21 +287,24 @@ class Item:
     def text(self):
         if self.pattern[0] in self.new and self.pattern[0].name is None:
             return self.members.at(SET)
-        inside = ", ".join(it.at(SUM) for it in self.pattern)
+        inside = ", ".join(dummy.at(SUM) for dummy in self.pattern)
         return f"{f'({inside})' if len(self.pattern) > 1 else inside} in {self.members.at(SET)}"
 
     def twin(self):
         """Returns the item and the conditions that express its selection in MathProg."""
-        names = [it.twin() if is_new else f"c{next(Item.slots)}" for it, is_new in self.components()]
+        names = [dummy.twin() if is_new else f"c{next(Item.slots)}" for dummy, is_new in self.components()]
         item, condition = self.members.through(names)
-        selects = [f"({name} = {it.twin()})" for name, (it, is_new) in zip(names, self.components()) if not is_new]
+        selects = [
+            f"({name} = {dummy.twin()})" for name, (dummy, is_new) in zip(names, self.components()) if not is_new
+        ]
         return item, ([condition] if condition else []) + selects
 
     slots = itertools.count(1)
 
 
 class Braces:
-    """Items and a condition, which may be None. Items without new dummies give the empty key, for which MathProg has a 1."""
+    """Items and a condition, which may be None. Items without new dummies give the empty key, for which MathProg has a
+    1."""
 
     def __init__(self, items, condition=None):
         self.items, self.condition = items, condition
@@ -313,8 +323,11 @@ class Braces:
             if len(every) > MOST:
                 raise Fault("too many keys")
         key = self.key()
-        return [(tuple(each[it] for it in key), each) for each in every
-                if self.condition is None or self.condition.value(each)]
+        return [
+            (tuple(each[place] for place in key), each)
+            for each in every
+            if self.condition is None or self.condition.value(each)
+        ]
 
     def text(self):
         inside = ", ".join(item.text() for item in self.items)
@@ -333,7 +346,7 @@ class Braces:
 
     def keys_twin(self, name):
         """A set of the keys, which MathProg can look a subscript up in, and the braces that run through it."""
-        key = tupled([it.twin() for it in self.key()] or ["1"])
+        key = tupled([dummy.twin() for dummy in self.key()] or ["1"])
         made = f"set KEYS_{name} dimen {len(self.key()) or 1} := setof{self.twin()} {key};\n"
         return made, f"{{{key} in KEYS_{name}}}" if self.key() else f"{{c{next(Item.slots)} in KEYS_{name}}}"
 

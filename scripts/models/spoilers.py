@@ -1,4 +1,5 @@
-"""Ways to spoil what the program says: each takes the words of a call and the status, output and errors that it gave."""
+"""Ways to spoil what the program says: each takes the words of a call and the status, output and errors that it
+gave."""
 import re
 
 
@@ -16,6 +17,7 @@ def spoiler(command, statuses, pattern, more=1):
         if words[0] != command or status not in statuses:
             return status, text, stderr
         return status, last_number(text, pattern, more), stderr
+
     return spoil
 
 

@@ -68,7 +68,7 @@ class Tables:
         return f"param {param.name}{said} :={self.joined(words)};\n"
 
     def table(self, param, rows, said):
-        down, across = ([*dict.fromkeys(key[it] for key in rows)] for it in (0, 1))
+        down, across = ([*dict.fromkeys(key[place] for key in rows)] for place in (0, 1))
         is_turned = self.chance(0.4)
         if is_turned:
             down, across = across, down
@@ -83,12 +83,12 @@ class Tables:
 
     def columns(self, params, declared):
         """Several parameters in columns, with the set of their keys if there is one."""
-        keys = declared.rows if declared else dict.fromkeys(key for it in params for key in it.rows)
+        keys = declared.rows if declared else dict.fromkeys(key for param in params for key in param.rows)
         words = []
         for key in keys:
             words.append("\n " + " ".join(map(self.cell, key)))
-            words += [self.cell(it.rows[key]) if key in it.rows else "." for it in params]
-        names = self.joined([it.name for it in params])
+            words += [self.cell(param.rows[key]) if key in param.rows else "." for param in params]
+        names = self.joined([param.name for param in params])
         front = f" {declared.name} :" if declared else ""
         return f"param :{front}{names} :={self.joined(words)};\n"
 
@@ -96,22 +96,30 @@ class Tables:
         """Removes what one statement holds from both lists: (parameters, set or None)."""
         groups = []
         for width in (1, 2, 3, 4):
-            fitting = [it for it in params if it.rows and it.data_default is None and len(next(iter(it.rows))) == width]
-            owner = self.rng.choice([it for it in sets if it.dimen == width] + [None])
+            fitting = [
+                param
+                for param in params
+                if param.rows and param.data_default is None and len(next(iter(param.rows))) == width
+            ]
+            owner = self.rng.choice([decl for decl in sets if decl.dimen == width] + [None])
             if owner:
-                fitting = [it for it in fitting if set(it.rows) <= set(owner.rows)]
+                fitting = [param for param in fitting if set(param.rows) <= set(owner.rows)]
             fitting = self.rng.sample(fitting, min(len(fitting), self.rng.randint(1, 4)))
             if fitting and self.chance(0.5):
                 groups.append((fitting, owner))
-                sets[:] = [it for it in sets if it is not owner]
-                params[:] = [it for it in params if it not in fitting]
+                sets[:] = [decl for decl in sets if decl is not owner]
+                params[:] = [param for param in params if param not in fitting]
         return groups
 
     def text(self, declared):
-        sets = [it for it in declared if isinstance(it, SetDecl) and it.made is None]
-        params = [it for it in declared if isinstance(it, Param) and (it.rows or it.data_default is not None)]
+        sets = [decl for decl in declared if isinstance(decl, SetDecl) and decl.made is None]
+        params = [decl for decl in declared if isinstance(decl, Param) and (decl.rows or decl.data_default is not None)]
         groups = self.together(sets, params)
-        out = [self.columns(*it) for it in groups] + [self.set_text(it) for it in sets] + [self.param_text(it) for it in params]
+        out = (
+            [self.columns(*group) for group in groups]
+            + [self.set_text(decl) for decl in sets]
+            + [self.param_text(param) for param in params]
+        )
         self.rng.shuffle(out)
         return ("data;\n" if self.chance(0.2) else "") + "".join(out) + ("end;\n" if self.chance(0.2) else "")
 
@@ -121,17 +129,18 @@ def twin_cell(member):
 
 
 def twin_text(declared):
-    """For MathProg: one list for each set and parameter, all of it quoted. It would take `(tr` for a table turned round."""
+    """For MathProg: one list for each set and parameter, all of it quoted. It would take `(tr` for a table turned
+    round."""
     out = []
-    for it in declared:
-        if isinstance(it, SetDecl) and it.made is None:
-            rows = [" ".join(map(twin_cell, row)) for row in it.rows]
-            out.append(f"set {it.name} := {' '.join(rows)};\n")
-        elif isinstance(it, Param) and it.rows is not None:
-            values = it.rows if it.data_default is None else it.values
+    for decl in declared:
+        if isinstance(decl, SetDecl) and decl.made is None:
+            rows = [" ".join(map(twin_cell, row)) for row in decl.rows]
+            out.append(f"set {decl.name} := {' '.join(rows)};\n")
+        elif isinstance(decl, Param) and decl.rows is not None:
+            values = decl.rows if decl.data_default is None else decl.values
             if () in values:
-                out.append(f"param {it.name} := {twin_cell(values[()])};\n")
+                out.append(f"param {decl.name} := {twin_cell(values[()])};\n")
             elif values:
                 rows = [f"[{','.join(map(twin_cell, key))}] {twin_cell(value)}" for key, value in values.items()]
-                out.append(f"param {it.name} := {' '.join(rows)};\n")
+                out.append(f"param {decl.name} := {' '.join(rows)};\n")
     return "".join(out)

@@ -1,14 +1,15 @@
 """Random sets and parameters, with their data."""
+from typing import Any
+
 from models.author import DUMMIES, Author
 from models.declarations import Check, Param, SetDecl
-from models.expressions import Fault, Member, ParamRef, Relation, every_dummy
-from models.sets import Braces, Literal, Range, SetBinary, SetRef, whole
+from models.expressions import Expr, Fault, Member, ParamRef, Relation, every_dummy
+from models.sets import Braces, Item, Literal, Range, SetBinary, SetRef, whole
 
 SET_NAMES = "CITIES PLANTS SHOPS DAYS GOODS LINKS ROADS MILLS ZONES CREWS WEEKS A B S i P day".split()
 PARAM_NAMES = "cost room need most rate last days_of start home supply demand weight first p q k cap2 base".split()
-TEXTS = ["PITT", "NE", "SE", "BOS", "EWR", "a", "b", "c", "x1", "2nd", "Zürich", "New York", "O'Hare", "say \"so\"", "set",
-         "end", "default", "a.b", "--x", "a/b", "(x)", "#1", "7up", "1..5", ".5x", "-", "+", "data", "x:y", "tr", "param",
-         "12", "-3"]
+TEXTS = "PITT NE SE BOS EWR a b c x1 2nd Zürich".split() + ["New York", "O'Hare", 'say "so"']
+TEXTS += "set end default a.b --x a/b (x) #1 7up 1..5 .5x - + data x:y tr param 12 -3".split()
 
 
 class World(Author):
@@ -20,8 +21,10 @@ class World(Author):
         self.domains["#"] = [1, 2, 3]
 
     def new_name(self, names, scope=()):
-        fitting = [it for it in names if it not in self.names and it not in {d.name for d in scope}]
-        plain = [it for it in fitting if len(it) > 1] or fitting
+        fitting = [
+            candidate for candidate in names if candidate not in self.names and candidate not in {d.name for d in scope}
+        ]
+        plain = [candidate for candidate in fitting if len(candidate) > 1] or fitting
         name = self.rng.choice(plain if self.chance(0.9) and plain else fitting or ["more"])
         while name in self.names:
             name = f"{name}{self.rng.randint(1, 99)}"
@@ -32,7 +35,7 @@ class World(Author):
         declared = SetDecl(self.new_name(SET_NAMES), rows, kinds, domains, made)
         if declared.domains == (None,):
             declared.domains = (declared.name,)
-            self.domains[declared.name] = [it[0] for it in rows]
+            self.domains[declared.name] = [row[0] for row in rows]
         declared.within = list(within)
         self.declared.append(declared.finish(self.rng))
         self.sets.append(declared)
@@ -48,13 +51,17 @@ class World(Author):
         texts, numbers = self.rng.sample(TEXTS, count), self.rng.sample(range(-3, 40), count)
         members = texts if kind == "texts" else numbers if kind == "numbers" else texts[:2] + numbers[: count - 1]
         word = {"texts": "name", "numbers": "number", "mixed": "mixed"}[kind]
-        rows = [(it,) for it in members]
-        made = Literal([self.member(it) for it in members], (word,), (None,)) if self.chance(0.2) else None
+        rows = [(member,) for member in members]
+        made = Literal([self.member(member) for member in members], (word,), (None,)) if self.chance(0.2) else None
         return self.add_set(made, rows, (word,), (None,))
 
     def range_set(self, count):
-        last = Member(count)
-        scalars = [it for it in self.params if it.ready and not it.braces and it.kind == "number" and 1 <= it.values[()] <= 6]
+        last: Expr = Member(count)
+        scalars = [
+            param
+            for param in self.params
+            if param.ready and not param.braces and param.kind == "number" and 1 <= param.values[()] <= 6
+        ]
         if scalars and self.chance(0.5):
             last = ParamRef(self.rng.choice(scalars), [])
         made = Range(Member(1), last, Member(2) if self.chance(0.1) else None)
@@ -62,9 +69,9 @@ class World(Author):
 
     def tuple_set(self):
         """Some tuples of a product; given by the data, or made by braces."""
-        base = [it for it in self.sets if it.dimen == 1 and it.rows]
+        base = [decl for decl in self.sets if decl.dimen == 1 and decl.rows]
         parts = [SetRef(self.rng.choice(base)) for _ in range(self.rng.choice([2, 2, 2, 3]))]
-        product = parts[0]
+        product: Any = parts[0]
         for part in parts[1:]:
             product = SetBinary("cross", product, part)
         try:
@@ -81,25 +88,28 @@ class World(Author):
         made = self.sound(lambda: self.set_of([], 2, dimen), [{}], lambda rows, _: 0 < len(rows) <= 30)
         if made is None:
             return None
-        within = [SetRef(it) for it in self.sets if it.dimen == dimen and set(made.value({})) <= set(it.rows)][:1]
+        within = [SetRef(decl) for decl in self.sets if decl.dimen == dimen and set(made.value({})) <= set(decl.rows)][
+            :1
+        ]
         return self.add_set(made, made.value({}), made.kinds, made.domains, within if self.chance(0.3) else [])
 
     # Parameters
 
     def plain_index(self, dimens, named):
         """Whole sets, with dummies or alone."""
-        items = []
-        there = {it.dimen for it in self.sets}
+        items: list[Item] = []
+        there = {decl.dimen for decl in self.sets}
         for dimen in dimens or self.rng.choice([[1], [1], [1, 1], [2], [1, 2], [3]]):
             if dimen not in there and self.chance(0.8):
                 dimen = 1
             members = self.declared_set(dimen) or self.plain(dimen)
-            names = self.dummy_names(dimen, [it for before in items for it in before.new])
+            names = self.dummy_names(dimen, [dummy for before in items for dummy in before.new])
             items.append(whole(members, names if named else [None] * dimen))
         return Braces(items)
 
     def index(self, dimens=None, named=False):
-        """Braces of a declaration: sets alone, or dummies, with a condition at times; with at most 60 keys and four members."""
+        """Braces of a declaration: sets alone, or dummies, with a condition at times; with at most 60 keys and four
+        members."""
         for _ in range(20):
             if self.chance(0.45):
                 braces = self.plain_index(dimens, named or self.chance(0.6))
@@ -117,7 +127,7 @@ class World(Author):
 
     def new_param(self, braces, kind="number", domain=None, is_apart=False):
         """Makes a name that no dummy in scope has."""
-        names = [it for it in PARAM_NAMES if it not in DUMMIES] if is_apart else PARAM_NAMES
+        names = [name for name in PARAM_NAMES if name not in DUMMIES] if is_apart else PARAM_NAMES
         return Param(self.new_name(names, every_dummy(braces)), braces, kind, domain)
 
     def scalar(self):
@@ -130,7 +140,7 @@ class World(Author):
 
     def symbol(self):
         """A parameter whose values are members of a set."""
-        texts = [it for it in self.sets if it.dimen == 1 and it.kinds[0] == "name" and it.rows]
+        texts = [decl for decl in self.sets if decl.dimen == 1 and decl.kinds[0] == "name" and decl.rows]
         if not texts:
             return None
         inside = self.rng.choice(texts)
@@ -146,7 +156,9 @@ class World(Author):
         kind = self.rng.choices(["rows", "default", "data default", "made", "holes"], [5, 3, 2, 3, 1])[0]
         span = self.rng.choice([(0, 9), (0, 30), (-9, 9), (1, 99)])
         if kind == "made":
-            param.made = self.sound(lambda: self.number(self.scope_of(param.braces), self.rng.choice([2, 4])), envs) or Member(3)
+            param.made = self.sound(
+                lambda: self.number(self.scope_of(param.braces), self.rng.choice([2, 4])), envs
+            ) or Member(3)
             return self.add_param(param)
         share = 1 if kind == "rows" else 0.6
         param.rows = {key: self.rng.randint(*span) for key in param.keys if self.chance(share)}
@@ -173,7 +185,9 @@ class World(Author):
         braces = self.index() if self.chance(0.6) else None
         envs = [env for _, env in braces.walk({})] if braces else [{}]
         scope = self.scope_of(braces)
-        condition = self.sound(lambda: self.condition(scope, self.rng.randint(1, 3)), envs, lambda value, _: value is True)
+        condition = self.sound(
+            lambda: self.condition(scope, self.rng.randint(1, 3)), envs, lambda value, _: value is True
+        )
         if condition is None:
             condition = Relation(">=", Member(1), Member(0))
         self.declared.append(Check(braces, condition))

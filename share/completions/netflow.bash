@@ -58,8 +58,10 @@ _netflow_companion() {
     COMPREPLY=()
     [ "$COMP_CWORD" -le 1 ] || suffix=dat
     case ${COMP_WORDS[0]##*/} in
+        netflow-plan) _netflow_rest "$question --used --all --json --convert" $suffix ;;
         netflow-why) _netflow_rest "$question --all --json" $suffix ;;
         netflow-report) _netflow_rest "$question --svg --json --unit" $suffix ;;
+        netflow-convert) _netflow_rest "--output --force --version" $suffix ;;
         netflow-explain)
             [ "$COMP_CWORD" -gt 1 ] || COMPREPLY=($(compgen -W "solve compile min check --version" -- "$word"))
             [ ${#COMPREPLY[@]} -gt 0 ] && [ -n "$word" ] || _netflow_rest "$question --lean --json" mod dat min sol ;;
@@ -80,4 +82,4 @@ _netflow_companion() {
             esac ;;
     esac
 }
-complete -o filenames -F _netflow_companion netflow-why netflow-explain netflow-report netflow-sheet
+complete -o filenames -F _netflow_companion netflow-plan netflow-why netflow-explain netflow-report netflow-sheet netflow-convert

@@ -9,6 +9,14 @@ complete -c netflow -n "__fish_seen_subcommand_from solve compile" -l objective 
 complete -c netflow -n "__fish_seen_subcommand_from solve compile" -l lean -f -d "No lower bounds, and no arcs of equal bounds, in the problem"
 complete -c netflow -s h -l help -d "Print help"
 complete -c netflow -n __fish_use_subcommand -s V -l version -d "Print the version"
+complete -c netflow-plan -l objective -x -d "The objective, if the model has several"
+complete -c netflow-plan -l set -x -d "Change a value: NAME=VALUE"
+complete -c netflow-plan -l scale -x -d "The factor of a parameter: NAME=FACTOR"
+complete -c netflow-plan -l bounds -d "Add bounds to arcs that lack them"
+complete -c netflow-plan -l used -d "Only arcs that carry something"
+complete -c netflow-plan -l all -d "Every line of each list"
+complete -c netflow-plan -l json -d "A JSON object"
+complete -c netflow-plan -l convert -r -d "Convert a model with variables to a folder first"
 complete -c netflow-why -l objective -x -d "The objective, if the model has several"
 complete -c netflow-why -l set -x -d "Change a value: NAME=VALUE"
 complete -c netflow-why -l scale -x -d "The factor of a parameter: NAME=FACTOR"
@@ -55,7 +63,9 @@ complete -c netflow-sheet -n "__fish_seen_subcommand_from list" -l set -x -d "Th
 complete -c netflow-sheet -n "__fish_seen_subcommand_from grid" -l turned -d "Rows by the second key"
 complete -c netflow-sheet -n "__fish_seen_subcommand_from list grid" -l scale -x -d "Multiply values: NAME=FACTOR"
 complete -c netflow-sheet -n "__fish_seen_subcommand_from list grid" -l comma -d "Decimals have a comma"
-for tool in netflow-why netflow-explain netflow-report netflow-sheet
+complete -c netflow-convert -l output -x -a "(__fish_complete_directories)" -d "Where the new files are written"
+complete -c netflow-convert -l force -d "Replace files that exist"
+for tool in netflow-plan netflow-why netflow-explain netflow-report netflow-sheet netflow-convert
     complete -c $tool -l version -d "Print the version"
     complete -c $tool -s h -l help -d "Print help"
 end

@@ -7,10 +7,9 @@ import pathlib
 import shlex
 import shutil
 import subprocess
-import sys
 import tempfile
 
-from build.retarget import Unknown, retargeted
+from web.build.retarget import Unknown, retargeted
 
 TOP = pathlib.Path(__file__).resolve().parent.parent.parent
 CRATE = "net_web"
@@ -53,7 +52,6 @@ class Kit:
             raise Failed(f"the toolchain is {words[0]}, and the module's forms are known for {' and '.join(TOOLCHAINS)} only; "
                          "--any-toolchain tries it, and compare the page with the program then (scripts/check_web)")
         self.name = words[0]
-        sys.path.insert(0, str(TOP / "scripts"))
         from lib import prover  # it loads rt as a module, and needs the toolchain
         self.prover = prover
         self.folder = pathlib.Path(prover.RT.rtlib.KIT)

@@ -10,7 +10,7 @@ import shutil
 import subprocess
 import sys
 
-from build import page
+from web.build import page
 
 TOP = page.TOP
 OUT = TOP / "web" / "out"

@@ -10,7 +10,7 @@ import pathlib
 import re
 from html import escape
 
-from build.markdown import Document, rendered
+from web.build.markdown import Document, rendered
 
 TOP = pathlib.Path(__file__).resolve().parent.parent.parent
 PAGE = TOP / "web" / "page"

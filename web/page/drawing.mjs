@@ -2,10 +2,11 @@
 // python/netflow/report/drawing.py: a test compares the drawings.
 import { absolute } from './numbers.mjs';
 import { components } from './layout.mjs';
+import { spoken } from './names.mjs';
 import { Picture, STUB, stubKey } from './picture.mjs';
 
 // From this width on a drawing is tried from top to bottom. From this height on, with so few layers, its components are apart.
-const WIDE = 1400, HIGH = 700, FLAT = 4, MARGIN = 12;
+const WIDE = 1400, HIGH = 700, FLAT = 4, MARGIN = 12, BAND = 36;
 const KINDS = ['idle', 'used', 'full', 'across'];
 
 const ENTITIES = { '&': '&amp;', '<': '&lt;', '>': '&gt;', '"': '&quot;', "'": '&#x27;' };
@@ -152,8 +153,8 @@ class Drawing extends Picture {
     const path = `M${spot(curves[0][0])}${curves.map(([, b, c, d]) => `C${spot(b)} ${spot(c)} ${spot(d)}`).join('')}`;
     const width = flow ? 1.2 + (most > 1 ? 4.8 : 0.8) * Math.sqrt(flow / most) : kind === 'across' ? 2.5 : 1.2;
     const ends = [...new Set([arc.src, arc.dst])].filter(it => it !== null).sort((one, two) => one - two).map(it => `n${it}`).join(' ');
-    const between = `${this.network.end(arc.src)} to ${this.network.end(arc.dst)}`;
-    const said = `${arc.text}: ${between}, ${arc.flow} of ${arc.lower} to ${arc.upper}, price ${arc.price}`;
+    const between = `${spoken(this.network.end(arc.src))} to ${spoken(this.network.end(arc.dst))}`;
+    const said = `${spoken(arc.text)}: ${between}, ${arc.flow} of ${arc.lower} to ${arc.upper}, price ${arc.price}`;
     const line = `<path d="${path}" stroke-width="${width.toFixed(1)}" marker-end="url(#${kind})"/>`;
     const drawn = `<g class="arc ${kind} ${ends}"><title>${escaped(said)}</title>${line}</g>`;
     const text = this.number(arc);
@@ -161,7 +162,9 @@ class Drawing extends Picture {
     const half = this.textWidth(text) / 2;
     const [x, y] = this.isSmall ? this.textPlace(arc, text, curves) : along(curves[Math.floor(curves.length / 2)], 0.5);
     this.reach.push([x - half, y - 8, x + half, y + 8]);
-    return [drawn, `<g class="arc number ${ends}"><text x="${rounded(x)}" y="${rounded(y + 4)}">${text}</text></g>`];
+    // The background keeps a line from being read as a part of a digit or a decimal point.
+    const back = `<rect x="${rounded(x - half)}" y="${rounded(y - 8)}" width="${rounded(2 * half)}" height="16" rx="3"/>`;
+    return [drawn, `<g class="arc number ${ends}">${back}<text x="${rounded(x)}" y="${rounded(y + 4)}">${text}</text></g>`];
   }
 
   nodeSvg(number) {
@@ -169,7 +172,7 @@ class Drawing extends Picture {
     const lines = this.label(number), node = this.network.nodes[number], wish = node.wish().split(' ')[0];
     const kind = this.marked.has(number) ? 'marked' : wish === 'gives' || wish === 'needs' ? wish : 'plain', first = y + 4 - 7.5 * (lines.length - 1);
     const texts = lines.map((it, here) => `<text class="line${here}" x="${rounded(x)}" y="${rounded(first + 15 * here)}">${escaped(it)}</text>`).join('');
-    const said = `${node.text}: ${node.wish() || 'passes on what it gets'}`;
+    const said = `${spoken(node.text)}: ${node.wish() || 'passes on what it gets'}`;
     const rect = `<rect x="${rounded(x - wide / 2)}" y="${rounded(y - high / 2)}" width="${rounded(wide)}" height="${rounded(high)}" rx="5"/>`;
     return `<g class="node ${kind}" id="n${number}" tabindex="0"><title>${escaped(said)}</title>${rect}${texts}</g>`;
   }
@@ -189,6 +192,24 @@ class Drawing extends Picture {
     return this.parts.map((it, here) => it.sheetSvg(most, here ? '' : defs)).join('\n');
   }
 
+  /** Returns the titles of the periods, before or above their layers, with a line between two of them. */
+  bandsSvg() {
+    if (!this.bands.length) return [];
+    const side = (place, pick) => this.reach.reduce((best, it) => pick(best, it[place]), this.reach[0][place]), made = [];
+    const [start, far] = this.isDown ? [side(0, Math.min), side(2, Math.max)] : [side(1, Math.min), side(3, Math.max)];
+    let edge = 0;
+    this.bands.forEach(([title, first, last], here) => {
+      const inside = this.nodes.filter(it => first <= this.layer.get(it) && this.layer.get(it) <= last);
+      const low = Math.min(...inside.map(it => this.u.get(it) - this.half(it))), high = Math.max(...inside.map(it => this.u.get(it) + this.half(it)));
+      if (here) made.push(`<path class="band" d="M${spot(this.xy((edge + low) / 2, start - BAND))}L${spot(this.xy((edge + low) / 2, far))}"/>`);
+      const [x, y] = this.xy((low + high) / 2, start - BAND / 2);
+      made.push(`<text class="period" x="${rounded(x)}" y="${rounded(y + 4)}">${escaped(title)}</text>`);
+      this.reach.push([x - 16, y - 8, x + 16, y + 8]);
+      edge = high;
+    });
+    return made;
+  }
+
   /** Returns one picture, cut to what it shows; an arc that carries `most` has the thickest line. */
   sheetSvg(most, defs) {
     this.boxes = this.nodes.map(it => this.box(it));
@@ -197,10 +218,10 @@ class Drawing extends Picture {
     const drawn = [...this.arcs].sort((one, two) => strength(one)[0] - strength(two)[0] || strength(one)[1] - strength(two)[1]);
     // Numbers are placed from the largest flow on; arcs are drawn from the smallest.
     const arcs = new Map([...drawn].reverse().map(it => [it, this.arcSvg(it, most)]));
-    const side = (place, pick) => Math.floor(this.reach.reduce((best, it) => pick(best, it[place]), this.reach[0][place]));
+    const bands = this.bandsSvg(), side = (place, pick) => Math.floor(this.reach.reduce((best, it) => pick(best, it[place]), this.reach[0][place]));
     const left = side(0, Math.min), top = side(1, Math.min), wide = side(2, Math.max) - left + 2 * MARGIN, high = side(3, Math.max) - top + 2 * MARGIN;
     const sheet = `${this.isSmall ? '' : 'class="large" '}width="${wide}" height="${high}" viewBox="${left - MARGIN} ${top - MARGIN} ${wide} ${high}"`;
-    const shapes = [...drawn.map(it => arcs.get(it)[0]), ...drawn.map(it => arcs.get(it)[1]), ...this.nodes.map(it => this.nodeSvg(it))];
+    const shapes = [...bands, ...drawn.map(it => arcs.get(it)[0]), ...drawn.map(it => arcs.get(it)[1]), ...this.nodes.map(it => this.nodeSvg(it))];
     return `<svg xmlns="http://www.w3.org/2000/svg" role="img" aria-label="the network" ${sheet}>${defs}${shapes.join('\n')}</svg>`;
   }
 }

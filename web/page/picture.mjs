@@ -1,6 +1,8 @@
 // The sizes and positions of a drawing. The twin of the first half of python/netflow/report/drawing.py: a test compares the drawings.
 import { grouped } from './numbers.mjs';
 import { Bend, apart, hasCycle, layers, listAt, mean } from './layout.mjs';
+import { spoken } from './names.mjs';
+import { periodLayers } from './periods.mjs';
 
 const LETTER = 7.4, LABELLED = 60, SWEEPS = 24, SETTLINGS = 16;
 // Pixels: between the ends of arcs with a number, of other arcs, and the length of an arc from or to the outside.
@@ -28,11 +30,17 @@ export class Picture {
     this.links = arcs.filter(it => it.src !== null && it.dst !== null && it.src !== it.dst);
     this.stubs = new Map();
     for (const arc of arcs) if ((arc.src === null) !== (arc.dst === null)) listAt(this.stubs, stubKey(arc.src, arc.dst)).push(arc);
-    this.layer = layers(this.nodes, part?.known ?? network.arcs);
-    const level = this.links.filter(it => this.layer.get(it.src) === this.layer.get(it.dst)).length;
-    if (3 * level > this.links.length && !hasCycle(this.nodes, this.links)) this.layer = layers(this.nodes, this.links);
+    const known = part?.known ?? network.arcs, byPeriod = periodLayers(network, this.nodes, known);
+    this.bands = byPeriod?.bands ?? [];
+    this.layer = byPeriod?.layer ?? this.ranked(known);
     this.measure();
     this.place();
+  }
+
+  /** Returns layers by rank. If arcs lead from anywhere to anywhere, only those that are drawn have an order. */
+  ranked(known) {
+    const found = layers(this.nodes, known), level = this.links.filter(it => found.get(it.src) === found.get(it.dst)).length;
+    return 3 * level > this.links.length && !hasCycle(this.nodes, this.links) ? layers(this.nodes, this.links) : found;
   }
 
   textWidth(text) {
@@ -46,13 +54,9 @@ export class Picture {
 
   /** Returns the lines of a node: its name, and in a small picture what it needs or gives. */
   label(number) {
-    const node = this.network.nodes[number], bracket = node.text.indexOf('[');
-    const name = bracket < 0 ? node.text : node.text.slice(0, bracket);
-    const key = bracket < 0 ? '' : node.text.slice(bracket + 1, -1).replaceAll("''", '\u2019').replaceAll("'", '').replaceAll(',', ' ');
-    const named = bracket < 0 ? name : key.toLowerCase().startsWith(name.toLowerCase()) ? key : `${name} ${key}`;
-    const lines = [named, this.isSmall ? node.wish() : ''].filter(Boolean);
-    const cut = lines.map(it => (columns(it) <= MOST_LETTERS ? it : `${[...it].slice(0, MOST_LETTERS - 1).join('')}\u2026`));
-    return cut.length ? cut : [name];
+    const node = this.network.nodes[number], found = [spoken(node.text), this.isSmall ? node.wish() : ''].filter(Boolean);
+    const lines = found.length ? found : [node.text.split('[')[0]];
+    return lines.map(it => (columns(it) <= MOST_LETTERS ? it : `${[...it].slice(0, MOST_LETTERS - 1).join('')}\u2026`));
   }
 
   /** Sets the width and height of each node: room for its name, and for the ends of its arcs on each side. */

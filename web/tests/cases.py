@@ -6,7 +6,6 @@ import importlib.util
 import pathlib
 import random
 import subprocess
-import sys
 import tempfile
 
 TOP = pathlib.Path(__file__).resolve().parent.parent.parent
@@ -69,7 +68,6 @@ class Recorder:
     """Runs the program for the checks of scripts/check_examples, and keeps each call with its answer once."""
 
     def __init__(self):
-        sys.path.insert(0, str(TOP / "scripts"))
         from lib.examples import folders, inputs, pages, program, rows, streams
         self.modules, self.run_program, self.cases = (folders, inputs, pages, rows, streams), program.run, {}
 

@@ -6,8 +6,8 @@ import shutil
 import subprocess
 import tempfile
 
-from build import outputs
-from tests import cases
+from web.build import outputs
+from web.tests import cases
 
 PROGRAM = outputs.OUT / outputs.NODE
 

@@ -6,8 +6,8 @@ import random
 import subprocess
 import tempfile
 
-from build import outputs
-from tests import cases, targets
+from web.build import outputs
+from web.tests import cases, targets
 
 PROGRAM_EACH = 20
 ROOM = 1 << 22

@@ -3,7 +3,7 @@ import statistics
 import subprocess
 import time
 
-from tests import cases, targets
+from web.tests import cases, targets
 
 NODES, ARCS, SEED, RUNS = 10_000, 98_000, 1, 5
 # The most that the page may take: times the program's time, seconds from pressing Solve, bytes.

@@ -5,8 +5,8 @@ import pathlib
 import subprocess
 import tempfile
 
-from build import outputs
-from tests import browsers
+from web.build import outputs
+from web.tests import browsers
 
 HERE = outputs.TOP / "web" / "tests"
 

@@ -6,7 +6,7 @@ import subprocess
 import sys
 import tempfile
 
-from tests import cases
+from web.tests import cases
 
 TOP = cases.TOP
 
@@ -29,7 +29,6 @@ class Twin:
 
 def compare():
     """Returns how much was compared, and complaints."""
-    sys.path.insert(0, str(TOP / "python"))
     twin, complaints = Twin(), []
     try:
         counts = [compare_drawings(twin, complaints), compare_headings(twin, complaints), compare_tables(twin, complaints)]
@@ -48,6 +47,13 @@ def drawn_models():
             arcs = f"arc X {{i in 1..{size}, j in 1..{size}: {shape}}} >= 0, <= 9 + i, from N[i], to N[j], obj C (i * j mod 11 - {number});"
             ends = f"arc In {{i in 1..3}} >= 0, <= 5, to N[i]; arc Out {{i in {size - 2}..{size}}} >= 0, <= 9, from N[i], obj C -20;"
             yield f"minimize C; node N {{i in 1..{size}}}; {arcs} {ends}".encode(), b""
+    # Networks over periods: plants, depots and shops in each.
+    for periods in (2, 5, 9):
+        nodes = f"node Plant {{p in 1..2, t in 1..{periods}}}: net_out <= 30; node Depot {{d in {{'a', 'b', 'c'}}, t in 1..{periods}}}; node Shop {{s in 1..4, t in 1..{periods}}}: net_in = 2 + (s * t mod 5);"
+        arcs = (f"arc Haul {{p in 1..2, d in {{'a', 'b', 'c'}}, t in 1..{periods}}} >= 0, <= 9, from Plant[p,t], to Depot[d,t], obj C 3 * p;"
+                f" arc Keep {{d in {{'a', 'b', 'c'}}, t in 1..{periods - 1}}} >= 0, <= 5, from Depot[d,t], to Depot[d,t + 1], obj C 1;"
+                f" arc Send {{d in {{'a', 'b', 'c'}}, s in 1..4, t in 1..{periods}}} >= 0, <= 8, from Depot[d,t], to Shop[s,t], obj C s;")
+        yield f"minimize C; {nodes} {arcs}".encode(), b""
 
 
 def compare_drawings(twin, complaints):

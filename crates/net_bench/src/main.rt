@@ -6,7 +6,7 @@ use net_data::parse_data;
 use net_dimacs::{read_problem, write_problem};
 use net_lex::{lex_data, lex_model};
 use net_model::{free_model, parse_declarations};
-use net_resolve::check_names;
+use net_names::check_names;
 use net_sets::HashKey;
 use net_solve::{Plain, Scaling, ScalingRun, Settled, settle, solve, solve_problem};
 use std::alloc::{AllocError, Global};

@@ -13,7 +13,7 @@ use Rattle.net_data.specs.declared.statement.NamedSet.{NamedSet}
 use Rattle.net_data.specs.declared.statement.Statement.{Statement}
 use Rattle.net_data.specs.declared.statement.Statement.TheVariants.{Set, List as Listed, Table, Columns}
 use Rattle.net_data.specs.declared.statement.Single.{Single}
-use Rattle.net_data.specs.Commas.{Place, before, elsewhere}
+use Rattle.net_data.specs.Commas.{TokenPlace, before, elsewhere}
 use Rattle.net_data.specs.Tests.{is_name, is_member, is_cell, is_word, is_mark}
 use Rattle.net_data.specs.Printing.{put, put_default, put_given, put_transposed, put_set, put_all, put_single}
 use Rattle.net_data.specs.Reading.{check_rows, fills, stop, last_span}
@@ -25,13 +25,13 @@ use Rattle.net_data.proofs.Steps.{Moves, to_set, to_else, in_set_name, in_set_ma
 use Rattle.net_data.proofs.GrammarTerms.{Agrees, then, restated, only, nothing_agrees, tokens_agree, a_token, decides_name, decides_member, decides_cell, decides_word, decides_mark}
 use Rattle.net_data.proofs.GrammarItems.{items_agree}
 
-a_word : {here there : Place} (text : List ℕ) (t : Token) → Moves here there (is_word text) → Agrees (grammar.word text t) here there (λ ts. t ∷ ts) (is_word text t ≡ true)
+a_word : {here there : TokenPlace} (text : List ℕ) (t : Token) → Moves here there (is_word text) → Agrees (grammar.word text t) here there (λ ts. t ∷ ts) (is_word text t ≡ true)
 a_word text t m = a_token t (decides_word text) m (word-mark (codes ",") text t)
 
-a_mark : {here there : Place} (text : List ℕ) (t : Token) → bytes_eq (codes ",") text ≡ false → Moves here there (is_mark text) → Agrees (grammar.mark text t) here there (λ ts. t ∷ ts) (is_mark text t ≡ true)
+a_mark : {here there : TokenPlace} (text : List ℕ) (t : Token) → bytes_eq (codes ",") text ≡ false → Moves here there (is_mark text) → Agrees (grammar.mark text t) here there (λ ts. t ∷ ts) (is_mark text t ≡ true)
 a_mark text t other m = a_token t (decides_mark text) m (mark-mark text (codes ",") t other)
 
-a_name : {here there : Place} (t : Token) → Moves here there is_name → Agrees (grammar.name t) here there (λ ts. t ∷ ts) (is_name t ≡ true)
+a_name : {here there : TokenPlace} (t : Token) → Moves here there is_name → Agrees (grammar.name t) here there (λ ts. t ∷ ts) (is_name t ≡ true)
 a_name t m = a_token t decides_name m (name-mark (codes ",") t)
 
 a_member : (t : Token) → Agrees (grammar.member t) elsewhere elsewhere (λ ts. t ∷ ts) (is_member t ≡ true)

@@ -8,7 +8,7 @@ use Rattle.net_lex.specs.declared.token.Kind.{Kind}
 use Rattle.net_lex.specs.declared.token.Kind.TheVariants.{Name, Key, Num, Str, Mark, Dot}
 use Rattle.net_lex.specs.declared.token.Token.{Token}
 use Rattle.net_lex.specs.Productions.{◌⨾◌, token}
-use Rattle.net_data.specs.Commas.{Place, place_after, skips, bare}
+use Rattle.net_data.specs.Commas.{TokenPlace, place_after, skips, bare}
 use Rattle.net_data.specs.Tests.{names, stands_for_member, fills_cell, marks, is_name, is_member, is_cell, is_word, is_mark, is_comma}
 use Rattle.net_data.specs.Reading.{front}
 use Rattle.net_data.specs.Grammar.{Production, many, each, provided, comma, spaced, IsMember}
@@ -16,11 +16,11 @@ use Rattle.net_data.proofs.Bare.{next, nothing}
 use Rattle.net_data.proofs.Steps.{Moves}
 
 -- a production derives, from one place to another, exactly what this function prints if this fact holds
-pub record Agrees (P : Production) (here there : Place) (print : List Token → List Token) (Fact : Type 0) : Type 0 where
+pub record Agrees (P : Production) (here there : TokenPlace) (print : List Token → List Token) (Fact : Type 0) : Type 0 where
   pub sound : (tokens rest : List Token) → P tokens rest → (bare here tokens ≡ print (bare there rest)) × Fact
   pub complete : (tokens more : List Token) → Fact → bare here tokens ≡ print more → (rest : List Token) × P tokens rest × (bare there rest ≡ more)
 
-pub then : {P Q : Production} {a b c : Place} {f g : List Token → List Token} {F G : Type 0} → Agrees P a b f F → Agrees Q b c g G → Agrees (P ⨾ Q) a c (λ ts. f (g ts)) (F × G)
+pub then : {P Q : Production} {a b c : TokenPlace} {f g : List Token → List Token} {F G : Type 0} → Agrees P a b f F → Agrees Q b c g G → Agrees (P ⨾ Q) a c (λ ts. f (g ts)) (F × G)
 then {f} {g} p q = record {
   sound = λ tokens rest (middle, x, y).
       let u = p.sound tokens middle x in let v = q.sound middle rest y in (u.0 ∙ ap f v.0, (u.1, v.1));
@@ -29,13 +29,13 @@ then {f} {g} p q = record {
 }
 
 -- the same, with an equivalent fact
-pub restated : {P : Production} {a b : Place} {f : List Token → List Token} {F G : Type 0} → Agrees P a b f F → (F → G) → (G → F) → Agrees P a b f G
+pub restated : {P : Production} {a b : TokenPlace} {f : List Token → List Token} {F G : Type 0} → Agrees P a b f F → (F → G) → (G → F) → Agrees P a b f G
 restated p to from = record {
   sound = λ tokens rest x. let u = p.sound tokens rest x in (u.0, to u.1);
   complete = λ tokens more x h. p.complete tokens more (from x) h;
 }
 
-pub only : (a : Place) (C : Type 0) → Agrees (provided C) a a (λ ts. ts) C
+pub only : (a : TokenPlace) (C : Type 0) → Agrees (provided C) a a (λ ts. ts) C
 only a C = record {
   sound = λ tokens rest (x, same). (ap (bare a) same, x);
   complete = λ tokens more x h. (tokens, (x, refl), h);
@@ -107,7 +107,7 @@ decides_mark text = record {
 }
 
 -- skipped commas are not printed
-pub commas_bare : (place : Place) (tokens rest : List Token) → skips place ≡ true → many comma tokens rest → bare place tokens ≡ bare place rest
+pub commas_bare : (place : TokenPlace) (tokens rest : List Token) → skips place ≡ true → many comma tokens rest → bare place tokens ≡ bare place rest
 commas_bare place tokens rest outside many.none = refl
 commas_bare place tokens rest outside (many.more {middle} (t, is, same) commas) =
     let comma : is_comma t ≡ true = (decides_mark (codes ",")).from t is in
@@ -136,20 +136,20 @@ front_none_commas [] h = many.none
 front_none_commas (u ∷ tokens) h = end_commas_at u tokens (is_comma u) refl (front_none_commas tokens) h
 
 -- if no other tokens are left
-pub end_commas : (place : Place) (tokens : List Token) → skips place ≡ true → bare place tokens ≡ [] → many comma tokens []
+pub end_commas : (place : TokenPlace) (tokens : List Token) → skips place ≡ true → bare place tokens ≡ [] → many comma tokens []
 end_commas place tokens outside h = front_none_commas tokens (nothing place tokens outside h)
 
 -- commas, and then the first token that is printed
-pub record Skips (place : Place) (tokens : List Token) (t : Token) (more : List Token) : Type 0 where
+pub record Skips (place : TokenPlace) (tokens : List Token) (t : Token) (more : List Token) : Type 0 where
   pub rest : List Token
   pub commas : many comma tokens (t ∷ rest)
   pub left : bare (place_after place t) rest ≡ more
 
-pub skip : (place : Place) (tokens more : List Token) (t : Token) → skips place ≡ true → bare place tokens ≡ t ∷ more → Skips place tokens t more
+pub skip : (place : TokenPlace) (tokens more : List Token) (t : Token) → skips place ≡ true → bare place tokens ≡ t ∷ more → Skips place tokens t more
 skip place tokens more t outside h = let n = next place tokens more t outside h in record { rest = n.rest; commas = front_commas tokens n.rest t n.front; left = n.left }
 
 -- a token that the grammar derives passes its test
-pub a_token : {test : Token → Bool} {P : Token → Type 0} {here there : Place} (t : Token) → Decides test P → Moves here there test → (test t ≡ true → is_comma t ≡ false)
+pub a_token : {test : Token → Bool} {P : Token → Type 0} {here there : TokenPlace} (t : Token) → Decides test P → Moves here there test → (test t ≡ true → is_comma t ≡ false)
     → Agrees (spaced (token P) (t ∷ [])) here there (λ ts. t ∷ ts) (test t ≡ true)
 a_token {test} {P} {here} {there} t d m no_comma = record {
   sound = λ tokens rest ((u, is, same), commas).
@@ -166,10 +166,10 @@ a_token {test} {P} {here} {there} t d m no_comma = record {
       (s.rest, ((t, d.to t pass, refl), s.commas), left);
 }
 
-pub nothing_agrees : (a : Place) → Agrees (λ ts rest. ts ≡ rest) a a (λ ts. ts) (Unit {0})
+pub nothing_agrees : (a : TokenPlace) → Agrees (λ ts rest. ts ≡ rest) a a (λ ts. ts) (Unit {0})
 nothing_agrees a = record { sound = λ tokens rest same. (ap (bare a) same, tt); complete = λ tokens more x h. (tokens, refl, h) }
 
-pub tokens_agree : {test : Token → Bool} {P : Token → Type 0} {a : Place} (xs : List Token) → Decides test P → Moves a a test → ((t : Token) → test t ≡ true → is_comma t ≡ false)
+pub tokens_agree : {test : Token → Bool} {P : Token → Type 0} {a : TokenPlace} (xs : List Token) → Decides test P → Moves a a test → ((t : Token) → test t ≡ true → is_comma t ≡ false)
     → Agrees (each (λ t. spaced (token P) (t ∷ [])) xs) a a (λ ts. xs ++ ts) (list_all test xs ≡ true)
 tokens_agree {a} [] d m no_comma = restated (nothing_agrees a) (λ x. refl) (λ x. tt)
 tokens_agree {test} (x ∷ xs) d m no_comma = restated (then (a_token x d m (no_comma x)) (tokens_agree xs d m no_comma)) (λ (h, k). and_from (test x) (list_all test xs) h k) (λ h. and_parts (test x) (list_all test xs) h)

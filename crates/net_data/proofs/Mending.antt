@@ -5,7 +5,7 @@ use Rattle.net_lex.specs.declared.token.Token.{Token}
 use Rattle.net_base.specs.declared.error_code.ErrorCode.TheVariants.{DataSyntax}
 use Rattle.net_data.specs.declared.data_parser.ParseError.{ParseError}
 use Rattle.net_data.specs.Tests.{is_comma}
-use Rattle.net_data.specs.Commas.{Place, place_after, skips, bare}
+use Rattle.net_data.specs.Commas.{TokenPlace, place_after, skips, bare}
 use Rattle.net_data.specs.Reading.{Read, stop, front, met, wanted, ◌>>=◌}
 use Rattle.net_data.proofs.Lookahead.{err_is, ok_parts}
 use Rattle.net_data.proofs.NextToken.{wanted_of, wanted_is, met_parts}
@@ -22,14 +22,14 @@ place_of [] = None
 place_of (t ∷ ts) = Some t.span
 
 -- A thing that fits. Before it stand tokens that w prints; then the tokens of front, from the place p on, and others, which lead to the place q.
-pub record Begun {A : Type 0} (K : Written A) (p q : Place) (w : List Token → List Token) (front : List Token) : Type 0 where
+pub record Begun {A : Type 0} (K : Written A) (p q : TokenPlace) (w : List Token → List Token) (front : List Token) : Type 0 where
   pub thing : A
   pub fits : K.fits thing
   pub rest : List Token
   pub text : (r : List Token) → K.put thing (bare q r) ≡ w (bare p (front ++ (rest ++ r)))
 
 -- the tokens before the stop begin a thing
-pub record Mended {A : Type 0} (K : Written A) (p q : Place) (w : List Token → List Token) (tokens : List Token) (at : Option Span) : Type 0 where
+pub record Mended {A : Type 0} (K : Written A) (p q : TokenPlace) (w : List Token → List Token) (tokens : List Token) (at : Option Span) : Type 0 where
   pub before : List Token
   pub left : List Token
   pub parts : tokens ≡ before ++ left
@@ -37,16 +37,16 @@ pub record Mended {A : Type 0} (K : Written A) (p q : Place) (w : List Token →
   pub begun : Begun K p q w before
 
 -- the tokens before what is left are a thing, whatever comes behind
-pub record Crossed {A : Type 0} (K : Written A) (p q : Place) (w : List Token → List Token) (tokens : List Token) (x : A) (rest : List Token) : Type 0 where
+pub record Crossed {A : Type 0} (K : Written A) (p q : TokenPlace) (w : List Token → List Token) (tokens : List Token) (x : A) (rest : List Token) : Type 0 where
   pub front : List Token
   pub parts : tokens ≡ front ++ rest
   pub fits : K.fits x
   pub text : (r : List Token) → K.put x (bare q r) ≡ w (bare p (front ++ r))
 
-abbrev pub Mending : {A B : Type 0} → Written A → Place → Place → (List Token → List Token) → List Token → Result B ParseError → Type 0
+abbrev pub Mending : {A B : Type 0} → Written A → TokenPlace → TokenPlace → (List Token → List Token) → List Token → Result B ParseError → Type 0
 Mending K p q w tokens read = (e : ParseError) → read ≡ Err e → e.error_code ≡ DataSyntax → Mended K p q w tokens e.at
 
-pub record Reads {A : Type 0} (K : Written A) (p q : Place) (w : List Token → List Token) (tokens : List Token) (read : Read A) : Type 0 where
+pub record Reads {A : Type 0} (K : Written A) (p q : TokenPlace) (w : List Token → List Token) (tokens : List Token) (read : Read A) : Type 0 where
   pub crosses : (x : A) (rest : List Token) → read ≡ Ok (x, rest) → Crossed K p q w tokens x rest
   pub mends : Mending K p q w tokens read
 
@@ -54,7 +54,7 @@ abbrev pub same : List Token → List Token
 same r = r
 
 -- what ends a part, and then the whole
-through : {A B : Type 0} (K : Written A) (L : Written B) (p m q : Place) (w : List Token → List Token) (front : List Token)
+through : {A B : Type 0} (K : Written A) (L : Written B) (p m q : TokenPlace) (w : List Token → List Token) (front : List Token)
     → (b : Begun K p m same front) → Begun L m q (λ r. w (K.put b.thing r)) [] → Begun L p q w front
 through K L p m q w front b c = record {
   thing = c.thing;
@@ -63,7 +63,7 @@ through K L p m q w front b c = record {
   text = λ r. c.text r ∙ ap w (b.text (c.rest ++ r)) ∙ ap (λ k. w (bare p (front ++ k))) (sym (append_assoc b.rest c.rest r));
 }
 
-part-stops : {A B : Type 0} (K : Written A) (L : Written B) (p m q : Place) (w : List Token → List Token) (tokens : List Token) (at : Option Span)
+part-stops : {A B : Type 0} (K : Written A) (L : Written B) (p m q : TokenPlace) (w : List Token → List Token) (tokens : List Token) (at : Option Span)
     → ((x : A) → K.fits x → Begun L m q (λ r. w (K.put x r)) []) → Mended K p m same tokens at → Mended L p q w tokens at
 part-stops K L p m q w tokens at ends h = record {
   before = h.before;
@@ -73,7 +73,7 @@ part-stops K L p m q w tokens at ends h = record {
   begun = through K L p m q w h.before h.begun (ends h.begun.thing h.begun.fits);
 }
 
-rest-stops : {A B : Type 0} (K : Written A) (L : Written B) (p m q : Place) (w : List Token → List Token) (tokens : List Token) (x : A) (rest : List Token) (at : Option Span)
+rest-stops : {A B : Type 0} (K : Written A) (L : Written B) (p m q : TokenPlace) (w : List Token → List Token) (tokens : List Token) (x : A) (rest : List Token) (at : Option Span)
     → Crossed K p m same tokens x rest → Mended L m q (λ r. w (K.put x r)) rest at → Mended L p q w tokens at
 rest-stops K L p m q w tokens x rest at c h = record {
   before = c.front ++ h.before;
@@ -88,7 +88,7 @@ rest-stops K L p m q w tokens x rest at c h = record {
   };
 }
 
-rest-crosses : {A B : Type 0} (K : Written A) (L : Written B) (p m q : Place) (w : List Token → List Token) (tokens : List Token) (x : A) (rest : List Token) (y : B) (last : List Token)
+rest-crosses : {A B : Type 0} (K : Written A) (L : Written B) (p m q : TokenPlace) (w : List Token → List Token) (tokens : List Token) (x : A) (rest : List Token) (y : B) (last : List Token)
     → Crossed K p m same tokens x rest → Crossed L m q (λ r. w (K.put x r)) rest y last → Crossed L p q w tokens y last
 rest-crosses K L p m q w tokens x rest y last c h = record {
   front = c.front ++ h.front;
@@ -98,7 +98,7 @@ rest-crosses K L p m q w tokens x rest y last c h = record {
 }
 
 -- a part, and what stops behind it
-pub then_mends : {A B C : Type 0} (K : Written A) (L : Written B) (p m q : Place) (w : List Token → List Token) (tokens : List Token) (f : Read A) (k : A × List Token → Result C ParseError)
+pub then_mends : {A B C : Type 0} (K : Written A) (L : Written B) (p m q : TokenPlace) (w : List Token → List Token) (tokens : List Token) (f : Read A) (k : A × List Token → Result C ParseError)
     → Reads K p m same tokens f
     → ((x : A) → K.fits x → Begun L m q (λ r. w (K.put x r)) [])
     → ((x : A) (rest : List Token) → f ≡ Ok (x, rest) → K.fits x → Mending L m q (λ r. w (K.put x r)) rest (k (x, rest)))
@@ -110,7 +110,7 @@ then_mends {A} K L p m q w tokens (Err t) k first ends after e h d =
     let i : (let r : Read A = Err t in r ≡ Err e) = ap (λ z. let r : Read A = Err z in r) s in
     part-stops K L p m q w tokens e.at ends (first.mends e i d)
 
-then_crosses : {A B : Type 0} (K : Written A) (L : Written B) (p m q : Place) (w : List Token → List Token) (tokens : List Token) (f : Read A) (k : A × List Token → Read B) (y : B) (last : List Token)
+then_crosses : {A B : Type 0} (K : Written A) (L : Written B) (p m q : TokenPlace) (w : List Token → List Token) (tokens : List Token) (f : Read A) (k : A × List Token → Read B) (y : B) (last : List Token)
     → Reads K p m same tokens f
     → ((x : A) (rest : List Token) → f ≡ Ok (x, rest) → K.fits x → Reads L m q (λ r. w (K.put x r)) rest (k (x, rest)))
     → (f >>= k) ≡ Ok (y, last) → Crossed L p q w tokens y last
@@ -118,7 +118,7 @@ then_crosses K L p m q w tokens (Ok x) k y last first after h =
     let c = first.crosses x.0 x.1 refl in rest-crosses K L p m q w tokens x.0 x.1 y last c ((after x.0 x.1 refl c.fits).crosses y last h)
 then_crosses K L p m q w tokens (Err t) k y last first after h = absurd (cc)
 
-pub then_reads : {A B : Type 0} (K : Written A) (L : Written B) (p m q : Place) (w : List Token → List Token) (tokens : List Token) (f : Read A) (k : A × List Token → Read B)
+pub then_reads : {A B : Type 0} (K : Written A) (L : Written B) (p m q : TokenPlace) (w : List Token → List Token) (tokens : List Token) (f : Read A) (k : A × List Token → Read B)
     → Reads K p m same tokens f
     → ((x : A) → K.fits x → Begun L m q (λ r. w (K.put x r)) [])
     → ((x : A) (rest : List Token) → f ≡ Ok (x, rest) → K.fits x → Reads L m q (λ r. w (K.put x r)) rest (k (x, rest)))
@@ -129,7 +129,7 @@ then_reads K L p m q w tokens f k first ends after = record {
 }
 
 -- what is only told
-pub reported_reads : {A : Type 0} (K : Written A) (q : Place) (w : List Token → List Token) (x : A) (rest : List Token) → K.fits x → ((r : List Token) → K.put x r ≡ w r) → Reads K q q w rest (Ok (x, rest))
+pub reported_reads : {A : Type 0} (K : Written A) (q : TokenPlace) (w : List Token → List Token) (x : A) (rest : List Token) → K.fits x → ((r : List Token) → K.put x r ≡ w r) → Reads K q q w rest (Ok (x, rest))
 reported_reads K q w x rest fits text = record {
   crosses = λ y last h.
       let both = ok_parts x y rest last h in
@@ -145,13 +145,13 @@ token test = record { put = λ t r. t ∷ r; fits = λ t. test t ≡ true }
 pub record After (tokens : List Token) (t : Token) (rest : List Token) : Type 0 where
   pub commas : List Token
   pub parts : tokens ≡ commas ++ t ∷ rest
-  pub skipped : (p : Place) → skips p ≡ true → (r : List Token) → bare p (commas ++ r) ≡ bare p r
+  pub skipped : (p : TokenPlace) → skips p ≡ true → (r : List Token) → bare p (commas ++ r) ≡ bare p r
   pub plain : is_comma t ≡ false
 
-skip : (p : Place) (t : Token) (ts : List Token) → skips p ≡ true → is_comma t ≡ true → bare p (t ∷ ts) ≡ bare p ts
+skip : (p : TokenPlace) (t : Token) (ts : List Token) → skips p ≡ true → is_comma t ≡ true → bare p (t ∷ ts) ≡ bare p ts
 skip p t ts outside is = rw (outside, is) refl
 
-keep : (p : Place) (t : Token) (ts : List Token) → is_comma t ≡ false → bare p (t ∷ ts) ≡ t ∷ bare (place_after p t) ts
+keep : (p : TokenPlace) (t : Token) (ts : List Token) → is_comma t ≡ false → bare p (t ∷ ts) ≡ t ∷ bare (place_after p t) ts
 keep p t ts is = by (skips p)
   where
     by : (b : Bool) → cond (b && is_comma t) (bare p ts) (t ∷ bare (place_after p t) ts) ≡ t ∷ bare (place_after p t) ts
@@ -180,7 +180,7 @@ after_commas (x ∷ xs) t rest h = go (is_comma x) refl h (after_commas xs t res
           plain = ap (λ (z : Token × List Token). is_comma z.0) (sym both) ∙ i;
         }
 
-all_commas : (tokens : List Token) → front tokens ≡ None → (p : Place) → skips p ≡ true → (r : List Token) → bare p (tokens ++ r) ≡ bare p r
+all_commas : (tokens : List Token) → front tokens ≡ None → (p : TokenPlace) → skips p ≡ true → (r : List Token) → bare p (tokens ++ r) ≡ bare p r
 all_commas [] h p outside r = refl
 all_commas (x ∷ xs) h p outside r = go (is_comma x) refl h (λ k. all_commas xs k p outside r)
   where
@@ -193,7 +193,7 @@ span_of_next None = None
 span_of_next (Some x) = Some x.0.span
 
 -- nothing but commas, or commas and a token, before the stop
-pub commas_mend : {A : Type 0} (K : Written A) (p q : Place) (w : List Token → List Token) (tokens : List Token) (e : ParseError) → skips p ≡ true → Begun K p q w []
+pub commas_mend : {A : Type 0} (K : Written A) (p q : TokenPlace) (w : List Token → List Token) (tokens : List Token) (e : ParseError) → skips p ≡ true → Begun K p q w []
     → (o : Option (Token × List Token)) → front tokens ≡ o → e.at ≡ span_of_next o → Mended K p q w tokens e.at
 commas_mend K p q w tokens e outside b None i at = record {
   before = tokens;
@@ -212,7 +212,7 @@ commas_mend K p q w tokens e outside b (Some x) i at =
       begun = record { thing = b.thing; fits = b.fits; rest = b.rest; text = λ r. b.text r ∙ ap w (sym (f.skipped p outside (b.rest ++ r))) };
     }
 
-crossed_token : (p q : Place) (test : Token → Bool) (tokens : List Token) (t : Token) (rest : List Token) → Moves p q test → test t ≡ true → After tokens t rest → Crossed (token test) p q same tokens t rest
+crossed_token : (p q : TokenPlace) (test : Token → Bool) (tokens : List Token) (t : Token) (rest : List Token) → Moves p q test → test t ≡ true → After tokens t rest → Crossed (token test) p q same tokens t rest
 crossed_token p q test tokens t rest m passes f = record {
   front = f.commas ++ t ∷ [];
   parts = f.parts ∙ sym (append_assoc f.commas (t ∷ []) rest);
@@ -225,10 +225,10 @@ crossed_token p q test tokens t rest m passes f = record {
 }
 
 -- a token that would be the wanted one
-token_begun : (p q : Place) (test : Token → Bool) (filler : Token) → Moves p q test → test filler ≡ true → is_comma filler ≡ false → Begun (token test) p q same []
+token_begun : (p q : TokenPlace) (test : Token → Bool) (filler : Token) → Moves p q test → test filler ≡ true → is_comma filler ≡ false → Begun (token test) p q same []
 token_begun p q test filler m passes plain = record { thing = filler; fits = passes; rest = filler ∷ []; text = λ r. ap (λ z. filler ∷ bare z r) (sym (m.moves filler passes)) ∙ sym (keep p filler r plain) }
 
-pub wanted_reads : (p q : Place) (test : Token → Bool) (filler : Token) (tokens : List Token) → Moves p q test → test filler ≡ true → is_comma filler ≡ false → Reads (token test) p q same tokens (wanted test tokens)
+pub wanted_reads : (p q : TokenPlace) (test : Token → Bool) (filler : Token) (tokens : List Token) → Moves p q test → test filler ≡ true → is_comma filler ≡ false → Reads (token test) p q same tokens (wanted test tokens)
 wanted_reads p q test filler tokens m passes plain = subst (Reads (token test) p q same tokens) (sym (wanted_is test tokens)) (go (front tokens) refl)
   where
     by : (x : Token × List Token) → front tokens ≡ Some x → (b : Bool) → test x.0 ≡ b → Reads (token test) p q same tokens (cond b (Ok x) (Err (stop DataSyntax (Some x.0.span))))
@@ -255,7 +255,7 @@ wanted_reads p q test filler tokens m passes plain = subst (Reads (token test) p
     go (Some x) i = by x i (test x.0) refl
 
 -- the next token, which was met, and what is read behind it
-pub next_reads : {A : Type 0} (K : Written A) (p m q : Place) (w : List Token → List Token) (test : Token → Bool) (tokens : List Token) (x : Token × List Token) (read : Read A) → Moves p m test
+pub next_reads : {A : Type 0} (K : Written A) (p m q : TokenPlace) (w : List Token → List Token) (test : Token → Bool) (tokens : List Token) (x : Token × List Token) (read : Read A) → Moves p m test
     → met test tokens ≡ Some x → (test x.0 ≡ true → Reads K m q (λ r. w (x.0 ∷ r)) x.1 read) → Reads K p q w tokens read
 next_reads K p m q w test tokens x read moves i after =
     let f = met_parts test tokens x i in

@@ -8,7 +8,7 @@ use Rattle.net_data.specs.declared.statement.Transposed.{Transposed}
 use Rattle.net_data.specs.declared.statement.Statement.{Statement}
 use Rattle.net_data.specs.declared.statement.Statement.TheVariants as kinds
 use Rattle.net_data.specs.declared.data_parser.ParseError.{ParseError}
-use Rattle.net_data.specs.Commas.{Place, before, in_set, elsewhere, bare}
+use Rattle.net_data.specs.Commas.{TokenPlace, before, in_set, elsewhere, bare}
 use Rattle.net_data.specs.Meaning.{AreItems, IsDefault, IsTransposed, IsStatement}
 use Rattle.net_data.specs.Printing.{put, put_default, put_transposed}
 use Rattle.net_data.specs.Reading.{stop, wanted, items, semicolon, colon, assign, set, headed, heading, cells, check_rows, table, turned, ◌>>=◌}
@@ -112,7 +112,7 @@ cells_reads tokens =
     (λ end r2 e2 ends. reported_reads cells_kind before (λ r. xs ++ end ∷ r) (xs, end) r2 (pass, ends) (λ r. refl)))
 
 -- what is judged and is no fault of the grammar
-judged_reads : {U A : Type 0} (K : Written A) (q : Place) (w : List Token → List Token) (tokens : List Token) (judged : Result U ParseError) (x : A × List Token)
+judged_reads : {U A : Type 0} (K : Written A) (q : TokenPlace) (w : List Token → List Token) (tokens : List Token) (judged : Result U ParseError) (x : A × List Token)
     → ((e : ParseError) → judged ≡ Err e → e.error_code ≡ DataSyntax → ⊥) → Reads K q q w tokens (Ok x) → Reads K q q w tokens (judged >>= (λ u. Ok x))
 judged_reads K q w tokens (Ok u) x never r = r
 judged_reads {U} {A} K q w tokens (Err t) x never r = record {
@@ -166,7 +166,7 @@ made_table keyword name value turned mark key names defaults turns colons = reco
 }
 
 -- a token in between
-with_token : (K : Written Statement) (p q : Place) (w : List Token → List Token) (t : Token) → ((r : List Token) → bare p (t ∷ r) ≡ t ∷ bare p r) → Begun K p q (λ r. w (t ∷ r)) [] → Begun K p q w []
+with_token : (K : Written Statement) (p q : TokenPlace) (w : List Token → List Token) (t : Token) → ((r : List Token) → bare p (t ∷ r) ≡ t ∷ bare p r) → Begun K p q (λ r. w (t ∷ r)) [] → Begun K p q w []
 with_token K p q w t stays b = record { thing = b.thing; fits = b.fits; rest = t ∷ b.rest; text = λ r. b.text r ∙ ap w (sym (stays (b.rest ++ r))) }
 
 pub turned_reads : (keyword name : Token) (value : Option DefaultValue) (opening : Token) (tokens : List Token)

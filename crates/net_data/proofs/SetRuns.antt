@@ -5,7 +5,7 @@ use Rattle.net_lex.specs.declared.token.Token.{Token}
 use Rattle.net_data.specs.declared.members.Spot.{Spot}
 use Rattle.net_data.specs.declared.members.Spot.TheVariants.{Outside, Opened, First, Parted, Later}
 use Rattle.net_data.specs.Tests.{is_member, is_mark, is_comma}
-use Rattle.net_data.specs.Commas.{Place, in_set, in_tuple, place_after, skips, bare}
+use Rattle.net_data.specs.Commas.{TokenPlace, in_set, in_tuple, place_after, skips, bare}
 use Rattle.net_data.specs.Spots.{spot_after, rests}
 use Rattle.net_data.specs.declared.data_parser.ParseError.{ParseError}
 use Rattle.net_base.specs.declared.error_code.ErrorCode.TheVariants.{DataSyntax}
@@ -14,7 +14,7 @@ use Rattle.net_data.specs.Reading.{stop, Read, items_from, items, items_of, with
 use Rattle.net_data.specs.Meaning.{AreItems, IsTupleRest}
 use Rattle.net_data.proofs.Apart.{member-mark, mark-mark, mark-member}
 
-abbrev pub place_of : Spot → Place
+abbrev pub place_of : Spot → TokenPlace
 place_of Outside = in_set
 place_of Opened = in_tuple
 place_of First = in_tuple
@@ -143,10 +143,10 @@ skip_stays First token h = absurd (cc)
 skip_stays Parted token h = absurd (cc)
 skip_stays Later token h = absurd (cc)
 
-pub bare-keep : (place : Place) (token : Token) (tokens : List Token) → (skips place && is_comma token) ≡ false → bare place (token ∷ tokens) ≡ token ∷ bare (place_after place token) tokens
+pub bare-keep : (place : TokenPlace) (token : Token) (tokens : List Token) → (skips place && is_comma token) ≡ false → bare place (token ∷ tokens) ≡ token ∷ bare (place_after place token) tokens
 bare-keep place token tokens h = rw h
 
-pub bare-skip : (place : Place) (token : Token) (tokens : List Token) → (skips place && is_comma token) ≡ true → bare place (token ∷ tokens) ≡ bare place tokens
+pub bare-skip : (place : TokenPlace) (token : Token) (tokens : List Token) → (skips place && is_comma token) ≡ true → bare place (token ∷ tokens) ≡ bare place tokens
 bare-skip place token tokens h = rw h
 
 pub walk_cons : (spot next : Spot) (token : Token) (tokens : List Token) → spot_after spot token ≡ Some next → (skips (place_of spot) && is_comma token) ≡ false → Walk next tokens → Walk spot (token ∷ tokens)

@@ -16,7 +16,7 @@ use Rattle.net_data.specs.declared.statement.Statement.TheVariants.{Set, List as
 use Rattle.net_data.specs.declared.data_parser.ParseError.{ParseError}
 use Rattle.net_data.specs.declared.statement.Single.{Single}
 use Rattle.net_data.specs.declared.statement.Tables.{Tables}
-use Rattle.net_data.specs.Commas.{Place, before, place_after, skips, bare}
+use Rattle.net_data.specs.Commas.{TokenPlace, before, place_after, skips, bare}
 use Rattle.net_data.specs.Tests.{is_comma}
 use Rattle.net_data.specs.Meaning.{Mean}
 use Rattle.net_data.specs.Printing.{put_default, put_given, put_transposed, put_set, put_single, put, put_all}
@@ -30,7 +30,7 @@ use Rattle.net_lex.proofs.Rising.{Rise, rise_ends}
 use Rattle.net_data.specs.Standing.{DefaultToken, GivenTokens, NamedSetToken, AllTokens, SpanOf, TokensHaveSpans, StatementsHaveSpans}
 
 module _ (P : Token → Type 0) where
-  bare_tokens : (p : Place) (ts : List Token) → AllByRecursion P ts → AllByRecursion P (bare p ts)
+  bare_tokens : (p : TokenPlace) (ts : List Token) → AllByRecursion P ts → AllByRecursion P (bare p ts)
   bare_tokens p [] h = tt
   bare_tokens p (t ∷ ts) h = go (skips p && is_comma t) (bare_tokens p ts h.1) (bare_tokens (place_after p t) ts h.1)
     where

@@ -4,13 +4,13 @@ use Rattle.std.specs.Str.{bytes_eq}
 use Rattle.net_lex.specs.declared.token.Token.{Token}
 use Rattle.net_data.specs.declared.data_parser.ParseError.{ParseError}
 use Rattle.net_data.specs.Tests.{is_name, is_member, is_word, is_mark}
-use Rattle.net_data.specs.Commas.{Place, before, in_set, elsewhere, place_after, skips, bare}
+use Rattle.net_data.specs.Commas.{TokenPlace, before, in_set, elsewhere, place_after, skips, bare}
 use Rattle.net_data.specs.Reading.{wanted, met, semicolon, ◌>>=◌}
 use Rattle.net_data.proofs.Bare.{took, took_met, takes}
 use Rattle.net_data.proofs.Places.{after_set, after_word, set_name, set_mark, set_end, else_name, else_member, else_word, else_mark, else_end}
 
 -- a token that passes leads from one place to the other
-pub record Moves (here there : Place) (test : Token → Bool) : Type 0 where
+pub record Moves (here there : TokenPlace) (test : Token → Bool) : Type 0 where
   pub skips : skips here ≡ true
   pub moves : (token : Token) → test token ≡ true → place_after here token ≡ there
 
@@ -45,28 +45,28 @@ pub in_end : Moves elsewhere before semicolon
 in_end = record { skips = refl; moves = else_end }
 
 -- a token that is read is the first that is printed
-pub record Got (here there : Place) (test : Token → Bool) (tokens : List Token) (token : Token) (rest : List Token) : Type 0 where
+pub record Got (here there : TokenPlace) (test : Token → Bool) (tokens : List Token) (token : Token) (rest : List Token) : Type 0 where
   pub printed : bare here tokens ≡ token ∷ bare there rest
   pub passes : test token ≡ true
 
-pub got : (here there : Place) (test : Token → Bool) (tokens : List Token) (x : Token × List Token) → Moves here there test → wanted test tokens ≡ Ok x → Got here there test tokens x.0 x.1
+pub got : (here there : TokenPlace) (test : Token → Bool) (tokens : List Token) (x : Token × List Token) → Moves here there test → wanted test tokens ≡ Ok x → Got here there test tokens x.0 x.1
 got here there test tokens x m h =
     let t = took here test tokens x m.skips h in
     record { printed = t.printed ∙ ap (λ p. x.0 ∷ bare p x.1) (m.moves x.0 t.passes); passes = t.passes }
 
-pub got_met : (here there : Place) (test : Token → Bool) (tokens : List Token) (x : Token × List Token) → Moves here there test → met test tokens ≡ Some x → Got here there test tokens x.0 x.1
+pub got_met : (here there : TokenPlace) (test : Token → Bool) (tokens : List Token) (x : Token × List Token) → Moves here there test → met test tokens ≡ Some x → Got here there test tokens x.0 x.1
 got_met here there test tokens x m h =
     let t = took_met here test tokens x m.skips h in
     record { printed = t.printed ∙ ap (λ p. x.0 ∷ bare p x.1) (m.moves x.0 t.passes); passes = t.passes }
 
 -- the first that is printed, if it passes, is read
-pub record Gives (there : Place) (test : Token → Bool) (tokens : List Token) (token : Token) (more : List Token) : Type 0 where
+pub record Gives (there : TokenPlace) (test : Token → Bool) (tokens : List Token) (token : Token) (more : List Token) : Type 0 where
   pub rest : List Token
   pub read : wanted test tokens ≡ Ok (token, rest)
   pub met : met test tokens ≡ Some (token, rest)
   pub left : bare there rest ≡ more
 
-pub gives : (here there : Place) (test : Token → Bool) (tokens more : List Token) (token : Token) → Moves here there test → bare here tokens ≡ token ∷ more → test token ≡ true → Gives there test tokens token more
+pub gives : (here there : TokenPlace) (test : Token → Bool) (tokens more : List Token) (token : Token) → Moves here there test → bare here tokens ≡ token ∷ more → test token ≡ true → Gives there test tokens token more
 gives here there test tokens more token m h pass =
     let t = takes here test tokens more token m.skips h pass in
     record { rest = t.rest; read = t.read; met = t.met; left = ap (λ p. bare p t.rest) (sym (m.moves token pass)) ∙ t.left }

@@ -13,7 +13,7 @@ use Rattle.net_data.specs.declared.statement.Statement.TheVariants as kinds
 use Rattle.net_data.specs.declared.statement.Single.{Single}
 use Rattle.net_data.specs.declared.statement.Tables.{Tables}
 use Rattle.net_data.specs.Tests.{is_word, is_comma}
-use Rattle.net_data.specs.Commas.{Place, before, elsewhere, place_after, skips, bare}
+use Rattle.net_data.specs.Commas.{TokenPlace, before, elsewhere, place_after, skips, bare}
 use Rattle.net_data.specs.Printing.{put, put_default, put_given, put_transposed, put_set, put_all, put_single}
 use Rattle.net_data.specs.Meaning.{IsSingle, IsStatement, Mean, judged, all_judged, and_then}
 use Rattle.net_data.specs.Reading.{statement, statements, with_statement, single, single_by, finished, finished_by, tables, met, front, semicolon, ◌>>=◌}
@@ -71,12 +71,12 @@ tables-sound tokens x h =
     })
 
 -- how long a printing is at least
-bare-length_at : (place : Place) (token : Token) (tokens : List Token) (b : Bool) → ((p : Place) → length (bare p tokens) ≤ length tokens)
+bare-length_at : (place : TokenPlace) (token : Token) (tokens : List Token) (b : Bool) → ((p : TokenPlace) → length (bare p tokens) ≤ length tokens)
     → length (cond b (bare place tokens) (token ∷ bare (place_after place token) tokens)) ≤ length (token ∷ tokens)
 bare-length_at place token tokens true h = let k = h place in omega arith
 bare-length_at place token tokens false h = let k = h (place_after place token) in omega arith
 
-pub bare-length : (place : Place) (tokens : List Token) → length (bare place tokens) ≤ length tokens
+pub bare-length : (place : TokenPlace) (tokens : List Token) → length (bare place tokens) ≤ length tokens
 bare-length place [] = omega arith
 bare-length place (token ∷ tokens) = bare-length_at place token tokens (skips place && is_comma token) (λ p. bare-length p tokens)
 

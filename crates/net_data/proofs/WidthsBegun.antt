@@ -8,7 +8,7 @@ use Rattle.net_base.specs.declared.error_code.ErrorCode.{ErrorCode}
 use Rattle.net_data.specs.declared.statement.Statement.{Statement}
 use Rattle.net_data.specs.declared.statement.Statement.TheVariants as kinds
 use Rattle.net_data.specs.declared.statement.Single.{Single}
-use Rattle.net_data.specs.Commas.{Place, before, place_after, skips, bare}
+use Rattle.net_data.specs.Commas.{TokenPlace, before, place_after, skips, bare}
 use Rattle.net_data.specs.GoingOn.{BeginsBefore}
 use Rattle.net_data.specs.Meaning.{IsStatement, IsSingle}
 use Rattle.net_data.specs.Printing.{put, put_default, put_transposed, put_set, put_table_heading, put_all, put_single}
@@ -29,27 +29,27 @@ plain_token t h = by (is_comma t) h
     by true k = absurd (cc)
     by false k = refl
 
-keep : (p : Place) (t : Token) (ts : List Token) → is_comma t ≡ false → bare p (t ∷ ts) ≡ t ∷ bare (place_after p t) ts
+keep : (p : TokenPlace) (t : Token) (ts : List Token) → is_comma t ≡ false → bare p (t ∷ ts) ≡ t ∷ bare (place_after p t) ts
 keep p t ts is = by (skips p)
   where
     by : (b : Bool) → cond (b && is_comma t) (bare p ts) (t ∷ bare (place_after p t) ts) ≡ t ∷ bare (place_after p t) ts
     by true = rw is refl
     by false = refl
 
-bare-plain : (p : Place) (ts : List Token) → Plain ts → bare p ts ≡ ts
+bare-plain : (p : TokenPlace) (ts : List Token) → Plain ts → bare p ts ≡ ts
 bare-plain p [] plain = refl
 bare-plain p (t ∷ ts) plain =
     let parts = and_parts (not (is_comma t)) (list_all (λ t. not (is_comma t)) ts) plain in
     keep p t ts (plain_token t parts.0) ∙ ap (λ k. t ∷ k) (bare-plain (place_after p t) ts parts.1)
 
 -- the tokens up to one of those that are printed
-record Split (p : Place) (tokens xs : List Token) (c : Token) : Type 0 where
+record Split (p : TokenPlace) (tokens xs : List Token) (c : Token) : Type 0 where
   front : List Token
   more : List Token
   parts : tokens ≡ front ++ c ∷ more
   text : (ts : List Token) → Plain ts → bare p (front ++ ts) ≡ xs ++ ts
 
-split : (p : Place) (tokens xs : List Token) (c : Token) (ys : List Token) → bare p tokens ≡ xs ++ c ∷ ys → Split p tokens xs c
+split : (p : TokenPlace) (tokens xs : List Token) (c : Token) (ys : List Token) → bare p tokens ≡ xs ++ c ∷ ys → Split p tokens xs c
 split p [] [] c ys h = absurd (cc)
 split p [] (x ∷ xs) c ys h = absurd (cc)
 split p (t ∷ ts) xs c ys h = go (skips p && is_comma t) refl h (λ k. split p ts xs c ys k) (λ us k. split (place_after p t) ts us c ys k)

@@ -15,7 +15,7 @@ use Rattle.net_data.specs.declared.statement.Statement.{Statement}
 use Rattle.net_data.specs.declared.statement.Statement.TheVariants as kinds
 use Rattle.net_data.specs.declared.data_parser.ParseError.{ParseError}
 use Rattle.net_data.specs.declared.statement.Single.{Single}
-use Rattle.net_data.specs.Commas.{Place, before, elsewhere, place_after, skips, bare}
+use Rattle.net_data.specs.Commas.{TokenPlace, before, elsewhere, place_after, skips, bare}
 use Rattle.net_data.specs.Meaning.{IsTransposed, IsTableHeading, IsColumnsHeading, IsStatement, judged, all_judged, and_then}
 use Rattle.net_data.specs.Printing.{put, put_default, put_given, put_transposed, put_set, put_table_heading, put_columns_heading, put_all, put_single}
 use Rattle.net_data.specs.Reading.{stop, fills, last_span, check_rows, heading, table, turned, body, named, columns, param, statement, statements, with_statement, tables, met, colon, assign, ◌>>=◌}
@@ -33,11 +33,11 @@ use Rattle.net_data.proofs.TablesMean.{single-complete, lacks_word, lacks_statem
 -- ---- what is printed first stands first
 
 -- the place behind tokens
-abbrev across : Place → List Token → Place
+abbrev across : TokenPlace → List Token → TokenPlace
 across p [] = p
 across p (t ∷ ts) = cond (skips p && is_comma t) (across p ts) (across (place_after p t) ts)
 
-bare-append : (p : Place) (ts us : List Token) → bare p (ts ++ us) ≡ bare p ts ++ bare (across p ts) us
+bare-append : (p : TokenPlace) (ts us : List Token) → bare p (ts ++ us) ≡ bare p ts ++ bare (across p ts) us
 bare-append p [] us = refl
 bare-append p (t ∷ ts) us = by (skips p && is_comma t) (bare-append p ts us) (bare-append (place_after p t) ts us)
   where

@@ -6,25 +6,25 @@ use Rattle.net_data.specs.Tests.{is_word, is_mark, is_comma}
 
 -- the position of a token: before a statement, in a set statement, in one of its tuples, in another
 -- statement
-pub data Place : Type 0 where
-  before : Place
-  in_set : Place
-  in_tuple : Place
-  elsewhere : Place
+pub data TokenPlace : Type 0 where
+  before : TokenPlace
+  in_set : TokenPlace
+  in_tuple : TokenPlace
+  elsewhere : TokenPlace
 
 -- the position after a token
-abbrev pub place_after : Place → Token → Place
+abbrev pub place_after : TokenPlace → Token → TokenPlace
 place_after before token = if is_word (codes "set") token then in_set else elsewhere
 place_after in_set token = if is_mark (codes ";") token then before else if is_mark (codes "(") token then in_tuple else in_set
 place_after in_tuple token = if is_mark (codes ")") token then in_set else in_tuple
 place_after elsewhere token = if is_mark (codes ";") token then before else elsewhere
 
-abbrev pub skips : Place → Bool
+abbrev pub skips : TokenPlace → Bool
 skips in_tuple = false
 skips _ = true
 
 -- the tokens without the commas outside tuples
-abbrev pub bare : Place → List Token → List Token
+abbrev pub bare : TokenPlace → List Token → List Token
 bare place [] = []
 bare place (token ∷ tokens) = if skips place && is_comma token then bare place tokens else token ∷ bare (place_after place token) tokens
 

@@ -13,7 +13,7 @@ use Rattle.net_data.specs.declared.statement.Statement.TheVariants.{Set, List as
 use Rattle.net_data.specs.Tests.{is_mark}
 use Rattle.net_data.specs.Commas.{uncommaed}
 
-pub record Row : Type 0 where
+pub record DataRow : Type 0 where
   pub keys : List Token
   pub value : Token
 
@@ -22,7 +22,7 @@ points Dot = true
 points _ = false
 
 -- a row with this value; none for a dot, or for a group that is too short to have one
-abbrev pub row_of : List Token → Option Token → List Row
+abbrev pub row_of : List Token → Option Token → List DataRow
 row_of keys None = []
 row_of keys (Some value) = if points value.kind then [] else record { keys = keys; value = value } ∷ []
 
@@ -36,7 +36,7 @@ abbrev pub groups : ℕ → List Token → List (List Token)
 groups size tokens = groups_from size (length tokens) tokens
 
 -- rows of keys followed by values, of which the value with index `place` is used
-abbrev pub list_rows : (keys values place : ℕ) → List Token → List Row
+abbrev pub list_rows : (keys values place : ℕ) → List Token → List DataRow
 list_rows keys values place cells = flat_map (λ group. row_of (take keys group) (slice_get group (keys + place))) (groups (keys + values) cells)
 
 -- the row's member and the column's member; swapped by `(tr)`
@@ -44,20 +44,20 @@ abbrev pub table_keys : Option Transposed → Token → Token → List Token
 table_keys None row column = row ∷ column ∷ []
 table_keys (Some transposed) row column = column ∷ row ∷ []
 
-abbrev pub row_across : Option Transposed → List Token → List Token → List Row
+abbrev pub row_across : Option Transposed → List Token → List Token → List DataRow
 row_across transposed columns [] = []
 row_across transposed columns (row ∷ values) = flat_map (λ pair. row_of (table_keys transposed row pair.0) (Some pair.1)) (zip columns values)
 
-abbrev pub table_rows : TableStatement → List Row
+abbrev pub table_rows : TableStatement → List DataRow
 table_rows table = flat_map (row_across table.transposed table.columns) (groups (length table.columns + 1) table.cells)
 
-abbrev pub given_rows : ℕ → Option Given → List Row
+abbrev pub given_rows : ℕ → Option Given → List DataRow
 given_rows keys None = []
 given_rows keys (Some given) = list_rows keys 1 0 given.cells
 
 -- the rows of a statement with this number of keys, for the parameter with this index in its
 -- heading, counted from 0
-abbrev pub rows : (keys place : ℕ) → Statement → List Row
+abbrev pub rows : (keys place : ℕ) → Statement → List DataRow
 rows keys place (Set set) = []
 rows keys place (Listed list) = given_rows keys list.given
 rows keys place (Table table) = table_rows table

@@ -11,14 +11,14 @@ use net_base::ErrorCode;
 use net_lex::{Word, Words};
 
 /// Cells, the punctuation after them, and the remaining tokens.
-pub(crate) type Row<'t, 's> = (Cells<'t, 's>, Word<'t, 's>, Words<'t, 's>);
+pub(crate) type CellRow<'t, 's> = (Cells<'t, 's>, Word<'t, 's>, Words<'t, 's>);
 
 /// Returns a heading up to its `:=`, or an error if it has no column.
 fn headed<'t, 's>(
     columns: Cells<'t, 's>,
     assign: Word<'t, 's>,
     tokens: Words<'t, 's>,
-) -> Result<Row<'t, 's>, ParseError>
+) -> Result<CellRow<'t, 's>, ParseError>
     ensures value { ReadsPair (headed columns.entry assign.entry tokens.entry) result }
     ensures same { IfOk result (λ x. x.2 ≡ tokens.entry) }
 {
@@ -36,7 +36,7 @@ fn headed<'t, 's>(
 pub(crate) fn heading<'t, 's>(
     sort: Expected,
     tokens: &Words<'t, 's>,
-) -> Result<Row<'t, 's>, ParseError>
+) -> Result<CellRow<'t, 's>, ParseError>
     ensures value { ReadsPair (heading (is_of sort) tokens.now) result }
     ensures shorter { IfOk result (λ x. length x.2 < length tokens.now) }
 {
@@ -47,7 +47,7 @@ pub(crate) fn heading<'t, 's>(
 
 /// Parses cells up to the semicolon.
 #[tactic(auto, unfolding(crate::specs::Reading::cells))]
-pub(crate) fn cells<'t, 's>(tokens: &Words<'t, 's>) -> Result<Row<'t, 's>, ParseError>
+pub(crate) fn cells<'t, 's>(tokens: &Words<'t, 's>) -> Result<CellRow<'t, 's>, ParseError>
     ensures value { ReadsPair (cells tokens.now) result }
     ensures shorter { IfOk result (λ x. length x.2 < length tokens.now) }
 {

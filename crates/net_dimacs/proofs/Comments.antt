@@ -4,7 +4,7 @@ use Rattle.std.specs.Prelude.{Option, filter, filter_map, map}
 use Rattle.std.specs.List.{AllByRecursion, cons_option}
 use Rattle.std.proofs.lemmas.List.Elements.{All-from_recursion}
 use Rattle.std.proofs.lemmas.List.Splits.{slice_split_at}
-use Rattle.net_dimacs.specs.declared.problem_line.Statement.{Statement}
+use Rattle.net_dimacs.specs.declared.problem_line.LineStatement.{LineStatement}
 use Rattle.net_dimacs.specs.Lines.{is_blank, has_byte, word_of}
 use Rattle.net_dimacs.specs.Reading.{statement_of, line_statement}
 use Rattle.net_dimacs.specs.Problems.{statements_of}
@@ -22,4 +22,4 @@ comment_skipped line body rest e plain =
     ap (λ (l : List ℕ). statements_of (l ++ rest)) e
     ∙ ap statements_of (append_assoc whole (10 ∷ []) rest)
     ∙ ap (filter_map line_statement) (lines_then whole rest (record { no_feed = refl; no_return = refl }, (record { no_feed = refl; no_return = refl }, plain)))
-    ∙ ap (λ (o : Option Statement). cons_option o (statements_of rest)) (comment_says body)
+    ∙ ap (λ (o : Option LineStatement). cons_option o (statements_of rest)) (comment_says body)

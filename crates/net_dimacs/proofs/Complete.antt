@@ -9,8 +9,8 @@ use Rattle.std.proofs.lemmas.List.Elements.{recursion_from_All}
 use Rattle.std.proofs.lemmas.List.{get_or-set_other, length-set, length-replicate, get_or-replicate, get_or_default, same_lists}
 use Rattle.net_normal.specs.Limits.{IsSized, IsFlowArcOf, flow_node_limit, flow_arc_limit, flow_limit, cost_limit}
 use Rattle.net_normal.specs.declared.problem.FlowArc.{FlowArc}
-use Rattle.net_dimacs.specs.declared.problem_line.Statement.{Statement}
-use Rattle.net_dimacs.specs.declared.problem_line.Statement.TheVariants as statements
+use Rattle.net_dimacs.specs.declared.problem_line.LineStatement.{LineStatement}
+use Rattle.net_dimacs.specs.declared.problem_line.LineStatement.TheVariants as statements
 use Rattle.net_dimacs.specs.declared.problem_fault.Rejection.{Rejection}
 use Rattle.net_dimacs.specs.declared.problem_fault.LineFault.{LineFault}
 use Rattle.net_dimacs.specs.declared.problem_fault.LineFault.TheVariants.{LineOrder, Count}
@@ -88,14 +88,14 @@ abbrev ArcsFollow : List (List ℕ) → Type 0
 ArcsFollow ls = (line : ℕ) (d : Sketch) (more : List FlowArc) → filter_map line_statement ls ≡ map arc_statement more → AllByRecursion (IsFlowArcOf (length d.supplies)) more
     → length d.arcs + length more ≡ d.arc_count → Gives line (Open d) ls d.supplies (d.arcs ++ more)
 
-arc_said : (line : ℕ) (d : Sketch) (x : Option Statement) (ls : List (List ℕ)) (more : List FlowArc) → ArcsFollow ls → cons_option x (filter_map line_statement ls) ≡ map arc_statement more
+arc_said : (line : ℕ) (d : Sketch) (x : Option LineStatement) (ls : List (List ℕ)) (more : List FlowArc) → ArcsFollow ls → cons_option x (filter_map line_statement ls) ≡ map arc_statement more
     → AllByRecursion (IsFlowArcOf (length d.supplies)) more → length d.arcs + length more ≡ d.arc_count → Gives (line + 1) (with_optional_statement line (Open d) x) ls d.supplies (d.arcs ++ more)
 arc_said line d None ls more follow e fit count = follow (line + 1) d more e fit count
 arc_said line d (Some x) ls [] follow e fit count = absurd cc
 arc_said line d (Some x) ls (arc ∷ more) follow e fit count =
     let both = same_head x (arc_statement arc) (filter_map line_statement ls) (map arc_statement more) e in
     let room : length d.arcs < d.arc_count = omega arith in
-    ap (λ (y : Statement). read_lines (line + 1) (with_statement line (Open d) y) ls) both.0
+    ap (λ (y : LineStatement). read_lines (line + 1) (with_statement line (Open d) y) ls) both.0
     ∙ ap (λ (y : Result Sketch LineFault). read_lines (line + 1) (state_from line y) ls) (arc_taken d arc fit.0 room)
     ∙ follow (line + 1) (with_one d arc) more both.1 fit.1 (omega (arith, length-append d.arcs (arc ∷ [])))
     ∙ ap (λ (y : List FlowArc). Ok (d.supplies, y)) (append_assoc d.arcs (arc ∷ []) more)
@@ -137,14 +137,14 @@ only_arcs ls line d more e none fit count =
     let bare : length d.arcs ≡ 0 = ap length none in
     arcs_read ls line d more e fit (omega arith) ∙ ap (λ (x : List FlowArc). Ok (d.supplies, x ++ more)) none
 
-node_said : (line : ℕ) (d : Sketch) (x : Option Statement) (ls : List (List ℕ)) (n : Named) (nodes : List Named) (more : List FlowArc) → NodesFollow ls
+node_said : (line : ℕ) (d : Sketch) (x : Option LineStatement) (ls : List (List ℕ)) (n : Named) (nodes : List Named) (more : List FlowArc) → NodesFollow ls
     → cons_option x (filter_map line_statement ls) ≡ node_statement n ∷ (map node_statement nodes ++ map arc_statement more) → d.arcs ≡ [] → MayName d.named (length d.supplies) (n ∷ nodes)
     → AllByRecursion (IsFlowArcOf (length d.supplies)) more → length more ≡ d.arc_count → Gives (line + 1) (with_optional_statement line (Open d) x) ls (set_all d.supplies (n ∷ nodes)) more
 node_said line d None ls n nodes more follow e none may fit count = follow (line + 1) d (n ∷ nodes) more e none may fit count
 node_said line d (Some x) ls n nodes more follow e none may fit count =
     let both = same_head x (node_statement n) (filter_map line_statement ls) (map node_statement nodes ++ map arc_statement more) e in
     let size = sym (length-set d.supplies n.0 n.1) in
-    ap (λ (y : Statement). read_lines (line + 1) (with_statement line (Open d) y) ls) both.0
+    ap (λ (y : LineStatement). read_lines (line + 1) (with_statement line (Open d) y) ls) both.0
     ∙ ap (λ (y : Result Sketch LineFault). read_lines (line + 1) (state_from line y) ls) (node_taken d n.0 n.1 none may.0 may.2 may.1)
     ∙ follow (line + 1) (marked d n.0 n.1) nodes more both.1 none
     (subst (λ (k : ℕ). MayName (set d.named n.0 true) k nodes) size may.3)
@@ -174,20 +174,20 @@ pub begins : (text : List ℕ) (s : List ℤ) (a : List FlowArc) → 1 ≤ lengt
 begins text s a some few_nodes few_arcs is =
     subst BeginsProblem (sym is.says) (subst (λ (made : Result Sketch LineFault). IsOk made) (sym (new_taken (length s) (length a) some few_nodes few_arcs)) refl)
 
-abbrev RestGives : List Statement → ℕ → ℕ → List ℤ → List FlowArc → Type 0
+abbrev RestGives : List LineStatement → ℕ → ℕ → List ℤ → List FlowArc → Type 0
 RestGives says n m s a = (line : ℕ) (ls : List (List ℕ)) → filter_map line_statement ls ≡ says → Gives line (Open (first_sketch n m)) ls s a
 
-head_said : (line : ℕ) (x : Option Statement) (ls : List (List ℕ)) (says : List Statement) (n m : ℕ) (s : List ℤ) (a : List FlowArc) → 1 ≤ n → n ≤ flow_node_limit → m ≤ flow_arc_limit → RestGives says n m s a
+head_said : (line : ℕ) (x : Option LineStatement) (ls : List (List ℕ)) (says : List LineStatement) (n m : ℕ) (s : List ℤ) (a : List FlowArc) → 1 ≤ n → n ≤ flow_node_limit → m ≤ flow_arc_limit → RestGives says n m s a
     → (filter_map line_statement ls ≡ statements.Problem (pos n) (pos m) ∷ says → Gives (line + 1) Start ls s a)
     → cons_option x (filter_map line_statement ls) ≡ statements.Problem (pos n) (pos m) ∷ says → Gives (line + 1) (with_optional_statement line Start x) ls s a
 head_said line None ls says n m s a some few_nodes few_arcs rest more e = more e
 head_said line (Some x) ls says n m s a some few_nodes few_arcs rest more e =
     let both = same_head x (statements.Problem (pos n) (pos m)) (filter_map line_statement ls) says e in
-    ap (λ (y : Statement). read_lines (line + 1) (with_statement line Start y) ls) both.0
+    ap (λ (y : LineStatement). read_lines (line + 1) (with_statement line Start y) ls) both.0
     ∙ ap (λ (y : Result Sketch LineFault). read_lines (line + 1) (state_from line y) ls) (new_taken n m some few_nodes few_arcs)
     ∙ rest (line + 1) ls both.1
 
-head_read : (line : ℕ) (ls : List (List ℕ)) (says : List Statement) (n m : ℕ) (s : List ℤ) (a : List FlowArc) → 1 ≤ n → n ≤ flow_node_limit → m ≤ flow_arc_limit → RestGives says n m s a
+head_read : (line : ℕ) (ls : List (List ℕ)) (says : List LineStatement) (n m : ℕ) (s : List ℤ) (a : List FlowArc) → 1 ≤ n → n ≤ flow_node_limit → m ≤ flow_arc_limit → RestGives says n m s a
     → filter_map line_statement ls ≡ statements.Problem (pos n) (pos m) ∷ says → Gives line Start ls s a
 head_read line [] says n m s a some few_nodes few_arcs rest e = absurd cc
 head_read line (l ∷ ls) says n m s a some few_nodes few_arcs rest e =

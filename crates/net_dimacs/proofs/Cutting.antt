@@ -4,8 +4,8 @@ use Rattle.std.specs.Prelude.{Option, Result, int_lt, int_le, nat_le, unsigned_a
 use Rattle.std.specs.Option.{option_map}
 use Rattle.std.proofs.lemmas.Bool.Decides.{nat_tests}
 use Rattle.net_normal.specs.Limits.{flow_node_limit, flow_arc_limit, flow_limit, cost_limit}
-use Rattle.net_dimacs.specs.declared.problem_line.Statement.{Statement}
-use Rattle.net_dimacs.specs.declared.problem_line.Statement.TheVariants as statements
+use Rattle.net_dimacs.specs.declared.problem_line.LineStatement.{LineStatement}
+use Rattle.net_dimacs.specs.declared.problem_line.LineStatement.TheVariants as statements
 use Rattle.net_dimacs.specs.declared.problem_fault.LineFault.{LineFault}
 use Rattle.net_dimacs.specs.declared.problem_fault.LineFault.TheVariants.{LineOrder, DoubleNode, Count, Bounds, TooLarge}
 use Rattle.net_dimacs.specs.Numbers.{greatest_signed, cut, cut_statement}
@@ -216,7 +216,7 @@ IsSmall Start = Unit {0}
 IsSmall (Open d) = length d.supplies ≤ flow_node_limit
 IsSmall (Rejected r) = Unit {0}
 
-pub said_cut : (line : ℕ) (state : State) (line_statement : Option Statement) → IsSmall state → with_optional_statement line state (option_map cut_statement line_statement) ≡ with_optional_statement line state line_statement
+pub said_cut : (line : ℕ) (state : State) (line_statement : Option LineStatement) → IsSmall state → with_optional_statement line state (option_map cut_statement line_statement) ≡ with_optional_statement line state line_statement
 said_cut line state None few = refl
 said_cut line Start (Some (statements.Problem nodes arcs)) few = ap (state_from line) (new_cut nodes arcs)
 said_cut line Start (Some (statements.Node node supply)) few = refl

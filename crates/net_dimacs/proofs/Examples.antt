@@ -5,7 +5,7 @@ use Rattle.net_check.specs.declared.certificate.Side.TheVariants.{Over, Under}
 use Rattle.net_dimacs.specs.declared.problem_fault.LineFault.TheVariants.{TooLarge, Certificate}
 use Rattle.net_dimacs.specs.declared.claim.Claim.TheVariants as claims
 use Rattle.net_dimacs.specs.Claims.{claimed}
-use Rattle.net_dimacs.specs.declared.problem_line.Statement.TheVariants as statements
+use Rattle.net_dimacs.specs.declared.problem_line.LineStatement.TheVariants as statements
 use Rattle.net_dimacs.specs.Lines.{fields_of}
 use Rattle.net_dimacs.specs.Numbers.{cut_numbers, kind_of, statement_of_kind}
 use Rattle.net_dimacs.specs.Problems.{BeginsProblem, statements_of}

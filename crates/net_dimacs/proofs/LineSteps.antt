@@ -7,8 +7,8 @@ use Rattle.std.proofs.lemmas.Bool.Decides.{nat_tests}
 use Rattle.std.proofs.Math.ListN.{length-set, length-replicate}
 use Rattle.net_normal.specs.Limits.{flow_node_limit, flow_arc_limit, flow_limit}
 use Rattle.net_normal.specs.declared.problem.FlowArc.{FlowArc}
-use Rattle.net_dimacs.specs.declared.problem_line.Statement.{Statement}
-use Rattle.net_dimacs.specs.declared.problem_line.Statement.TheVariants as statements
+use Rattle.net_dimacs.specs.declared.problem_line.LineStatement.{LineStatement}
+use Rattle.net_dimacs.specs.declared.problem_line.LineStatement.TheVariants as statements
 use Rattle.net_dimacs.specs.declared.problem_fault.LineFault.{LineFault}
 use Rattle.net_dimacs.specs.declared.problem_fault.LineFault.TheVariants.{LineOrder, Count}
 use Rattle.net_dimacs.specs.Reading.{Sketch, place_of, new_sketch, is_past, with_node, with_node_at, bounds_fault, with_arc, with_arc_at, with_arc_or, State, Start, Open, Rejected, state_from, with_optional_statement}
@@ -57,7 +57,7 @@ small_arc_at d None dst low cap cost few = tt
 small_arc_at d (Some src) None low cap cost few = tt
 small_arc_at d (Some src) (Some dst) low cap cost few = small_arc_or d (bounds_fault low cap cost) (record { src = src; dst = dst; low = low; cap = cap; cost = cost }) few
 
-pub small_said : (line : ℕ) (state : State) (line_statement : Option Statement) → IsSmall state → IsSmall (with_optional_statement line state line_statement)
+pub small_said : (line : ℕ) (state : State) (line_statement : Option LineStatement) → IsSmall state → IsSmall (with_optional_statement line state line_statement)
 small_said line state None few = few
 small_said line Start (Some (statements.Problem nodes arcs)) few =
     small_kept line (new_sketch nodes arcs) (small_new (int_lt nodes (pos 1)) (int_lt arcs (pos 0)) (int_lt (pos flow_node_limit) nodes) (int_lt (pos flow_arc_limit) arcs) nodes arcs (few_nodes nodes))

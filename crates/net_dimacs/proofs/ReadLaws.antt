@@ -6,8 +6,8 @@ use Rattle.std.proofs.lemmas.Bool.Decides.{nat_tests}
 use Rattle.net_normal.specs.Limits.{IsFlowArcOf}
 use Rattle.net_normal.specs.declared.problem.FlowArc.{FlowArc}
 use Rattle.net_normal.specs.declared.problem.Problem.{Problem}
-use Rattle.net_dimacs.specs.declared.problem_line.Statement.{Statement}
-use Rattle.net_dimacs.specs.declared.problem_line.Statement.TheVariants as statements
+use Rattle.net_dimacs.specs.declared.problem_line.LineStatement.{LineStatement}
+use Rattle.net_dimacs.specs.declared.problem_line.LineStatement.TheVariants as statements
 use Rattle.net_dimacs.specs.declared.problem_fault.LineFault.{LineFault}
 use Rattle.net_dimacs.specs.declared.problem_fault.LineFault.TheVariants.{TooLarge, Count, NoProblemLine}
 use Rattle.net_dimacs.specs.declared.problem_fault.Rejection.{Rejection}
@@ -74,7 +74,7 @@ kept_placed : (line : ℕ) (read : Result Sketch LineFault) → 1 ≤ line → I
 kept_placed line (Ok d) some = tt
 kept_placed line (Err fault) some = record { low = some; high = omega arith }
 
-said_placed : (line : ℕ) (state : State) (x : Option Statement) → 1 ≤ line → IsPlaced line state → IsPlaced (line + 1) (with_optional_statement line state x)
+said_placed : (line : ℕ) (state : State) (x : Option LineStatement) → 1 ≤ line → IsPlaced line state → IsPlaced (line + 1) (with_optional_statement line state x)
 said_placed line Start None some here = tt
 said_placed line (Open d) None some here = tt
 said_placed line (Rejected r) None some here = record { low = here.low; high = omega (arith, here.high) }

@@ -6,8 +6,8 @@ use Rattle.std.proofs.lemmas.Bool.{eqb-true}
 use Rattle.net_dimacs.specs.Words.{Word}
 use Rattle.net_dimacs.specs.Words as words
 use Rattle.net_dimacs.specs.Lines.{fields_of, begins_with, is_text, number_of, number_or_other, word_of}
-use Rattle.net_dimacs.specs.declared.problem_line.Statement.TheVariants as statements
-use Rattle.net_dimacs.specs.declared.problem_line.Kind.TheVariants as kinds
+use Rattle.net_dimacs.specs.declared.problem_line.LineStatement.TheVariants as statements
+use Rattle.net_dimacs.specs.declared.problem_line.LineKind.TheVariants as kinds
 use Rattle.net_dimacs.specs.Numbers.{cut, cut_statement, Numerals, cut_number, two_in, arc_in, node_in, problem_in, kind_of, or_other, statement_of_kind}
 use Rattle.net_dimacs.specs.Reading.{statement_of, line_statement}
 

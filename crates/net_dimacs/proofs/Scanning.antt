@@ -4,8 +4,8 @@ use Rattle.std.specs.Prelude.{Option, Result, filter_map, IsOk, OnErr, option_to
 use Rattle.std.specs.List.{cons_option}
 use Rattle.std.specs.Option.{option_map}
 use Rattle.std.specs.Str.Lines.{lines}
-use Rattle.net_dimacs.specs.declared.problem_line.Statement.{Statement}
-use Rattle.net_dimacs.specs.declared.problem_line.Statement.TheVariants as statements
+use Rattle.net_dimacs.specs.declared.problem_line.LineStatement.{LineStatement}
+use Rattle.net_dimacs.specs.declared.problem_line.LineStatement.TheVariants as statements
 use Rattle.net_dimacs.specs.declared.problem_fault.LineFault.{LineFault}
 use Rattle.net_dimacs.specs.declared.line_scan.Scan.{Scan}
 use Rattle.net_dimacs.specs.declared.progress.Progress.{Progress}
@@ -28,7 +28,7 @@ small_state (progresses.Open d) = omega (arith, d.few_nodes, d.supplies.ok.0)
 small_state (progresses.Rejected r) = tt
 
 -- what the code makes of a line is what the line says
-pub said_so : (n : ℕ) (p : Progress) (line : List ℕ) (x : Option Statement) → x ≡ option_map cut_statement (line_statement line) → with_optional_statement n (state_of p) x ≡ with_optional_statement n (state_of p) (line_statement line)
+pub said_so : (n : ℕ) (p : Progress) (line : List ℕ) (x : Option LineStatement) → x ≡ option_map cut_statement (line_statement line) → with_optional_statement n (state_of p) x ≡ with_optional_statement n (state_of p) (line_statement line)
 said_so n p line x e = ap (with_optional_statement n (state_of p)) e ∙ said_cut n (state_of p) (line_statement line) (small_state p)
 
 pub line_read : (n : ℕ) (state next : State) (line rest after : List ℕ) → lines rest ≡ line ∷ lines after → next ≡ with_optional_statement n state (line_statement line)
@@ -43,7 +43,7 @@ kept_begun : (n : ℕ) (read : Result Sketch LineFault) → state_from n read �
 kept_begun n (Ok d) e = cc
 kept_begun n (Err fault) e = cc
 
-unbegun : (n : ℕ) (state : State) (x : Option Statement) → with_optional_statement n state x ≡ Start → (state ≡ Start) × (x ≡ None)
+unbegun : (n : ℕ) (state : State) (x : Option LineStatement) → with_optional_statement n state x ≡ Start → (state ≡ Start) × (x ≡ None)
 unbegun n Start None e = (refl, refl)
 unbegun n Start (Some (statements.Problem nodes arcs)) e = absurd (kept_begun n (new_sketch nodes arcs) e)
 unbegun n Start (Some (statements.Node node supply)) e = absurd cc
@@ -59,18 +59,18 @@ pub still_unbegun : (n : ℕ) (first now : Scan) (next : State) (text line rest 
 still_unbegun n first now next text line rest after parts e h start =
     let p = unbegun n (state_of now.progress) (line_statement line) (sym e ∙ start) in
     let q = h p.0 in
-    (q.0, sym (statements_split line rest after parts ∙ ap (λ (x : Option Statement). cons_option x (statements_of after)) p.1) ∙ q.1)
+    (q.0, sym (statements_split line rest after parts ∙ ap (λ (x : Option LineStatement). cons_option x (statements_of after)) p.1) ∙ q.1)
 
-begins_by : (x y : Option Statement) (more : List Statement) → y ≡ option_map cut_statement x → BeginsProblem (option_to_list y) → BeginsProblem (cons_option x more)
-begins_by None y more e h = absurd (let none : BeginsProblem [] = subst (λ (z : Option Statement). BeginsProblem (option_to_list z)) e h in none)
+begins_by : (x y : Option LineStatement) (more : List LineStatement) → y ≡ option_map cut_statement x → BeginsProblem (option_to_list y) → BeginsProblem (cons_option x more)
+begins_by None y more e h = absurd (let none : BeginsProblem [] = subst (λ (z : Option LineStatement). BeginsProblem (option_to_list z)) e h in none)
 begins_by (Some (statements.Problem nodes arcs)) y more e h =
-    subst (λ (read : Result Sketch LineFault). IsOk read) (new_cut nodes arcs) (subst (λ (z : Option Statement). BeginsProblem (option_to_list z)) e h)
-begins_by (Some (statements.Node node supply)) y more e h = subst (λ (z : Option Statement). BeginsProblem (option_to_list z)) e h
-begins_by (Some (statements.Arc src dst low high cost)) y more e h = subst (λ (z : Option Statement). BeginsProblem (option_to_list z)) e h
-begins_by (Some statements.Other) y more e h = subst (λ (z : Option Statement). BeginsProblem (option_to_list z)) e h
+    subst (λ (read : Result Sketch LineFault). IsOk read) (new_cut nodes arcs) (subst (λ (z : Option LineStatement). BeginsProblem (option_to_list z)) e h)
+begins_by (Some (statements.Node node supply)) y more e h = subst (λ (z : Option LineStatement). BeginsProblem (option_to_list z)) e h
+begins_by (Some (statements.Arc src dst low high cost)) y more e h = subst (λ (z : Option LineStatement). BeginsProblem (option_to_list z)) e h
+begins_by (Some statements.Other) y more e h = subst (λ (z : Option LineStatement). BeginsProblem (option_to_list z)) e h
 
 -- memory is wanted over the first statement
-pub wants_memory : (first now : Scan) (text line rest after : List ℕ) (y : Option Statement) → lines rest ≡ line ∷ lines after → y ≡ option_map cut_statement (line_statement line) → IsUnbegun first text now rest
+pub wants_memory : (first now : Scan) (text line rest after : List ℕ) (y : Option LineStatement) → lines rest ≡ line ∷ lines after → y ≡ option_map cut_statement (line_statement line) → IsUnbegun first text now rest
     → (state_of now.progress ≡ Start) × BeginsProblem (option_to_list y) → (state_of first.progress ≡ Start) × BeginsProblem (statements_of text)
 wants_memory first now text line rest after y parts e h wants =
     let q = h wants.0 in

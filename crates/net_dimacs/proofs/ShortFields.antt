@@ -8,7 +8,7 @@ use Rattle.std.specs.Fmt.{decimal}
 use Rattle.std.proofs.lemmas.Bool.{eqb-true}
 use Rattle.std.proofs.lemmas.Bool.Decides.{nat_tests}
 use Rattle.std.proofs.lemmas.Fmt.{length-decimal-le}
-use Rattle.net_dimacs.specs.declared.problem_line.Kind.TheVariants as kinds
+use Rattle.net_dimacs.specs.declared.problem_line.LineKind.TheVariants as kinds
 use Rattle.net_dimacs.specs.Limits.{open_field_limit}
 use Rattle.net_dimacs.specs.Lines.{is_blank, is_feed, value_after, natural_of, HasNone}
 use Rattle.net_dimacs.specs.Numbers.{greatest_signed, cut, cut_number}

@@ -6,8 +6,8 @@ use Rattle.std.specs.Str.Lines.{lines}
 use Rattle.std.proofs.lemmas.Bool.Decides.{nat_tests}
 use Rattle.std.proofs.lemmas.List.{get_or-set_same, get_or-set_other, length-set, length-replicate, get_or-replicate}
 use Rattle.net_normal.specs.declared.problem.FlowArc.{FlowArc}
-use Rattle.net_dimacs.specs.declared.problem_line.Statement.{Statement}
-use Rattle.net_dimacs.specs.declared.problem_line.Statement.TheVariants as statements
+use Rattle.net_dimacs.specs.declared.problem_line.LineStatement.{LineStatement}
+use Rattle.net_dimacs.specs.declared.problem_line.LineStatement.TheVariants as statements
 use Rattle.net_dimacs.specs.declared.problem_fault.Rejection.{Rejection}
 use Rattle.net_dimacs.specs.declared.problem_fault.LineFault.{LineFault}
 use Rattle.net_dimacs.specs.declared.problem_fault.LineFault.TheVariants.{Count}
@@ -16,7 +16,7 @@ use Rattle.net_dimacs.specs.Problems.{Named, node_statement, arc_statement, AreD
 use Rattle.net_dimacs.proofs.Steps.{marked, with_one, first_sketch, set_supply, NodeStep, node_step, ArcStep, arc_step, new_step}
 
 -- a refusal stays
-rejected_said : (line : ℕ) (r : Rejection) (x : Option Statement) → with_optional_statement line (Rejected r) x ≡ Rejected r
+rejected_said : (line : ℕ) (r : Rejection) (x : Option LineStatement) → with_optional_statement line (Rejected r) x ≡ Rejected r
 rejected_said line r None = refl
 rejected_said line r (Some x) = refl
 
@@ -33,7 +33,7 @@ pub record IsSound (d : Sketch) : Type 0 where
   pub room : length d.arcs ≤ d.arc_count
 
 -- what the lines behind a draft say of the problem that is read in the end
-pub record Extends (d : Sketch) (says : List Statement) (s : List ℤ) (a : List FlowArc) : Type 0 where
+pub record Extends (d : Sketch) (says : List LineStatement) (s : List ℤ) (a : List FlowArc) : Type 0 where
   pub nodes : List Named
   pub more : List FlowArc
   pub lines : says ≡ map node_statement nodes ++ map arc_statement more
@@ -64,7 +64,7 @@ still_fresh marks v (n ∷ ns) h fresh =
 sound_marked : (d : Sketch) (v : ℕ) (z : ℤ) → IsSound d → IsSound (marked d v z)
 sound_marked d v z good = record { marks = length-set d.named v true ∙ good.marks ∙ sym (length-set d.supplies v z); room = good.room }
 
-node_extends : (d : Sketch) (z f : ℤ) (d' : Sketch) (says : List Statement) (s : List ℤ) (a : List FlowArc) (n : NodeStep d z f d') → IsSound d
+node_extends : (d : Sketch) (z f : ℤ) (d' : Sketch) (says : List LineStatement) (s : List ℤ) (a : List FlowArc) (n : NodeStep d z f d') → IsSound d
     → Extends (marked d n.place f) says s a → Extends d (statements.Node z f ∷ says) s a
 node_extends d z f d' says s a n good more =
     let v = n.place in
@@ -75,7 +75,7 @@ node_extends d z f d' says s a n good more =
     record {
       nodes = (v, f) ∷ more.nodes;
       more = more.more;
-      lines = ap (λ (x : ℤ). statements.Node x f ∷ says) n.node_is ∙ ap (λ (x : List Statement). statements.Node (pos (v + 1)) f ∷ x) more.lines;
+      lines = ap (λ (x : ℤ). statements.Node x f ∷ says) n.node_is ∙ ap (λ (x : List LineStatement). statements.Node (pos (v + 1)) f ∷ x) more.lines;
       order = λ some. absurd (omega (arith, bare));
       arcs = more.arcs;
       counted = more.counted;
@@ -91,7 +91,7 @@ node_extends d z f d' says s a n good more =
 sound_with_one : (d : Sketch) (arc : FlowArc) → IsSound d → length d.arcs < d.arc_count → IsSound (with_one d arc)
 sound_with_one d arc good room = record { marks = good.marks; room = omega (arith, length-append d.arcs (arc ∷ [])) }
 
-arc_extends : (d : Sketch) (src dst low cap cost : ℤ) (d' : Sketch) (says : List Statement) (s : List ℤ) (a : List FlowArc) (step : ArcStep d src dst low cap cost d')
+arc_extends : (d : Sketch) (src dst low cap cost : ℤ) (d' : Sketch) (says : List LineStatement) (s : List ℤ) (a : List FlowArc) (step : ArcStep d src dst low cap cost d')
     → Extends (with_one d step.arc) says s a → Extends d (statements.Arc src dst low cap cost ∷ says) s a
 arc_extends d src dst low cap cost d' says s a step more =
     let arc = step.arc in
@@ -100,8 +100,8 @@ arc_extends d src dst low cap cost d' says s a step more =
     record {
       nodes = [];
       more = arc ∷ more.more;
-      lines = ap (λ (x : List Statement). statements.Arc src dst low cap cost ∷ x) (more.lines ∙ ap (λ (ns : List Named). map node_statement ns ++ map arc_statement more.more) none)
-          ∙ ap (λ (x : Statement). x ∷ map arc_statement more.more) spelled;
+      lines = ap (λ (x : List LineStatement). statements.Arc src dst low cap cost ∷ x) (more.lines ∙ ap (λ (ns : List Named). map node_statement ns ++ map arc_statement more.more) none)
+          ∙ ap (λ (x : LineStatement). x ∷ map arc_statement more.more) spelled;
       order = λ some. refl;
       arcs = more.arcs ∙ append_assoc d.arcs (arc ∷ []) more.more;
       counted = more.counted;
@@ -159,7 +159,7 @@ arc_line line d src dst low cap cost ls s a (Ok d') w good more e =
     arc_extends d src dst low cap cost d' (filter_map line_statement ls) s a step
     (more (with_one d step.arc) (sound_with_one d step.arc good step.room) (ap (λ (x : Sketch). read_lines (line + 1) (Open x) ls) step.result ∙ e))
 
-said_line : (line : ℕ) (d : Sketch) (x : Option Statement) (ls : List (List ℕ)) (s : List ℤ) (a : List FlowArc) → IsSound d
+said_line : (line : ℕ) (d : Sketch) (x : Option LineStatement) (ls : List (List ℕ)) (s : List ℤ) (a : List FlowArc) → IsSound d
     → ((d' : Sketch) → IsSound d' → Reads (line + 1) d' ls s a → Extends d' (filter_map line_statement ls) s a)
     → read_lines (line + 1) (with_optional_statement line (Open d) x) ls ≡ Ok (s, a) → Extends d (cons_option x (filter_map line_statement ls)) s a
 said_line line d None ls s a good more e = more d good e
@@ -175,20 +175,20 @@ open_extends line d (l ∷ ls) s a good e = said_line line d (line_statement l) 
 -- ---- the whole text
 
 -- what the lines say of the problem that is read in the end
-record Reports (says : List Statement) (s : List ℤ) (a : List FlowArc) : Type 0 where
+record Reports (says : List LineStatement) (s : List ℤ) (a : List FlowArc) : Type 0 where
   nodes : List Named
   lines : says ≡ statements.Problem (pos (length s)) (pos (length a)) ∷ (map node_statement nodes ++ map arc_statement a)
   within : AllByRecursion (λ n. n.0 < length s) nodes
   distinct : AreDistinct nodes
   supply : (v : ℕ) → v < length s → get_or s v (pos 0) ≡ supply_after nodes v (pos 0)
 
-reports : (n m : ℕ) (says : List Statement) (s : List ℤ) (a : List FlowArc) → Extends (first_sketch n m) says s a → Reports (statements.Problem (pos n) (pos m) ∷ says) s a
+reports : (n m : ℕ) (says : List LineStatement) (s : List ℤ) (a : List FlowArc) → Extends (first_sketch n m) says s a → Reports (statements.Problem (pos n) (pos m) ∷ says) s a
 reports n m says s a more =
     let size : length s ≡ n = more.size ∙ length-replicate n (pos 0) in
     let count : length a ≡ m = more.counted in
     record {
       nodes = more.nodes;
-      lines = ap (λ (x : List Statement). statements.Problem (pos n) (pos m) ∷ x) (more.lines ∙ ap (λ (x : List FlowArc). map node_statement more.nodes ++ map arc_statement x) (sym more.arcs))
+      lines = ap (λ (x : List LineStatement). statements.Problem (pos n) (pos m) ∷ x) (more.lines ∙ ap (λ (x : List FlowArc). map node_statement more.nodes ++ map arc_statement x) (sym more.arcs))
           ∙ ap (λ (k : ℕ). statements.Problem (pos k) (pos m) ∷ (map node_statement more.nodes ++ map arc_statement a)) (sym size)
           ∙ ap (λ (k : ℕ). statements.Problem (pos (length s)) (pos k) ∷ (map node_statement more.nodes ++ map arc_statement a)) (sym count);
       within = subst (λ (k : ℕ). AllByRecursion (λ x. x.0 < k) more.nodes) (sym more.size) more.within;
@@ -208,9 +208,9 @@ head_line line nodes arcs ls s a (Ok d') w e =
     let good : IsSound (first_sketch n m) = record { marks = length-replicate n false ∙ sym (length-replicate n (pos 0)); room = omega arith } in
     let more = open_extends (line + 1) (first_sketch n m) ls s a good (ap (λ (x : Sketch). read_lines (line + 1) (Open x) ls) step.result ∙ e) in
     let spelled : statements.Problem nodes arcs ≡ statements.Problem (pos n) (pos m) = let e1 = step.nodes_is in let e2 = step.arcs_is in cc in
-    subst (λ (x : Statement). Reports (x ∷ filter_map line_statement ls) s a) (sym spelled) (reports n m (filter_map line_statement ls) s a more)
+    subst (λ (x : LineStatement). Reports (x ∷ filter_map line_statement ls) s a) (sym spelled) (reports n m (filter_map line_statement ls) s a more)
 
-start_line : (line : ℕ) (x : Option Statement) (ls : List (List ℕ)) (s : List ℤ) (a : List FlowArc) → (read_lines (line + 1) Start ls ≡ Ok (s, a) → Reports (filter_map line_statement ls) s a)
+start_line : (line : ℕ) (x : Option LineStatement) (ls : List (List ℕ)) (s : List ℤ) (a : List FlowArc) → (read_lines (line + 1) Start ls ≡ Ok (s, a) → Reports (filter_map line_statement ls) s a)
     → read_lines (line + 1) (with_optional_statement line Start x) ls ≡ Ok (s, a) → Reports (cons_option x (filter_map line_statement ls)) s a
 start_line line None ls s a more e = more e
 start_line line (Some (statements.Problem nodes arcs)) ls s a more e = head_line line nodes arcs ls s a (new_sketch nodes arcs) refl e

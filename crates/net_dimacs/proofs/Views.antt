@@ -3,10 +3,10 @@ use Rattle.std.proofs.Common.{◌≡◌, ◌≤◌, ℕ, Bool, true, false, List
 use Rattle.std.specs.Prelude.{Option, if◌then◌else◌}
 use Rattle.std.specs.Option.{option_map}
 use Rattle.net_dimacs.specs.Lines.{fields_of, is_text}
-use Rattle.net_dimacs.specs.declared.problem_line.Statement.{Statement}
-use Rattle.net_dimacs.specs.declared.problem_line.Statement.TheVariants as statements
-use Rattle.net_dimacs.specs.declared.problem_line.Kind.{Kind}
-use Rattle.net_dimacs.specs.declared.problem_line.Kind.TheVariants as kinds
+use Rattle.net_dimacs.specs.declared.problem_line.LineStatement.{LineStatement}
+use Rattle.net_dimacs.specs.declared.problem_line.LineStatement.TheVariants as statements
+use Rattle.net_dimacs.specs.declared.problem_line.LineKind.{LineKind}
+use Rattle.net_dimacs.specs.declared.problem_line.LineKind.TheVariants as kinds
 use Rattle.net_dimacs.specs.Numbers.{cut_statement, Numerals, cut_number, two_in, arc_in, node_in, kind_of, or_other, statement_of_kind}
 use Rattle.net_dimacs.specs.OpenLines.{View, view}
 use Rattle.net_dimacs.specs.Reading.{line_statement}
@@ -15,21 +15,21 @@ use Rattle.net_dimacs.proofs.Saying.{line_says, blank_says}
 abbrev numbers_seen : List View → Numerals
 numbers_seen vs = map (λ (v : View). v.number) vs
 
-abbrev min_seen : Bool → List View → Option Statement
+abbrev min_seen : Bool → List View → Option LineStatement
 min_seen is_min vs = if is_min then option_map (λ p. statements.Problem p.0 p.1) (two_in (numbers_seen vs)) else None
 
-abbrev problem_seen : List View → Option Statement
+abbrev problem_seen : List View → Option LineStatement
 problem_seen [] = None
 problem_seen (v ∷ vs) = min_seen v.is_min vs
 
-abbrev seen_after : Kind → List View → Option Statement
+abbrev seen_after : LineKind → List View → Option LineStatement
 seen_after kinds.Comment vs = None
 seen_after kinds.Problem vs = Some (or_other (problem_seen vs))
 seen_after kinds.Node vs = Some (or_other (node_in (numbers_seen vs)))
 seen_after kinds.Arc vs = Some (or_other (arc_in (numbers_seen vs)))
 seen_after kinds.Other vs = Some statements.Other
 
-abbrev pub seen : List View → Option Statement
+abbrev pub seen : List View → Option LineStatement
 seen [] = None
 seen (v ∷ vs) = seen_after v.kind vs
 
@@ -39,7 +39,7 @@ same_numbers : (fs : List (List ℕ)) → map cut_number fs ≡ numbers_seen (ma
 same_numbers [] = refl
 same_numbers (f ∷ fs) = ap (λ (os : Numerals). cut_number f ∷ os) (same_numbers fs)
 
-same_after : (k : Kind) (fs : List (List ℕ)) → statement_of_kind k fs ≡ seen_after k (map view fs)
+same_after : (k : LineKind) (fs : List (List ℕ)) → statement_of_kind k fs ≡ seen_after k (map view fs)
 same_after kinds.Comment fs = refl
 same_after kinds.Problem [] = refl
 same_after kinds.Problem (f ∷ fs) =
@@ -74,17 +74,17 @@ no_min : (is_min : Bool) (c d e : View) (vs : List View) → min_seen is_min (c 
 no_min true c d e vs = ap (option_map (λ p. statements.Problem p.0 p.1)) (no_two c.number d.number e.number (numbers_seen vs))
 no_min false c d e vs = refl
 
-abbrev nothing_or_other : Kind → Option Statement
+abbrev nothing_or_other : LineKind → Option LineStatement
 nothing_or_other kinds.Comment = None
 nothing_or_other kind = Some statements.Other
 
-too_many : (k : Kind) (b c d e f g : View) (vs : List View) → seen_after k (b ∷ c ∷ d ∷ e ∷ f ∷ g ∷ vs) ≡ nothing_or_other k
+too_many : (k : LineKind) (b c d e f g : View) (vs : List View) → seen_after k (b ∷ c ∷ d ∷ e ∷ f ∷ g ∷ vs) ≡ nothing_or_other k
 too_many kinds.Comment b c d e f g vs = refl
-too_many kinds.Problem b c d e f g vs = ap (λ (o : Option Statement). Some (or_other o)) (no_min b.is_min c d e (f ∷ g ∷ vs))
+too_many kinds.Problem b c d e f g vs = ap (λ (o : Option LineStatement). Some (or_other o)) (no_min b.is_min c d e (f ∷ g ∷ vs))
 too_many kinds.Node b c d e f g vs =
     ap (λ (o : Option (ℤ × ℤ)). Some (or_other (option_map (λ p. statements.Node p.0 p.1) o))) (no_two b.number c.number d.number (numbers_seen (e ∷ f ∷ g ∷ vs)))
 too_many kinds.Arc b c d e f g vs =
-    ap (λ (o : Option Statement). Some (or_other o)) (no_arc b.number c.number d.number e.number f.number g.number (numbers_seen vs))
+    ap (λ (o : Option LineStatement). Some (or_other o)) (no_arc b.number c.number d.number e.number f.number g.number (numbers_seen vs))
 too_many kinds.Other b c d e f g vs = refl
 
 pub seven_decide : (vs xs ys : List View) → 7 ≤ length vs → seen (vs ++ xs) ≡ seen (vs ++ ys)

@@ -12,8 +12,8 @@ use Rattle.net_normal.specs.Limits.{IsSized, IsFlowArcOf, flow_node_limit, flow_
 use Rattle.net_normal.specs.declared.problem.FlowArc.{FlowArc}
 use Rattle.net_dimacs.specs.Words.{Word}
 use Rattle.net_dimacs.specs.Words as words
-use Rattle.net_dimacs.specs.declared.problem_line.Statement.{Statement}
-use Rattle.net_dimacs.specs.declared.problem_line.Statement.TheVariants as statements
+use Rattle.net_dimacs.specs.declared.problem_line.LineStatement.{LineStatement}
+use Rattle.net_dimacs.specs.declared.problem_line.LineStatement.TheVariants as statements
 use Rattle.net_dimacs.specs.Lines.{is_blank, has_byte, fields_of, word_of}
 use Rattle.net_dimacs.specs.Written.{row, line, node_number, node_line, node_lines, arc_line, problem_text}
 use Rattle.net_dimacs.specs.Reading.{statement_of, line_statement}
@@ -117,14 +117,14 @@ lines_then body rest plain =
     ∙ lines_by body (slice_split (λ b. b == 10) rest) p.0 p.1 p.2 plain
 
 -- one line more, and what it says
-line_then : (kind : List ℕ) (zs : List ℤ) (rest : List ℕ) (statement : Statement) → Plain kind → Printable zs → line_statement (kind ++ row zs) ≡ Some statement
+line_then : (kind : List ℕ) (zs : List ℤ) (rest : List ℕ) (statement : LineStatement) → Plain kind → Printable zs → line_statement (kind ++ row zs) ≡ Some statement
     → statements_of (line kind zs ++ rest) ≡ statement ∷ statements_of rest
 line_then kind zs rest statement plain fit says =
     let body = kind ++ row zs in
     let grouped : line kind zs ++ rest ≡ body ++ 10 ∷ rest = ap (λ (x : List ℕ). x ++ rest) (sym (append_assoc kind (row zs) (10 ∷ []))) ∙ append_assoc body (10 ∷ []) rest in
     ap statements_of grouped
     ∙ ap (filter_map line_statement) (lines_then body rest (all_append IsPlain kind (row zs) plain (plain_row zs fit)))
-    ∙ ap (λ (o : Option Statement). cons_option o (statements_of rest)) says
+    ∙ ap (λ (o : Option LineStatement). cons_option o (statements_of rest)) says
 
 -- ---- the three kinds
 
@@ -150,7 +150,7 @@ arc_then arc rest fit =
 
 arcs_then : (arcs : List FlowArc) → AllByRecursion IsPrintableArc arcs → statements_of (flat_map arc_line arcs) ≡ map arc_statement arcs
 arcs_then [] fit = refl
-arcs_then (arc ∷ arcs) fit = arc_then arc (flat_map arc_line arcs) fit.0 ∙ ap (λ (x : List Statement). arc_statement arc ∷ x) (arcs_then arcs fit.1)
+arcs_then (arc ∷ arcs) fit = arc_then arc (flat_map arc_line arcs) fit.0 ∙ ap (λ (x : List LineStatement). arc_statement arc ∷ x) (arcs_then arcs fit.1)
 
 -- the nodes from v on whose supply is not 0
 abbrev named_at : ℕ → ℤ → List Named → List Named
@@ -162,13 +162,13 @@ abbrev named_from : ℕ → List ℤ → List Named
 named_from v [] = []
 named_from v (z ∷ zs) = named_at v z (named_from (v + 1) zs)
 
-at_node : (v : ℕ) (z : ℤ) (more : List Named) (text rest : List ℕ) (says : List Statement) → IsPrintable (node_number v) → IsPrintable z → statements_of (text ++ rest) ≡ map node_statement more ++ says
+at_node : (v : ℕ) (z : ℤ) (more : List Named) (text rest : List ℕ) (says : List LineStatement) → IsPrintable (node_number v) → IsPrintable z → statements_of (text ++ rest) ≡ map node_statement more ++ says
     → statements_of ((node_line v z ++ text) ++ rest) ≡ map node_statement (named_at v z more) ++ says
 at_node v (pos zero) more text rest says p q e = e
 at_node v (pos (suc n)) more text rest says p q e =
-    ap statements_of (append_assoc (node_line v (pos (suc n))) text rest) ∙ node_then v (pos (suc n)) (text ++ rest) p q ∙ ap (λ (x : List Statement). node_statement (v, pos (suc n)) ∷ x) e
+    ap statements_of (append_assoc (node_line v (pos (suc n))) text rest) ∙ node_then v (pos (suc n)) (text ++ rest) p q ∙ ap (λ (x : List LineStatement). node_statement (v, pos (suc n)) ∷ x) e
 at_node v (negsuc n) more text rest says p q e =
-    ap statements_of (append_assoc (node_line v (negsuc n)) text rest) ∙ node_then v (negsuc n) (text ++ rest) p q ∙ ap (λ (x : List Statement). node_statement (v, negsuc n) ∷ x) e
+    ap statements_of (append_assoc (node_line v (negsuc n)) text rest) ∙ node_then v (negsuc n) (text ++ rest) p q ∙ ap (λ (x : List LineStatement). node_statement (v, negsuc n) ∷ x) e
 
 nodes_then : (v : ℕ) (supplies : List ℤ) (rest : List ℕ) → v + length supplies < 2 ^ 63 → Printable supplies → statements_of (node_lines v supplies ++ rest) ≡ map node_statement (named_from v supplies) ++ statements_of rest
 nodes_then v [] rest few fit = refl
@@ -260,7 +260,7 @@ written_is s a fit =
     record {
       named = named_from 0 s;
       says = line_then (codes "p min") (n ∷ m ∷ []) rest (statements.Problem n m) kind counts (head_says n m counts)
-          ∙ ap (λ (x : List Statement). statements.Problem n m ∷ x) (nodes_then 0 s (flat_map arc_line a) (omega arith) supplies ∙ ap (λ (x : List Statement). map node_statement (named_from 0 s) ++ x) (arcs_then a arcs));
+          ∙ ap (λ (x : List LineStatement). statements.Problem n m ∷ x) (nodes_then 0 s (flat_map arc_line a) (omega arith) supplies ∙ ap (λ (x : List LineStatement). map node_statement (named_from 0 s) ++ x) (arcs_then a arcs));
       nodes = named_within 0 (length s) s (omega arith);
       distinct = named_distinct 0 s;
       supply = λ v inside. sym (ap (λ (w : ℕ). supply_after (named_from 0 s) w (pos 0)) (let e : v ≡ 0 + v = omega arith in e) ∙ named_supply 0 v s);

@@ -4,10 +4,10 @@ use Rattle.std.specs.Prelude.{◌≡◌, ℕ, ◌-◌, ◌^◌, ◌<◌, ◌≤�
 use Rattle.std.specs.Option.{option_map, option_and_then}
 use Rattle.std.specs.Str.{all_ascii_digits}
 use Rattle.net_dimacs.specs.Lines.{is_blank, value_after, fields_of, number_of, is_text, begins_with}
-use Rattle.net_dimacs.specs.declared.problem_line.Statement.{Statement}
-use Rattle.net_dimacs.specs.declared.problem_line.Statement.TheVariants as statements
-use Rattle.net_dimacs.specs.declared.problem_line.Kind.{Kind}
-use Rattle.net_dimacs.specs.declared.problem_line.Kind.TheVariants as kinds
+use Rattle.net_dimacs.specs.declared.problem_line.LineStatement.{LineStatement}
+use Rattle.net_dimacs.specs.declared.problem_line.LineStatement.TheVariants as statements
+use Rattle.net_dimacs.specs.declared.problem_line.LineKind.{LineKind}
+use Rattle.net_dimacs.specs.declared.problem_line.LineKind.TheVariants as kinds
 
 abbrev pub greatest_signed : ℕ
 greatest_signed = 2 ^ 63 - 1
@@ -17,7 +17,7 @@ abbrev pub cut : ℤ → ℤ
 cut (pos n) = pos (min n greatest_signed)
 cut (negsuc n) = neg_ℤ (pos (min (suc n) greatest_signed))
 
-abbrev pub cut_statement : Statement → Statement
+abbrev pub cut_statement : LineStatement → LineStatement
 cut_statement (statements.Problem nodes arcs) = statements.Problem (cut nodes) (cut arcs)
 cut_statement (statements.Node node supply) = statements.Node (cut node) (cut supply)
 cut_statement (statements.Arc src dst low cap cost) = statements.Arc (cut src) (cut dst) (cut low) (cut cap) (cut cost)
@@ -61,21 +61,21 @@ abbrev pub two_in : Numerals → Option (ℤ × ℤ)
 two_in fields = option_and_then (λ a. option_and_then (λ b. at_end (a.0, b.0) b.1) (first_number a.1)) (first_number fields)
 
 -- exactly the five numbers of an arc
-abbrev pub arc_in : Numerals → Option Statement
+abbrev pub arc_in : Numerals → Option LineStatement
 arc_in fields =
     option_and_then (λ a. option_and_then (λ b. option_and_then (λ c. option_and_then (λ d. option_and_then
     (λ e. at_end (statements.Arc a.0 b.0 c.0 d.0 e.0) e.1) (first_number d.1)) (first_number c.1)) (first_number b.1)) (first_number a.1)) (first_number fields)
 
-abbrev pub node_in : Numerals → Option Statement
+abbrev pub node_in : Numerals → Option LineStatement
 node_in fields = option_map (λ p. statements.Node p.0 p.1) (two_in fields)
 
 -- the fields after `p`
-abbrev pub problem_in : List (List ℕ) → Option Statement
+abbrev pub problem_in : List (List ℕ) → Option LineStatement
 problem_in [] = None
 problem_in (field ∷ more) = if is_text (codes "min") field then option_map (λ p. statements.Problem p.0 p.1) (two_in (map cut_number more)) else None
 
 -- the kind of line that a first field indicates
-abbrev pub kind_of : List ℕ → Kind
+abbrev pub kind_of : List ℕ → LineKind
 kind_of field =
     if begins_with 99 field then kinds.Comment
     else if is_text (codes "p") field then kinds.Problem
@@ -83,11 +83,11 @@ kind_of field =
     else if is_text (codes "a") field then kinds.Arc
     else kinds.Other
 
-abbrev pub or_other : Option Statement → Statement
+abbrev pub or_other : Option LineStatement → LineStatement
 or_other line_statement = unwrap_or line_statement statements.Other
 
 -- the statement of a line of this kind, from the fields after the first
-abbrev pub statement_of_kind : Kind → List (List ℕ) → Option Statement
+abbrev pub statement_of_kind : LineKind → List (List ℕ) → Option LineStatement
 statement_of_kind kinds.Comment fields = None
 statement_of_kind kinds.Problem fields = Some (or_other (problem_in fields))
 statement_of_kind kinds.Node fields = Some (or_other (node_in (map cut_number fields)))

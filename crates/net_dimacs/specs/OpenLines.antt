@@ -8,7 +8,7 @@ use Rattle.net_dimacs.specs.Lines.{is_blank, is_feed, is_text, HasNone}
 use Rattle.net_dimacs.specs.Numbers.{cut_statement, cut_number, kind_of}
 use Rattle.net_dimacs.specs.Numerals.{size_of}
 use Rattle.net_dimacs.specs.Reading.{line_statement}
-use Rattle.net_dimacs.specs.declared.problem_line.Kind.{Kind}
+use Rattle.net_dimacs.specs.declared.problem_line.LineKind.{LineKind}
 
 -- with any continuation, both prefixes give a line with the same meaning
 abbrev pub IsSameStatement : List ℕ → List ℕ → Type 0
@@ -17,7 +17,7 @@ IsSameStatement front line = (more : List ℕ) → option_map cut_statement (lin
 -- all that the reader uses of a field: the kind of line that it indicates, whether it is `min`, and
 -- its saturated number
 pub record View : Type 0 where
-  pub kind : Kind
+  pub kind : LineKind
   pub is_min : Bool
   pub number : Option ℤ
 

@@ -4,16 +4,16 @@ use Rattle.std.specs.List.{AllByRecursion}
 use Rattle.std.specs.Str.Lines.{lines}
 use Rattle.net_normal.specs.Limits.{IsWithinLimits}
 use Rattle.net_normal.specs.declared.problem.FlowArc.{FlowArc}
-use Rattle.net_dimacs.specs.declared.problem_line.Statement.{Statement}
-use Rattle.net_dimacs.specs.declared.problem_line.Statement.TheVariants.{Problem, Node, Arc}
+use Rattle.net_dimacs.specs.declared.problem_line.LineStatement.{LineStatement}
+use Rattle.net_dimacs.specs.declared.problem_line.LineStatement.TheVariants.{Problem, Node, Arc}
 use Rattle.net_dimacs.specs.Reading.{line_statement, new_sketch}
 
 -- the meaning of all lines except blank lines and comments
-abbrev pub statements_of : List ℕ → List Statement
+abbrev pub statements_of : List ℕ → List LineStatement
 statements_of text = filter_map line_statement (lines text)
 
 -- the first of these statements can begin a problem: a `p` line with counts within the limits
-abbrev pub BeginsProblem : List Statement → Type 0
+abbrev pub BeginsProblem : List LineStatement → Type 0
 BeginsProblem (Problem nodes arcs ∷ more) = IsOk (new_sketch nodes arcs)
 BeginsProblem says = ⊥
 
@@ -21,10 +21,10 @@ BeginsProblem says = ⊥
 abbrev pub Named : Type 0
 Named = ℕ × ℤ
 
-abbrev pub node_statement : Named → Statement
+abbrev pub node_statement : Named → LineStatement
 node_statement n = Node (pos (n.0 + 1)) n.1
 
-abbrev pub arc_statement : FlowArc → Statement
+abbrev pub arc_statement : FlowArc → LineStatement
 arc_statement arc = Arc (pos (arc.src + 1)) (pos (arc.dst + 1)) arc.low arc.cap arc.cost
 
 -- no node occurs twice

@@ -9,8 +9,8 @@ use Rattle.net_dimacs.specs.Limits.{text_limit}
 use Rattle.net_dimacs.specs.Lines.{fields_of, word_of}
 use Rattle.net_dimacs.specs.Words.{Word}
 use Rattle.net_dimacs.specs.Words.{Comment, Problem, Node, Arc, Min, Number}
-use Rattle.net_dimacs.specs.declared.problem_line.Statement.{Statement}
-use Rattle.net_dimacs.specs.declared.problem_line.Statement.TheVariants as statements
+use Rattle.net_dimacs.specs.declared.problem_line.LineStatement.{LineStatement}
+use Rattle.net_dimacs.specs.declared.problem_line.LineStatement.TheVariants as statements
 use Rattle.net_dimacs.specs.declared.problem_fault.LineFault.{LineFault}
 use Rattle.net_dimacs.specs.declared.problem_fault.LineFault.TheVariants.{BadLine, NoProblemLine, LineOrder, NodeNumber, DoubleNode, Count, Bounds, TooLarge}
 use Rattle.net_dimacs.specs.declared.problem_fault.Rejection.{Rejection}
@@ -20,7 +20,7 @@ use Rattle.net_dimacs.specs.declared.problem_fault.ProblemFault.TheVariants as f
 -- ---- the meaning of a line
 
 -- the three kinds of lines; blank lines and comments have no meaning
-abbrev pub statement_of : List Word → Option Statement
+abbrev pub statement_of : List Word → Option LineStatement
 statement_of [] = None
 statement_of (Comment ∷ words) = None
 statement_of (Problem ∷ Min ∷ Number nodes ∷ Number arcs ∷ []) = Some (statements.Problem nodes arcs)
@@ -28,7 +28,7 @@ statement_of (Node ∷ Number node ∷ Number supply ∷ []) = Some (statements.
 statement_of (Arc ∷ Number src ∷ Number dst ∷ Number low ∷ Number cap ∷ Number cost ∷ []) = Some (statements.Arc src dst low cap cost)
 statement_of words = Some statements.Other
 
-abbrev pub line_statement : List ℕ → Option Statement
+abbrev pub line_statement : List ℕ → Option LineStatement
 line_statement line = statement_of (map word_of (fields_of line))
 
 -- ---- the state after some lines
@@ -103,25 +103,25 @@ state_from line (Ok d) = Open d
 state_from line (Err fault) = rejected line fault
 
 -- the state after the first line with a meaning
-abbrev pub new_state : ℕ → Statement → State
+abbrev pub new_state : ℕ → LineStatement → State
 new_state line (statements.Problem nodes arcs) = state_from line (new_sketch nodes arcs)
 new_state line (statements.Node node supply) = rejected line NoProblemLine
 new_state line (statements.Arc src dst low cap cost) = rejected line NoProblemLine
 new_state line statements.Other = rejected line BadLine
 
 -- a line after the `p` line
-abbrev pub next_sketch : Sketch → Statement → Result Sketch LineFault
+abbrev pub next_sketch : Sketch → LineStatement → Result Sketch LineFault
 next_sketch d (statements.Problem nodes arcs) = Err LineOrder
 next_sketch d (statements.Node node supply) = with_node d node supply
 next_sketch d (statements.Arc src dst low cap cost) = with_arc d src dst low cap cost
 next_sketch d statements.Other = Err BadLine
 
-abbrev pub with_statement : ℕ → State → Statement → State
+abbrev pub with_statement : ℕ → State → LineStatement → State
 with_statement line Start statement = new_state line statement
 with_statement line (Open d) statement = state_from line (next_sketch d statement)
 with_statement line (Rejected r) statement = Rejected r
 
-abbrev pub with_optional_statement : ℕ → State → Option Statement → State
+abbrev pub with_optional_statement : ℕ → State → Option LineStatement → State
 with_optional_statement line state None = state
 with_optional_statement line state (Some statement) = with_statement line state statement
 

@@ -5,14 +5,14 @@ ghost use Rattle.net_normal.specs.Limits.{IsSized, IsFlowArcOf, flow_node_limit,
 ghost use Rattle.net_dimacs.specs.Reading.{is_past, bounds_fault};
 
 use crate::problem_fault::LineFault;
-use crate::problem_line::Statement;
+use crate::problem_line::LineStatement;
 use crate::progress::LineStop;
 use net_normal::{COST_LIMIT, FLOW_ARC_LIMIT, FLOW_LIMIT, FLOW_NODE_LIMIT, FlowArc, Problem};
 use std::alloc::Global;
 
 /// The content of the lines from the `p` line on, so far.
 #[derive(Drop)]
-pub struct Draft {
+pub struct ProblemDraft {
     /// The supply of each node, 0 if no line has set it.
     pub supplies: Vec<i64>,
     /// For each node, whether a line has set its supply.
@@ -31,13 +31,13 @@ pub struct Draft {
     pub ghost arcs_fit: { All (IsFlowArcOf (vec_len supplies)) arcs.items },
 }
 
-impl Draft {
+impl ProblemDraft {
     ghost use Rattle.net_dimacs.specs.Reading.{place_of, new_sketch, with_node, with_arc, next_sketch};
     ghost use Rattle.net_dimacs.specs.Drafts.{sketch_of, GivesDraft, GivesSketch};
 
     /// Starts a problem with the counts of a `p` line. Checks the counts before it allocates
     /// memory.
-    pub fn new(alloc: Global, nodes: i64, arcs: i64) -> Result<Draft, LineStop>
+    pub fn new(alloc: Global, nodes: i64, arcs: i64) -> Result<ProblemDraft, LineStop>
         ensures { GivesDraft (new_sketch nodes arcs) result }
     {
         if nodes < 1 || arcs < 0 {
@@ -48,7 +48,7 @@ impl Draft {
         }
         let node_count = nodes as usize;
         let arc_count = arcs as usize;
-        Ok(Draft {
+        Ok(ProblemDraft {
             supplies: vec![in alloc; 0; node_count]?,
             named: vec![in alloc; false; node_count]?,
             arcs: Vec::with_capacity(alloc, arc_count)?,
@@ -57,14 +57,14 @@ impl Draft {
     }
 
     /// Adds the next line. Allocates no memory.
-    pub fn take(&mut self, statement: Statement) -> Result<(), LineFault>
+    pub fn take(&mut self, statement: LineStatement) -> Result<(), LineFault>
         ensures { GivesSketch (next_sketch (sketch_of self.old) statement) result (sketch_of self.new) }
     {
         match statement {
-            Statement::Problem(..) => Err(LineFault::LineOrder),
-            Statement::Node(node, supply) => self.take_node(node, supply),
-            Statement::Arc(src, dst, low, cap, cost) => self.take_arc(src, dst, low, cap, cost),
-            Statement::Other => Err(LineFault::BadLine),
+            LineStatement::Problem(..) => Err(LineFault::LineOrder),
+            LineStatement::Node(node, supply) => self.take_node(node, supply),
+            LineStatement::Arc(src, dst, low, cap, cost) => self.take_arc(src, dst, low, cap, cost),
+            LineStatement::Other => Err(LineFault::BadLine),
         }
     }
 

@@ -11,7 +11,7 @@ use crate::number_field::split_number;
 
 /// The meaning of a line that is neither blank nor a comment. Numbers outside `i64` are saturated.
 #[derive(Clone, Copy)]
-pub enum Statement {
+pub enum LineStatement {
     /// The number of nodes and the number of arcs, as in `p min 3 2`.
     Problem(i64, i64),
     /// A node's number and its supply, as in `n 1 -5`.
@@ -24,7 +24,7 @@ pub enum Statement {
 
 /// The kind of line that a first field indicates.
 #[derive(Clone, Copy)]
-pub enum Kind {
+pub enum LineKind {
     /// It begins with `c`.
     Comment,
     /// `p`
@@ -38,56 +38,56 @@ pub enum Kind {
 }
 
 /// Parses a line. Returns `None` for a blank line and for a comment.
-pub fn statement_of(line: &[u8]) -> Option<Statement>
+pub fn statement_of(line: &[u8]) -> Option<LineStatement>
     ensures { result ≡ option_map cut_statement (line_statement line.now) }
 {
     let (field, rest) = split_field(line)?;
     statement_of_kind(kind_of(field), rest)
 }
 
-fn statement_of_kind(kind: Kind, rest: &[u8]) -> Option<Statement>
+fn statement_of_kind(kind: LineKind, rest: &[u8]) -> Option<LineStatement>
     ensures { result ≡ statement_of_kind kind (fields_of rest.now) }
 {
     let line_statement = match kind {
-        Kind::Comment => return None,
-        Kind::Problem => problem_in(rest),
-        Kind::Node => node_in(rest),
-        Kind::Arc => arc_in(rest),
-        Kind::Other => None,
+        LineKind::Comment => return None,
+        LineKind::Problem => problem_in(rest),
+        LineKind::Node => node_in(rest),
+        LineKind::Arc => arc_in(rest),
+        LineKind::Other => None,
     };
-    Some(line_statement.unwrap_or(Statement::Other))
+    Some(line_statement.unwrap_or(LineStatement::Other))
 }
 
-fn kind_of(field: &[u8]) -> Kind
+fn kind_of(field: &[u8]) -> LineKind
     ensures { result ≡ kind_of field.now }
 {
     match field {
-        [b'c', ..] => Kind::Comment,
-        [b'p'] => Kind::Problem,
-        [b'n'] => Kind::Node,
-        [b'a'] => Kind::Arc,
-        _ => Kind::Other,
+        [b'c', ..] => LineKind::Comment,
+        [b'p'] => LineKind::Problem,
+        [b'n'] => LineKind::Node,
+        [b'a'] => LineKind::Arc,
+        _ => LineKind::Other,
     }
 }
 
-fn problem_in(bytes: &[u8]) -> Option<Statement>
+fn problem_in(bytes: &[u8]) -> Option<LineStatement>
     ensures { result ≡ problem_in (fields_of bytes.now) }
 {
     let (field, rest) = split_field(bytes)?;
     match field {
         b"min" => {
             let (nodes, arcs) = two_in(rest)?;
-            Some(Statement::Problem(nodes, arcs))
+            Some(LineStatement::Problem(nodes, arcs))
         }
         _ => None,
     }
 }
 
-fn node_in(bytes: &[u8]) -> Option<Statement>
+fn node_in(bytes: &[u8]) -> Option<LineStatement>
     ensures { result ≡ node_in (cut_numbers bytes.now) }
 {
     let (node, supply) = two_in(bytes)?;
-    Some(Statement::Node(node, supply))
+    Some(LineStatement::Node(node, supply))
 }
 
 fn two_in(bytes: &[u8]) -> Option<(i64, i64)>
@@ -101,7 +101,7 @@ fn two_in(bytes: &[u8]) -> Option<(i64, i64)>
     }
 }
 
-fn arc_in(bytes: &[u8]) -> Option<Statement>
+fn arc_in(bytes: &[u8]) -> Option<LineStatement>
     ensures { result ≡ arc_in (cut_numbers bytes.now) }
 {
     let (src, rest) = split_number(bytes)?;
@@ -110,7 +110,7 @@ fn arc_in(bytes: &[u8]) -> Option<Statement>
     let (cap, rest) = split_number(rest)?;
     let (cost, rest) = split_number(rest)?;
     match split_field(rest) {
-        None => Some(Statement::Arc(src, dst, low, cap, cost)),
+        None => Some(LineStatement::Arc(src, dst, low, cap, cost)),
         Some(_) => None,
     }
 }

@@ -3,9 +3,9 @@
 ghost use Rattle.std.specs.Prelude.{◌≡◌, OnOk, OnErr, IsErrOf, option_to_list};
 ghost use Rattle.net_dimacs.specs.declared.progress.LineStop.TheVariants as line_stops;
 
-use crate::problem_draft::Draft;
+use crate::problem_draft::ProblemDraft;
 use crate::problem_fault::{LineFault, ProblemFault, Rejection};
-use crate::problem_line::Statement;
+use crate::problem_line::LineStatement;
 use net_normal::Problem;
 use std::alloc::{AllocError, AllocFailed, Global};
 
@@ -15,7 +15,7 @@ pub enum Progress {
     /// Nothing yet.
     Start,
     /// A partial problem.
-    Open(Draft),
+    Open(ProblemDraft),
     /// The first error.
     Rejected(Rejection),
 }
@@ -31,7 +31,7 @@ impl Progress {
         &mut self,
         alloc: Global,
         line: usize,
-        line_statement: Option<Statement>,
+        line_statement: Option<LineStatement>,
     ) -> Result<(), AllocError>
         ensures ok { OnOk result (state_of self.new ≡ with_optional_statement line (state_of self.old) line_statement) }
         ensures err { OnErr result ((state_of self.old ≡ Start) × BeginsProblem (option_to_list line_statement)) }
@@ -52,12 +52,12 @@ impl Progress {
     }
 
     /// Returns the state after the first line with a meaning.
-    fn begun(alloc: Global, line: usize, statement: Statement) -> Result<Progress, AllocError>
+    fn begun(alloc: Global, line: usize, statement: LineStatement) -> Result<Progress, AllocError>
         ensures { GivesState (new_state line statement) statement result }
     {
         let draft = match statement {
-            Statement::Problem(nodes, arcs) => Draft::new(alloc, nodes, arcs),
-            Statement::Other => Err(LineStop::Line(LineFault::BadLine)),
+            LineStatement::Problem(nodes, arcs) => ProblemDraft::new(alloc, nodes, arcs),
+            LineStatement::Other => Err(LineStop::Line(LineFault::BadLine)),
             _ => Err(LineStop::Line(LineFault::NoProblemLine)),
         };
         match draft {

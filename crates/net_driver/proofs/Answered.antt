@@ -5,7 +5,7 @@ use Rattle.std.proofs.lemmas.List.{length-map}
 use Rattle.net_check.specs.Certificates.{IsCertificate, IsViolatedCut}
 use Rattle.net_check.specs.declared.certificate.Side.{Side}
 use Rattle.net_expr.specs.Worlds.{Name}
-use Rattle.net_inst.specs.AsWritten.{Node, Arc, nodes, arcs, arc_declared, AreDistinct, Assignment, numbers_on, IsFeasible}
+use Rattle.net_inst.specs.AsWritten.{WrittenNode, WrittenArc, nodes, arcs, arc_declared, AreDistinct, Assignment, numbers_on, IsFeasible}
 use Rattle.net_inst.specs.ByName.{CorrespondsByName, up, Agree}
 use Rattle.net_inst.specs.Instances.{Network, seen_as}
 use Rattle.net_inst.specs.Laws.{HaveObjective, IsKeyOf, IsObjectiveOf, total_of}
@@ -30,10 +30,10 @@ use Rattle.net_driver.proofs.Promise.{some_same}
 use Rattle.net_driver.proofs.Solving.{as_good}
 
 -- what is alike on each arc has one value
-value_alike : (o : Objective) (n : Network) (ns : List Node) (all : List Arc) → IsObjectiveOf o n all → AreDistinct ns all → (x y : Assignment) → Agree all x y → value_of o x ≡ value_of o y
+value_alike : (o : Objective) (n : Network) (ns : List WrittenNode) (all : List WrittenArc) → IsObjectiveOf o n all → AreDistinct ns all → (x y : Assignment) → Agree all x y → value_of o x ≡ value_of o y
 value_alike o n ns all aim distinct x y agree = sym (aim.value distinct.arcs x) ∙ ap (total_of n) agree ∙ aim.value distinct.arcs y
 
-best : (o : Objective) (n : Network) (ns : List Node) (all : List Arc) (c : Compiled) (flows : List ℤ) (cost : ℤ) (text : List ℕ) (numbers : List ℤ) (value : ℤ) → IsObjectiveOf o n all → c.link.sense ≡ o.sense
+best : (o : Objective) (n : Network) (ns : List WrittenNode) (all : List WrittenArc) (c : Compiled) (flows : List ℤ) (cost : ℤ) (text : List ℕ) (numbers : List ℤ) (value : ℤ) → IsObjectiveOf o n all → c.link.sense ≡ o.sense
     → CorrespondsByName ns all o c.problem c.link → AreDistinct ns all → IsFeasibleFlow c.problem flows → cost ≡ cost_of c.problem flows
     → ((others : List ℤ) → IsFeasibleFlow c.problem others → cost ≤ℤ cost_of c.problem others) → IsMappedBack c flows cost text numbers value → length numbers ≡ length all → IsBestPlan ns all o numbers value
 best o n ns all c flows cost text numbers value aim sense by distinct feasible is bounds map_back each =
@@ -48,7 +48,7 @@ best o n ns all c flows cost text numbers value aim sense by distinct feasible i
           (subst (IsAsGood o.sense (value_at c.link cost)) same (as_good c.link o.sense cost (cost_of c.problem back.0) sense (bounds back.0 back.1)));
     }
 
-none : (o : Objective) (ns : List Node) (all : List Arc) (c : Compiled) → CorrespondsByName ns all o c.problem c.link → ((flows : List ℤ) → ¬ IsFeasibleFlow c.problem flows) → (x : Assignment) → ¬ IsFeasible ns all x
+none : (o : Objective) (ns : List WrittenNode) (all : List WrittenArc) (c : Compiled) → CorrespondsByName ns all o c.problem c.link → ((flows : List ℤ) → ¬ IsFeasibleFlow c.problem flows) → (x : Assignment) → ¬ IsFeasible ns all x
 none o ns all c by empty x fits = let back = by.onto x fits in empty back.0 back.1
 
 mapped_back_each : (numbers : List ℕ) (offsets flows : List ℤ) → length numbers ≡ length offsets → length (mapped_back_by numbers offsets flows) ≡ length numbers
@@ -60,10 +60,10 @@ mapped_back_each (n ∷ ns) (o ∷ os) flows e = ap suc (mapped_back_each ns os 
 numbered : (lean : Bool) (wanted : Option Name) (m d : List ℕ) (c : Compiled) (promise : IsBuilt lean wanted m d c) (flows numbers : List ℤ) → numbers ≡ mapped_back_by c.link.numbers.items c.link.offsets.items flows
     → length numbers ≡ length (arcs promise.world promise.declarations)
 numbered lean wanted m d c promise flows numbers is =
-    let labels = map (λ (a : Arc). a.label) (arcs promise.world promise.declarations) in
+    let labels = map (λ (a : WrittenArc). a.label) (arcs promise.world promise.declarations) in
     let each = mapped_back_each c.link.numbers.items c.link.offsets.items flows (omega (arith, c.link.numbers.ok.0, c.link.offsets.ok.0, c.link.paired)) in
     let named = zip_length (IsKeyOf (flat_map arc_declared promise.declarations)) labels c.names.arcs.keys promise.arc_names.keys in
-    omega (arith, ap length is, each, named, length-map (arcs promise.world promise.declarations) (λ (a : Arc). a.label), promise.sizes.arcs, c.link.numbers.ok.0)
+    omega (arith, ap length is, each, named, length-map (arcs promise.world promise.declarations) (λ (a : WrittenArc). a.label), promise.sizes.arcs, c.link.numbers.ok.0)
 
 -- the network's sum is the value of the promised objective
 pub aim_of : (lean : Bool) (wanted : Option Name) (m d : List ℕ) (c : Compiled) → HaveObjective → (promise : IsBuilt lean wanted m d c) → IsObjectiveOf promise.objective (seen_as promise.made) (arcs promise.world promise.declarations)

@@ -2,10 +2,10 @@
 use Rattle.std.specs.Prelude.{◌≡◌, ℕ, List, Option, Ok}
 use Rattle.net_data.specs.declared.statement.Statement.{Statement}
 use Rattle.net_tree.specs.Tree.{Declaration}
-use Rattle.net_resolve.specs.Names.{IsWellNamed}
+use Rattle.net_names.specs.Names.{IsWellNamed}
 use Rattle.net_expr.specs.Worlds.{Name, World}
-use Rattle.net_eval.specs.Binding as binding
-use Rattle.net_eval.proofs.HeldEntries.{have_sets}
+use Rattle.net_bind.specs.Binding as binding
+use Rattle.net_bind.proofs.HeldEntries.{have_sets}
 use Rattle.net_inst.specs.AsWritten.{nodes, arcs, AreDistinct}
 use Rattle.net_inst.specs.Instances.{Network}
 use Rattle.net_inst.proofs.KeysOnce.{are_distinct_in_sets}

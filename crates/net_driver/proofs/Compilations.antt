@@ -9,7 +9,7 @@ use Rattle.net_model.specs.GrammarLaws as model_laws
 use Rattle.net_model.specs.GrammarOfDeclarations.{IsModel}
 use Rattle.net_data.specs.GrammarLaws as data_laws
 use Rattle.net_expr.specs.Worlds.{Name}
-use Rattle.net_eval.specs.Soundness.{WorldsAreSound}
+use Rattle.net_bind.specs.Soundness.{WorldsAreSound}
 use Rattle.net_meaning.specs.Network as meaning
 use Rattle.net_meaning.specs.Network.{IsNetwork, IsEvaluated}
 use Rattle.net_meaning.specs.Represents.{Represents}
@@ -37,16 +37,16 @@ use Rattle.net_inst.proofs.SoundProblems.{problems_represent}
 use Rattle.net_inst.proofs.SoundAssignments.{assignments_are_sound}
 use Rattle.net_inst.proofs.Feasible.{have_feasible}
 use Rattle.net_inst.proofs.Aiming.{have_objective}
-use Rattle.net_eval.proofs.SoundWorlds.{worlds_are_sound}
+use Rattle.net_bind.proofs.SoundWorlds.{worlds_are_sound}
 use Rattle.net_model.proofs.GrammarModelsComplete.{model-complete}
 use Rattle.net_data.proofs.GrammarAgrees.{complete}
 
 -- ---- labels
 
-one_label : (m : written.Label) (l : meaning.Label) → l.name ≡ m.name → l.indexed ≡ m.indexed → l.key ≡ m.key → m ≡ listed_label l
+one_label : (m : written.WrittenLabel) (l : meaning.Label) → l.name ≡ m.name → l.indexed ≡ m.indexed → l.key ≡ m.key → m ≡ listed_label l
 one_label m l name indexed key = λ t. record { name = sym name t; indexed = sym indexed t; key = sym key t }
 
-node_labels : (ns : List written.Node) (vs : List meaning.Node) → AllZip IsSameNode ns vs → map (λ (n : written.Node). n.label) ns ≡ map (λ (v : meaning.Node). listed_label v.label) vs
+node_labels : (ns : List written.WrittenNode) (vs : List meaning.Node) → AllZip IsSameNode ns vs → map (λ (n : written.WrittenNode). n.label) ns ≡ map (λ (v : meaning.Node). listed_label v.label) vs
 node_labels [] [] h = refl
 node_labels [] (v ∷ vs) h = absurd h
 node_labels (n ∷ ns) [] h = absurd h
@@ -55,7 +55,7 @@ node_labels (n ∷ ns) (v ∷ vs) h =
     let more = node_labels ns vs h.1 in
     λ t. one t ∷ more t
 
-arc_labels : (xs : List written.Arc) (all : List meaning.Arc) → AllZip IsSameArc xs all → map (λ (x : written.Arc). x.label) xs ≡ map (λ (a : meaning.Arc). listed_label a.label) all
+arc_labels : (xs : List written.WrittenArc) (all : List meaning.Arc) → AllZip IsSameArc xs all → map (λ (x : written.WrittenArc). x.label) xs ≡ map (λ (a : meaning.Arc). listed_label a.label) all
 arc_labels [] [] h = refl
 arc_labels [] (a ∷ all) h = absurd h
 arc_labels (x ∷ xs) [] h = absurd h
@@ -155,7 +155,7 @@ module _ (represent : ProblemsRepresent) (worlds : WorldsAreSound) (models : mod
 
   -- ---- solved models
 
-  printed : (c : Compiled) (ns : List written.Node) (xs : List written.Arc) (p : Objective) (o : Outcome) → IsOutcome c ns xs p o → IsPrinted c o
+  printed : (c : Compiled) (ns : List written.WrittenNode) (xs : List written.WrittenArc) (p : Objective) (o : Outcome) → IsOutcome c ns xs p o → IsPrinted c o
   printed c ns xs p (Displayed text numbers value) h = h.displayed
   printed c ns xs p (Infeasible text flags side) h = (h.violated, h.reported)
 

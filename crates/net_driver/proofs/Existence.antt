@@ -14,7 +14,7 @@ use Rattle.net_data.specs.declared.data_parser.ParseError.{ParseError as DataSto
 use Rattle.net_data.specs.declared.statement.Tables.{Tables}
 use Rattle.net_data.specs.Reading as data_reading
 use Rattle.net_data.proofs.TablesMean.{tables-sound}
-use Rattle.net_eval.specs.Binding as binding
+use Rattle.net_bind.specs.Binding as binding
 use Rattle.net_expr.specs.Worlds.{Name, World}
 use Rattle.net_inst.specs.Instances.{Network, network}
 use Rattle.net_driver.specs.Reading.{IsModel, IsData, IsNetworkOf}

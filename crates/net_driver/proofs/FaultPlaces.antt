@@ -18,8 +18,8 @@ use Rattle.net_driver.proofs.ModelPlaces.{meant_lies}
 use Rattle.net_data.specs.declared.statement.Tables.{Tables}
 use Rattle.net_data.specs.Standing.{StatementsHaveSpans}
 use Rattle.net_data.proofs.Standing.{rising_stand, mean_stand, stop_lies}
-use Rattle.net_eval.proofs.WorldFaults.{finds_world}
-use Rattle.net_eval.specs.Binding as binding
+use Rattle.net_bind.proofs.WorldFaults.{finds_world}
+use Rattle.net_bind.specs.Binding as binding
 use Rattle.net_expr.specs.Worlds.{Name}
 use Rattle.net_inst.specs.Instances.{network}
 use Rattle.net_inst.proofs.NetworkFaults.{finds_network}

@@ -90,10 +90,10 @@ key_within [] h = tt
 key_within (member.Number n ∷ key) h = (tt, key_within key h.1)
 key_within (member.Name text ∷ key) h = (h.0, key_within key h.1)
 
-abbrev LabelsStay : List written.Label → Type 0
-LabelsStay labels = AllByRecursion (λ (l : written.Label). TupleHolds HasNoLineEnd l.key) labels
+abbrev LabelsStay : List written.WrittenLabel → Type 0
+LabelsStay labels = AllByRecursion (λ (l : written.WrittenLabel). TupleHolds HasNoLineEnd l.key) labels
 
-keys_within : (declared : List Declared) (labels : List written.Label) (keys : List Key) → LabelsStay labels → AllZip (IsKeyOf declared) labels keys → AllByRecursion (λ (k : Key). AreWithinLine k.tuple) keys
+keys_within : (declared : List Declared) (labels : List written.WrittenLabel) (keys : List Key) → LabelsStay labels → AllZip (IsKeyOf declared) labels keys → AllByRecursion (λ (k : Key). AreWithinLine k.tuple) keys
 keys_within declared [] [] h z = tt
 keys_within declared [] (k ∷ keys) h z = absurd z
 keys_within declared (l ∷ labels) [] h z = absurd z
@@ -104,7 +104,7 @@ abbrev AreUnchanged : Type 0
 AreUnchanged = (listed : Listed) → HasLineNames listed → AllByRecursion (λ (name : List ℕ). in_line name ≡ name) (names_in listed)
 
 -- the names of labels are exact in the name map
-exact : AreUnchanged → (declared : List Declared) (labels : List written.Label) (listed : Listed) → NamesStay declared → LabelsStay labels → AreNames declared labels listed → AreExact listed
+exact : AreUnchanged → (declared : List Declared) (labels : List written.WrittenLabel) (listed : Listed) → NamesStay declared → LabelsStay labels → AreNames declared labels listed → AreExact listed
 exact same declared labels listed h k are = record { within = within; unchanged = same listed within }
   where
     within : HasLineNames listed

@@ -9,7 +9,7 @@ use Rattle.net_tree.specs.Syntax.{Declaration}
 use Rattle.net_normal.specs.Assignments.{IsFeasibleAssignment, value_of}
 use Rattle.net_expr.specs.SetValues.{HasSets}
 use Rattle.net_expr.specs.Worlds.{Name, World}
-use Rattle.net_eval.proofs.HeldEntries.{have_sets}
+use Rattle.net_bind.proofs.HeldEntries.{have_sets}
 use Rattle.net_meaning.specs.Network as meaning
 use Rattle.net_meaning.specs.Network.{flow_on}
 use Rattle.net_meaning.specs.Represents.{by_label}
@@ -48,7 +48,7 @@ compiled_represent represent lean wanted m d c h =
 
 -- ---- answers
 
-flows_same : (xs : List written.Arc) (all : List meaning.Arc) (x : meaning.Assignment) → AllZip IsSameArc xs all → map (flow_on x) all ≡ written.numbers_on x xs
+flows_same : (xs : List written.WrittenArc) (all : List meaning.Arc) (x : meaning.Assignment) → AllZip IsSameArc xs all → map (flow_on x) all ≡ written.numbers_on x xs
 flows_same [] [] x h = refl
 flows_same [] (a ∷ all) x h = absurd h
 flows_same (v ∷ xs) [] x h = absurd h
@@ -58,7 +58,7 @@ flows_same (v ∷ xs) (a ∷ all) x h =
     λ t. one t ∷ rest t
 
 -- the flows in order are one assignment by either labels
-by_same : (xs : List written.Arc) (all : List meaning.Arc) (ys : List ℤ) → AllZip IsSameArc xs all → (n : Name) (key : Tuple) → by_label all ys n key ≡ by_arc xs ys n key
+by_same : (xs : List written.WrittenArc) (all : List meaning.Arc) (ys : List ℤ) → AllZip IsSameArc xs all → (n : Name) (key : Tuple) → by_label all ys n key ≡ by_arc xs ys n key
 by_same [] [] ys h n key = refl
 by_same [] (a ∷ all) ys h n key = absurd h
 by_same (v ∷ xs) [] ys h n key = absurd h
@@ -83,10 +83,10 @@ answers_solve represent sound fits aims lean wanted m d a h = record { network =
     p : IsBuilt lean wanted m d a.compiled
     p = h.compiled
 
-    ns : List written.Node
+    ns : List written.WrittenNode
     ns = written.nodes p.world p.declarations
 
-    xs : List written.Arc
+    xs : List written.WrittenArc
     xs = written.arcs p.world p.declarations
 
     s : HasAssignments wanted p.world p.declarations p.made

@@ -10,8 +10,8 @@ use Rattle.net_base.specs.declared.diagnostic.Language.TheVariants.{Model}
 use Rattle.net_lex.specs.declared.token.Token.{Token}
 use Rattle.net_tree.specs.Print.{put_declaration}
 use Rattle.net_tree.specs.Tree.{Declaration}
-use Rattle.net_resolve.specs.Names.{names_fault}
-use Rattle.net_resolve.specs.Reported as names
+use Rattle.net_names.specs.Names.{names_fault}
+use Rattle.net_names.specs.Reported as names
 use Rattle.net_model.specs.declared.model_parser.ParseError.{ParseError}
 use Rattle.net_model.specs.declared.model_parser.ParseError.TheVariants as stops
 use Rattle.net_model.specs.declared.model_parser.Awaiting.{Awaiting}
@@ -25,7 +25,7 @@ use Rattle.net_base.specs.Places.{IsSpanIn}
 use Rattle.net_tree.specs.Standing.{DeclarationsHaveSpans}
 use Rattle.net_base.proofs.Elements.{all_drop}
 use Rattle.net_tree.proofs.ModelsStand.{declaration_passed}
-use Rattle.net_resolve.proofs.NamesStand.{FaultStands, names_stand}
+use Rattle.net_names.proofs.NamesStand.{FaultStands, names_stand}
 use Rattle.net_lex.proofs.Rising.{Rise, rise_ends, rise_later}
 
 abbrev TokensLie : ℕ → Tokens → Type 0

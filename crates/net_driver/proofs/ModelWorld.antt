@@ -18,11 +18,11 @@ use Rattle.net_data.specs.declared.statement.Tables.{Tables}
 use Rattle.net_data.specs.Standing.{AllTokens, DefaultToken, GivenTokens}
 use Rattle.net_data.proofs.Standing.{mean_tokens}
 use Rattle.net_expr.specs.Worlds.{World}
-use Rattle.net_eval.specs.Binding as binding
-use Rattle.net_eval.specs.DataByName.{given_cells}
-use Rattle.net_eval.specs.DataValues.{HasNumeral, HasValue, HaveValues}
-use Rattle.net_eval.specs.Soundness.{WorldsAreSound}
-use Rattle.net_eval.proofs.NewNames.{new_names}
+use Rattle.net_bind.specs.Binding as binding
+use Rattle.net_bind.specs.DataByName.{given_cells}
+use Rattle.net_bind.specs.DataValues.{HasNumeral, HasValue, HaveValues}
+use Rattle.net_bind.specs.Soundness.{WorldsAreSound}
+use Rattle.net_bind.proofs.NewNames.{new_names}
 use Rattle.net_meaning.specs.OfTrees.{IsWorld}
 use Rattle.net_driver.specs.Reading.{IsModel, IsData}
 

@@ -6,12 +6,12 @@ use Rattle.std.proofs.Common.{refl, ap, sym, ◌∙◌}
 use Rattle.std.proofs.lemmas.Map.Keys.{IsDistinct-cons}
 use Rattle.net_lex.specs.declared.token.Token.{Token}
 use Rattle.net_tree.specs.Tree.{Declaration, set, param, check, node, arc, objective}
-use Rattle.net_resolve.specs.declared.meaning.Meaning.{Meaning}
-use Rattle.net_resolve.specs.Names.{declaration_fault, declared, with_declared, with_declaration, names_fault, IsWellNamed}
-use Rattle.net_resolve.specs.Scopes.{Scope, meaning_in}
-use Rattle.net_resolve.specs.Reported.{Fault, first, declared_before}
+use Rattle.net_names.specs.declared.meaning.Meaning.{Meaning}
+use Rattle.net_names.specs.Names.{declaration_fault, declared, with_declared, with_declaration, names_fault, IsWellNamed}
+use Rattle.net_names.specs.Scopes.{NameScope, meaning_in}
+use Rattle.net_names.specs.Reported.{Fault, first, declared_before}
 use Rattle.net_expr.proofs.Walked.{all_as}
-use Rattle.net_eval.proofs.NewNames.{firsts, none_before, parts}
+use Rattle.net_bind.proofs.NewNames.{firsts, none_before, parts}
 use Rattle.net_inst.specs.declared.network_names.Declared.{Declared}
 use Rattle.net_inst.specs.AsWritten.{node_declared, arc_declared}
 use Rattle.net_inst.specs.Laws.{same_name}
@@ -21,10 +21,10 @@ unfolding IsDistinct
 none_once = tt
 
 -- what is declared here meant nothing before
-new_by : (s : Scope) (t : Token) (later : Option Fault) → first (declared_before (meaning_in t.text s) t) later ≡ None → meaning_in t.text s ≡ None
+new_by : (s : NameScope) (t : Token) (later : Option Fault) → first (declared_before (meaning_in t.text s) t) later ≡ None → meaning_in t.text s ≡ None
 new_by s t later h = none_before (meaning_in t.text s) t (firsts (declared_before (meaning_in t.text s) t) later h).0
 
-pub new_here : (s : Scope) (d : Declaration) (p : Token × Meaning) → declaration_fault s d ≡ None → declared d ≡ Some p → meaning_in p.0.text s ≡ None
+pub new_here : (s : NameScope) (d : Declaration) (p : Token × Meaning) → declaration_fault s d ≡ None → declared d ≡ Some p → meaning_in p.0.text s ≡ None
 new_here s (set w t ps e) p h i = let same : t ≡ p.0 = cc in ap (λ (u : Token). meaning_in u.text s) (sym same) ∙ new_by s t _ h
 new_here s (param w t b ps e) p h i = let same : t ≡ p.0 = cc in ap (λ (u : Token). meaning_in u.text s) (sym same) ∙ new_by s t _ h
 new_here s (check w b m x e) p h i = cc
@@ -40,15 +40,15 @@ IsNamed (Some p) (e ∷ []) = e.name ≡ p.0.text
 IsNamed (Some p) (e ∷ x ∷ es) = ⊥
 
 -- none of these names means anything so far
-abbrev AreUnknown : Scope → List Declared → Type 0
+abbrev AreUnknown : NameScope → List Declared → Type 0
 AreUnknown s es = AllByRecursion (λ (e : Declared). meaning_in e.name s ≡ None) es
 
 -- names that mean nothing so far, no two of which are the same
-record AreNewOnce (s : Scope) (es : List Declared) : Type 0 where
+record AreNewOnce (s : NameScope) (es : List Declared) : Type 0 where
   pub unknown : AreUnknown s es
   pub once : IsDistinct same_name es
 
-once_more : (s : Scope) (o : Option (Token × Meaning)) (here later : List Declared) → ((p : Token × Meaning) → o ≡ Some p → meaning_in p.0.text s ≡ None) → IsNamed o here
+once_more : (s : NameScope) (o : Option (Token × Meaning)) (here later : List Declared) → ((p : Token × Meaning) → o ≡ Some p → meaning_in p.0.text s ≡ None) → IsNamed o here
     → AreNewOnce (with_declared s o) later → AreNewOnce s (here ++ later)
 once_more s None [] later new is h = h
 once_more s None (e ∷ es) later new is h = absurd is
@@ -64,7 +64,7 @@ once_more s (Some p) (e ∷ []) later new is h = record {
 }
 once_more s (Some p) (e ∷ x ∷ es) later new is h = absurd is
 
-all_once : (f : Declaration → List Declared) → ((d : Declaration) → IsNamed (declared d) (f d)) → (s : Scope) (ds : List Declaration) → names_fault s ds ≡ None → AreNewOnce s (flat_map f ds)
+all_once : (f : Declaration → List Declared) → ((d : Declaration) → IsNamed (declared d) (f d)) → (s : NameScope) (ds : List Declaration) → names_fault s ds ≡ None → AreNewOnce s (flat_map f ds)
 all_once f named s [] h = record { unknown = tt; once = none_once }
 all_once f named s (d ∷ ds) h =
     let q = firsts (declaration_fault s d) (names_fault (with_declaration s d) ds) h in

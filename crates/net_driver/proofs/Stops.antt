@@ -17,7 +17,7 @@ use Rattle.net_model.specs.Models.{meant, Parses}
 use Rattle.net_data.specs.declared.statement.Tables.{Tables}
 use Rattle.net_data.specs.Meaning.{Mean, all_judged}
 use Rattle.net_data.specs.Reading as data_reading
-use Rattle.net_eval.specs.Binding as binding
+use Rattle.net_bind.specs.Binding as binding
 use Rattle.net_expr.specs.Worlds.{Name, World}
 use Rattle.net_inst.specs.Instances as instances
 use Rattle.net_inst.specs.declared.network.Named.{Named}

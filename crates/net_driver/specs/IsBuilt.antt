@@ -5,7 +5,7 @@ use Rattle.std.specs.Prelude.{◌≡◌, ℕ, Bool, List, ◌++◌, map, Option,
 use Rattle.std.specs.List.{flat_map}
 use Rattle.net_tree.specs.Tree.{Declaration}
 use Rattle.net_data.specs.declared.statement.Tables.{Tables}
-use Rattle.net_eval.specs.Binding as binding
+use Rattle.net_bind.specs.Binding as binding
 use Rattle.net_expr.specs.Worlds.{Name, World}
 use Rattle.net_dimacs.specs.Problems.{IsProblemText, IsOnlyProblem}
 use Rattle.net_dimacs.specs.Written.{problem_text}

@@ -4,7 +4,7 @@ use Rattle.std.specs.Prelude.{◌≡◌, ℕ, ◌+◌, ◌≤◌, List, Bool, Op
 use Rattle.net_check.specs.Certificates.{IsViolatedCut}
 use Rattle.net_check.specs.declared.certificate.Side.{Side}
 use Rattle.net_expr.specs.Worlds.{Name}
-use Rattle.net_inst.specs.AsWritten.{Node, Arc, nodes, arcs, Assignment, by_label, IsFeasible}
+use Rattle.net_inst.specs.AsWritten.{WrittenNode, WrittenArc, nodes, arcs, Assignment, by_label, IsFeasible}
 use Rattle.net_inst.specs.Readings.{Objective, value_of}
 use Rattle.net_normal.specs.declared.instance.Sense.{Sense}
 use Rattle.net_normal.specs.declared.instance.Sense.TheVariants.{Minimise, Maximise}
@@ -25,30 +25,30 @@ IsAsGood Minimise value other = value ≤ℤ other
 IsAsGood Maximise value other = other ≤ℤ value
 
 -- the assignment of these numbers to the names and keys of the arcs, in order
-abbrev pub by_arc : List Arc → List ℤ → Assignment
+abbrev pub by_arc : List WrittenArc → List ℤ → Assignment
 by_arc all numbers = by_label (map (λ a. a.label) all) numbers
 
 -- there is a number for each arc, the assignment is feasible and has this value, and no feasible
 -- assignment has a better one
-pub record IsBestPlan (ns : List Node) (all : List Arc) (o : Objective) (numbers : List ℤ) (value : ℤ) : Type 0 where
+pub record IsBestPlan (ns : List WrittenNode) (all : List WrittenArc) (o : Objective) (numbers : List ℤ) (value : ℤ) : Type 0 where
   pub each : length numbers ≡ length all
   pub feasible : IsFeasible ns all (by_arc all numbers)
   pub is_value : value_of o (by_arc all numbers) ≡ value
   pub none_better : (x : Assignment) → IsFeasible ns all x → IsAsGood o.sense value (value_of o x)
 
 -- a printed plan: each declared name with all of its arcs
-pub record IsDisplay (c : Compiled) (ns : List Node) (all : List Arc) (o : Objective) (text : List ℕ) (numbers : List ℤ) (value : ℤ) : Type 0 where
+pub record IsDisplay (c : Compiled) (ns : List WrittenNode) (all : List WrittenArc) (o : Objective) (text : List ℕ) (numbers : List ℤ) (value : ℤ) : Type 0 where
   pub displayed : text ≡ display_of_all c.names numbers value
   pub best : IsBestPlan ns all o numbers value
 
 -- a set of nodes, printed by name. Its supply is more than its arcs can carry away (side Over), or
 -- less than they have to carry away (side Under), so no assignment is feasible
-pub record IsCut (c : Compiled) (ns : List Node) (all : List Arc) (text : List ℕ) (flags : List Bool) (side : Side) : Type 0 where
+pub record IsCut (c : Compiled) (ns : List WrittenNode) (all : List WrittenArc) (text : List ℕ) (flags : List Bool) (side : Side) : Type 0 where
   pub reported : text ≡ cut_text c.names c.problem flags side
   pub violated : IsViolatedCut c.problem flags side
   pub none : (x : Assignment) → ¬ IsFeasible ns all x
 
-abbrev pub IsOutcome : Compiled → List Node → List Arc → Objective → Outcome → Type 0
+abbrev pub IsOutcome : Compiled → List WrittenNode → List WrittenArc → Objective → Outcome → Type 0
 IsOutcome c ns all o (Displayed text numbers value) = IsDisplay c ns all o text.items numbers.items value
 IsOutcome c ns all o (Infeasible text flags side) = IsCut c ns all text.items flags.items side
 

@@ -62,7 +62,7 @@ pub record MeanNetwork (requested : Option Name) (model_text data_text : List �
 -- ---- compiled models
 
 -- the label as a record of net_inst, which has the same fields
-abbrev pub listed_label : Label → written.Label
+abbrev pub listed_label : Label → written.WrittenLabel
 listed_label l = record { name = l.name; indexed = l.indexed; key = l.key }
 
 -- the names of nodes and of arcs that a declaration declares, each with whether it is indexed

@@ -4,11 +4,11 @@ use Rattle.net_base.specs.declared.diagnostic.Language.TheVariants as languages
 use Rattle.net_lex.specs.declared.token.Token.{Token}
 use Rattle.net_lex.specs.Lexing.{AreTokensOf}
 use Rattle.net_tree.specs.Tree.{Declaration}
-use Rattle.net_resolve.specs.Names.{IsWellNamed}
+use Rattle.net_names.specs.Names.{IsWellNamed}
 use Rattle.net_model.specs.Meaning.{Means}
 use Rattle.net_data.specs.declared.statement.Tables.{Tables}
 use Rattle.net_data.specs.Meaning.{Mean, all_judged}
-use Rattle.net_eval.specs.Binding as binding
+use Rattle.net_bind.specs.Binding as binding
 use Rattle.net_expr.specs.Worlds.{Name, World}
 use Rattle.net_inst.specs.Instances.{Network, network}
 

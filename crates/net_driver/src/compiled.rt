@@ -45,7 +45,7 @@ impl<'s> Options<'s> {
 #[derive(Drop)]
 pub struct Compiled<'s> {
     /// The name map, then the problem's lines.
-    pub text: Text,
+    pub text: CompiledText,
     pub problem: Problem,
     pub link: Link,
     pub names: Names<'s>,
@@ -93,7 +93,7 @@ pub(crate) fn with_text(
     let mut sink = GrowingSink::new(Vec::new(alloc));
     match write_text(&mut sink, &network) {
         Ok(()) => Ok(Compiled {
-            text: Text::new(sink.taken),
+            text: CompiledText::new(sink.taken),
             problem: network.problem,
             link: network.link,
             names: network.names,
@@ -102,13 +102,13 @@ pub(crate) fn with_text(
     }
 }
 
-/// A text, which contracts see as its bytes, independent of their address.
+/// The text of a compiled problem, which contracts see as its bytes, independent of their address.
 #[derive(Drop)]
-pub struct Text {
+pub struct CompiledText {
     bytes: Vec<u8>,
 }
 
-impl Model for Text {
+impl Model for CompiledText {
     ghost use Rattle.net_driver.specs.Texts.{Bytes, coded_bytes};
 
     ghost Value = { Bytes };
@@ -118,12 +118,12 @@ impl Model for Text {
     ghost view = { λ t. record { items = t.bytes.items } };
 }
 
-impl Text {
+impl CompiledText {
     /// Wraps bytes as a text.
-    pub fn new(bytes: Vec<u8>) -> Text
+    pub fn new(bytes: Vec<u8>) -> CompiledText
         ensures { result.items ≡ bytes.items }
     {
-        Text { bytes }
+        CompiledText { bytes }
     }
 
     /// Returns the bytes of the text.
@@ -137,7 +137,7 @@ impl Text {
     pub fn into_vec(self) -> Vec<u8>
         ensures { result.items ≡ self.items }
     {
-        let Text { bytes } = self;
+        let CompiledText { bytes } = self;
         bytes
     }
 }

@@ -4,7 +4,7 @@
 ghost use Rattle.std.specs.Prelude.{◌≡◌, ℕ, List, Option, Ok, ◌⊎◌, length};
 ghost use Rattle.std.specs.List.{IsDistinct, flat_map};
 ghost use Rattle.net_tree.specs.Tree.{Declaration};
-ghost use Rattle.net_resolve.specs.Names.{IsWellNamed};
+ghost use Rattle.net_names.specs.Names.{IsWellNamed};
 ghost use Rattle.net_model.specs.Meaning.{Means};
 ghost use Rattle.net_model.specs.Reading.{Tokens};
 ghost use Rattle.net_data.specs.declared.statement.Statement.{Statement};
@@ -21,7 +21,7 @@ ghost use Rattle.net_driver.specs.Reporting.{text_of};
 ghost use Rattle.net_driver.specs.Accepted.{AreAnswersAccepted};
 ghost use Rattle.net_driver.specs.OneAnswer.{IsOneAnswer, IsSolvedAsCompiled, IsNoFaultCompiled};
 ghost use Rattle.net_driver.specs.LineNames.{BuiltNamesAreExact, NamesAreExact};
-ghost use Rattle.net_eval.specs.Binding as binding;
+ghost use Rattle.net_bind.specs.Binding as binding;
 ghost use Rattle.net_base.specs.declared.diagnostic.Language.TheVariants as languages;
 ghost use Rattle.net_driver.specs.MeaningLaws.{CompilationsAreSound, SolutionsAreSound, AnswersSolveModels, CompiledProblemsRepresent, NetworksAreUnique};
 

@@ -17,7 +17,7 @@ mod solve_run;
 pub use answer::{Answer, Outcome, solve_model, solve_model_with, solve_outcome_with};
 pub use checking::{check_bytes, verdict_line};
 pub use compile_run::{run_compile, run_compile_with};
-pub use compiled::{Compiled, Options, Text, compile, compile_with};
+pub use compiled::{Compiled, CompiledText, Options, compile, compile_with};
 pub use driver_fault::{Fault, LineRejection, Rejection, TextName};
 pub use driver_laws::{
     answers_are_accepted, answers_solve_models, compilations_are_sound,

@@ -13,14 +13,14 @@ use Rattle.net_sets.specs.declared.member.Member.{Member}
 use Rattle.net_sets.specs.Limits.{arity_limit, tuples_limit}
 use Rattle.net_sets.specs.Operations.{joined_to, product, widest}
 use Rattle.net_sets.specs.Sets.{Tuple}
-use Rattle.net_tree.specs.declared.operator.Words.{Words as Operator}
+use Rattle.net_tree.specs.declared.operator.OperatorWords.{OperatorWords as Operator}
 use Rattle.net_tree.specs.declared.role.Role.{Role}
 use Rattle.net_tree.specs.declared.role.Role.TheVariants as roles
 use Rattle.net_tree.specs.Role.{role_of}
 use Rattle.net_tree.specs.Spans.{span_between, span_of}
 use Rattle.net_tree.specs.declared.expr.Braces.{Braces as Braces_of_code}
 use Rattle.net_tree.specs.declared.expr.Braces.TheVariants as braces
-use Rattle.net_tree.specs.declared.expr.Link.{Link, out-Link}
+use Rattle.net_tree.specs.declared.expr.LinkedOperand.{LinkedOperand, out-LinkedOperand}
 use Rattle.net_tree.specs.declared.expr.Operands.{Operands, out-Operands}
 use Rattle.net_tree.specs.declared.expr.Part.{Part as Part_of_code}
 use Rattle.net_tree.specs.View.{tree, braces_of, links_of, option_part}
@@ -440,8 +440,8 @@ filled_one b o s p c is unconditioned alone =
     ∙ ap (λ q. filled o (tree (out-Operands s).first) (links_of (out-Operands s).more) (option_part q) c) unconditioned
     ∙ ap (λ ls. filled o (tree (out-Operands s).first) (links_of ls) absent c) alone
 
-pub filled_two : (b : Braces_of_code) (o : Token) (s : Operands) (p : Option Part_of_code) (c : Token) (l : Link) → b ≡ braces.Filled o s p c → p ≡ None → (out-Operands s).more ≡ l ∷ []
-    → braces_of b ≡ filled o (tree (out-Operands s).first) (link (out-Link l).operator (tree (out-Link l).operand) none) absent c
+pub filled_two : (b : Braces_of_code) (o : Token) (s : Operands) (p : Option Part_of_code) (c : Token) (l : LinkedOperand) → b ≡ braces.Filled o s p c → p ≡ None → (out-Operands s).more ≡ l ∷ []
+    → braces_of b ≡ filled o (tree (out-Operands s).first) (link (out-LinkedOperand l).operator (tree (out-LinkedOperand l).operand) none) absent c
 filled_two b o s p c l is unconditioned both =
     ap braces_of is ∙ braces_of-filled o s p c
     ∙ ap (λ q. filled o (tree (out-Operands s).first) (links_of (out-Operands s).more) (option_part q) c) unconditioned

@@ -4,7 +4,7 @@ use Rattle.std.proofs.Common.{refl, sym, ap, ◌∙◌, arith}
 use Rattle.net_base.specs.declared.diagnostic.Span.{Span}
 use Rattle.net_sets.specs.Components.{sought}
 use Rattle.net_sets.specs.Sets.{Tuple}
-use Rattle.net_tree.specs.declared.expr.Link.{Link, out-Link}
+use Rattle.net_tree.specs.declared.expr.LinkedOperand.{LinkedOperand, out-LinkedOperand}
 use Rattle.net_tree.specs.View.{tree, links_of}
 use Rattle.net_tree.specs.Weights.{weight, weights}
 use Rattle.net_base.specs.declared.diagnostic.Fault.{Fault}
@@ -130,57 +130,57 @@ fault_of_place at w f t fs found last wanted (faults.At r) same e h =
     ∙ ap (λ o. and_then (and_then (and_then o (go_on (walk at w (links_of f.more.now)) found)) (still at w (after_first f))) (still_below at w fs)) h
 
 -- an item is entered at a place
-pub entering : (at : Span) (w : World) (ls : List Link) (l : Link) (o : Option Place) (p : Place) (found : List Row) → o ≡ Some p → 1 ≤ length ls → l ≡ get_or ls 0 l
+pub entering : (at : Span) (w : World) (ls : List LinkedOperand) (l : LinkedOperand) (o : Option Place) (p : Place) (found : List Row) → o ≡ Some p → 1 ≤ length ls → l ≡ get_or ls 0 l
     → go_on (walk at w (links_of ls)) found o
-    ≡ and_then (item_tuples at w p.scope (tree (out-Link l).operand)) (λ ts. each (onward (place w (tree (out-Link l).operand)) (walk at w (links_of (take (length ls - 1) (drop 1 ls)))) p) ts found)
+    ≡ and_then (item_tuples at w p.scope (tree (out-LinkedOperand l).operand)) (λ ts. each (onward (place w (tree (out-LinkedOperand l).operand)) (walk at w (links_of (take (length ls - 1) (drop 1 ls)))) p) ts found)
 entering at w ls l o p found is h e =
     ap (go_on (walk at w (links_of ls)) found) is
     ∙ ap (λ k. walk at w k p found) (rest_first ls l h e)
-    ∙ walk-step at w (out-Link l).operator (tree (out-Link l).operand) (links_of (take (length ls - 1) (drop 1 ls))) p found
+    ∙ walk-step at w (out-LinkedOperand l).operator (tree (out-LinkedOperand l).operand) (links_of (take (length ls - 1) (drop 1 ls))) p found
 
 -- what was made of tuples, and of which
 made : (o : Outcome (List Tuple)) (make : List Tuple → Frame) (f : Frame) → and_then o (λ ts. Ok (make ts)) ≡ Ok f → (ts : List Tuple) × (o ≡ Ok ts) × (make ts ≡ f)
 made (Ok ts) make f e = (ts, refl, is_ok (make ts) f e)
 made (Err r) make f e = cc
 
-pub entering_stops : (at : Span) (w : World) (ls : List Link) (l : Link) (o : Option Place) (p : Place) (found : List Row) (make : List Tuple → Frame) (e : Fault) → o ≡ Some p → 1 ≤ length ls → l ≡ get_or ls 0 l
-    → Refines (and_then (item_tuples at w p.scope (tree (out-Link l).operand)) (λ ts. Ok (make ts))) (Err e) → Leads at w (go_on (walk at w (links_of ls)) found o) (Err e) found
+pub entering_stops : (at : Span) (w : World) (ls : List LinkedOperand) (l : LinkedOperand) (o : Option Place) (p : Place) (found : List Row) (make : List Tuple → Frame) (e : Fault) → o ≡ Some p → 1 ≤ length ls → l ≡ get_or ls 0 l
+    → Refines (and_then (item_tuples at w p.scope (tree (out-LinkedOperand l).operand)) (λ ts. Ok (make ts))) (Err e) → Leads at w (go_on (walk at w (links_of ls)) found o) (Err e) found
 entering_stops at w ls l o p found make faults.OutOfMemory is h i a = tt
-entering_stops at w ls l o p found make (faults.At r) is h i a = go (item_tuples at w p.scope (tree (out-Link l).operand)) _ (entering at w ls l o p found is h i) a
+entering_stops at w ls l o p found make (faults.At r) is h i a = go (item_tuples at w p.scope (tree (out-LinkedOperand l).operand)) _ (entering at w ls l o p found is h i) a
   where
     go : (ts : Outcome (List Tuple)) (f : List Tuple → Outcome (List Row)) {wanted : Outcome (List Row)} → wanted ≡ and_then ts f → and_then ts (λ us. Ok (make us)) ≡ Err r → wanted ≡ Err r
     go (Ok us) f e a = cc
     go (Err s) f e a = let same : s ≡ r = cc in e ∙ ap (λ (k : Diagnostic). let stopped : Outcome (List Row) = Err k in stopped) same
 
-pub entering_leads : (at : Span) (w : World) (ls : List Link) (l : Link) (o : Option Place) (p : Place) (found : List Row) (make : List Tuple → Frame) (f : Frame) → o ≡ Some p → 1 ≤ length ls → l ≡ get_or ls 0 l
-    → ((ts : List Tuple) → still at w (make ts) found ≡ each (onward (place w (tree (out-Link l).operand)) (walk at w (links_of (take (length ls - 1) (drop 1 ls)))) p) (sought (selecting w p.scope (tree (out-Link l).operand)) ts) found)
-    → and_then (item_tuples at w p.scope (tree (out-Link l).operand)) (λ ts. Ok (make ts)) ≡ Ok f → go_on (walk at w (links_of ls)) found o ≡ still at w f found
+pub entering_leads : (at : Span) (w : World) (ls : List LinkedOperand) (l : LinkedOperand) (o : Option Place) (p : Place) (found : List Row) (make : List Tuple → Frame) (f : Frame) → o ≡ Some p → 1 ≤ length ls → l ≡ get_or ls 0 l
+    → ((ts : List Tuple) → still at w (make ts) found ≡ each (onward (place w (tree (out-LinkedOperand l).operand)) (walk at w (links_of (take (length ls - 1) (drop 1 ls)))) p) (sought (selecting w p.scope (tree (out-LinkedOperand l).operand)) ts) found)
+    → and_then (item_tuples at w p.scope (tree (out-LinkedOperand l).operand)) (λ ts. Ok (make ts)) ≡ Ok f → go_on (walk at w (links_of ls)) found o ≡ still at w f found
 entering_leads at w ls l o p found make f is h i same a =
-    let m = made (item_tuples at w p.scope (tree (out-Link l).operand)) make f a in
+    let m = made (item_tuples at w p.scope (tree (out-LinkedOperand l).operand)) make f a in
     entering at w ls l o p found is h i
-    ∙ ap (λ k. and_then k (λ ts. each (onward (place w (tree (out-Link l).operand)) (walk at w (links_of (take (length ls - 1) (drop 1 ls)))) p) ts found)) m.1
-    ∙ sym (selected_from w (tree (out-Link l).operand) (walk at w (links_of (take (length ls - 1) (drop 1 ls)))) p m.0 (sought (selecting w p.scope (tree (out-Link l).operand)) m.0) found refl)
+    ∙ ap (λ k. and_then k (λ ts. each (onward (place w (tree (out-LinkedOperand l).operand)) (walk at w (links_of (take (length ls - 1) (drop 1 ls)))) p) ts found)) m.1
+    ∙ sym (selected_from w (tree (out-LinkedOperand l).operand) (walk at w (links_of (take (length ls - 1) (drop 1 ls)))) p m.0 (sought (selecting w p.scope (tree (out-LinkedOperand l).operand)) m.0) found refl)
     ∙ sym (same m.0)
     ∙ ap (λ (g : Frame). still at w g found) m.2
 
-pub entering_lighter : (at : Span) (w : World) (ls : List Link) (l : Link) (p : Place) (make : List Tuple → Frame) (f : Frame) → 1 ≤ length ls → l ≡ get_or ls 0 l
-    → ((ts : List Tuple) → weight_of (make ts) ≡ weight (tree (out-Link l).operand) + weights (links_of (take (length ls - 1) (drop 1 ls))))
-    → and_then (item_tuples at w p.scope (tree (out-Link l).operand)) (λ ts. Ok (make ts)) ≡ Ok f → weight_of f ≤ weights (links_of ls)
+pub entering_lighter : (at : Span) (w : World) (ls : List LinkedOperand) (l : LinkedOperand) (p : Place) (make : List Tuple → Frame) (f : Frame) → 1 ≤ length ls → l ≡ get_or ls 0 l
+    → ((ts : List Tuple) → weight_of (make ts) ≡ weight (tree (out-LinkedOperand l).operand) + weights (links_of (take (length ls - 1) (drop 1 ls))))
+    → and_then (item_tuples at w p.scope (tree (out-LinkedOperand l).operand)) (λ ts. Ok (make ts)) ≡ Ok f → weight_of f ≤ weights (links_of ls)
 entering_lighter at w ls l p make f h i same a =
-    let m = made (item_tuples at w p.scope (tree (out-Link l).operand)) make f a in
+    let m = made (item_tuples at w p.scope (tree (out-LinkedOperand l).operand)) make f a in
     let here = same m.0 in
     let is : weight_of (make m.0) ≡ weight_of f = ap weight_of m.2 in
     let all = ap weights (rest_first ls l h i) in
     omega (arith, here, is, all)
 
-pub entering_steps : (at : Span) (w : World) (ls : List Link) (l : Link) (o : Option Place) (p : Place) (make : List Tuple → Frame) (f : Frame) → o ≡ Some p → 1 ≤ length ls → l ≡ get_or ls 0 l
-    → ((ts : List Tuple) → steps_still at w (make ts) ≡ steps_of (λ t. place w (tree (out-Link l).operand) t p) (steps at w (links_of (take (length ls - 1) (drop 1 ls)))) (sought (selecting w p.scope (tree (out-Link l).operand)) ts))
-    → and_then (item_tuples at w p.scope (tree (out-Link l).operand)) (λ ts. Ok (make ts)) ≡ Ok f → steps_still at w f ≡ steps_next (steps at w (links_of ls)) (Ok o)
+pub entering_steps : (at : Span) (w : World) (ls : List LinkedOperand) (l : LinkedOperand) (o : Option Place) (p : Place) (make : List Tuple → Frame) (f : Frame) → o ≡ Some p → 1 ≤ length ls → l ≡ get_or ls 0 l
+    → ((ts : List Tuple) → steps_still at w (make ts) ≡ steps_of (λ t. place w (tree (out-LinkedOperand l).operand) t p) (steps at w (links_of (take (length ls - 1) (drop 1 ls)))) (sought (selecting w p.scope (tree (out-LinkedOperand l).operand)) ts))
+    → and_then (item_tuples at w p.scope (tree (out-LinkedOperand l).operand)) (λ ts. Ok (make ts)) ≡ Ok f → steps_still at w f ≡ steps_next (steps at w (links_of ls)) (Ok o)
 entering_steps at w ls l o p make f is h i same a =
-    let m = made (item_tuples at w p.scope (tree (out-Link l).operand)) make f a in
+    let m = made (item_tuples at w p.scope (tree (out-LinkedOperand l).operand)) make f a in
     sym (ap (λ (q : Option Place). steps_next (steps at w (links_of ls)) (Ok q)) is
     ∙ ap (λ k. steps at w k p) (rest_first ls l h i)
-    ∙ ap (of_tuples (λ ts. steps_of (λ t. place w (tree (out-Link l).operand) t p) (steps at w (links_of (take (length ls - 1) (drop 1 ls)))) (sought (selecting w p.scope (tree (out-Link l).operand)) ts))) m.1
+    ∙ ap (of_tuples (λ ts. steps_of (λ t. place w (tree (out-LinkedOperand l).operand) t p) (steps at w (links_of (take (length ls - 1) (drop 1 ls)))) (sought (selecting w p.scope (tree (out-LinkedOperand l).operand)) ts))) m.1
     ∙ sym (same m.0)
     ∙ ap (steps_still at w) m.2)
 

@@ -7,6 +7,7 @@ pub mod Subscripting
 pub mod Framing
 pub mod Scoping
 pub mod RowLists
+pub mod EqualWidths
 pub mod DeclaredRows
 pub mod Parting
 pub mod Distinct

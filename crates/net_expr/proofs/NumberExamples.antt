@@ -4,7 +4,7 @@ use Rattle.std.proofs.Common.{refl}
 use Rattle.net_lex.specs.NumeralFront.{mantissa_at, power_at, numeral_at}
 use Rattle.net_lex.specs.Significands.{whole_value}
 use Rattle.net_sets.specs.declared.member.Member.TheVariants.{Number}
-use Rattle.net_tree.specs.declared.operator.Words.TheVariants as operator
+use Rattle.net_tree.specs.declared.operator.OperatorWords.TheVariants as operator
 use Rattle.net_tree.specs.Role.{role_of, marks, keys}
 use Rattle.net_tree.specs.Spans.{span_of, span_between, braces_span}
 use Rattle.net_tree.specs.Tree.{leaf, parens, braced, signed, reduced, chain, choice, none, link, absent, part, empty, filled}

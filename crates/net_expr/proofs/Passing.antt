@@ -15,7 +15,7 @@ use Rattle.net_tree.specs.declared.role.Role.{Role}
 use Rattle.net_tree.specs.declared.role.Role.TheVariants as roles
 use Rattle.net_tree.specs.Role.{role_of, is_name}
 use Rattle.net_tree.specs.Spans.{span_of}
-use Rattle.net_tree.specs.declared.expr.Link.{Link, out-Link}
+use Rattle.net_tree.specs.declared.expr.LinkedOperand.{LinkedOperand, out-LinkedOperand}
 use Rattle.net_tree.specs.Tree.{Tree, Links, leaf, tuple, none, link}
 use Rattle.net_tree.specs.View.{tree, links_of}
 use Rattle.net_tree.proofs.Views.{next_link}
@@ -33,13 +33,13 @@ use Rattle.net_expr.specs.Selecting.{dummy_alone, picked, selecting_from, select
 use Rattle.net_expr.proofs.Walking.{and_then-same, place-is}
 
 -- the components from a link on
-abbrev Chosen : World → Scope → List Link → ℕ → Link → Option Member → Bool → Option (ℕ × Member)
+abbrev Chosen : World → Scope → List LinkedOperand → ℕ → LinkedOperand → Option Member → Bool → Option (ℕ × Member)
 Chosen w s ls i l d b = picked (i + 1) d (if b then selecting_from w s (i + 1 + 1) (links_of (drop (i + 1) ls)) else None)
 
-pub one_chosen : (w : World) (s : Scope) (ls : List Link) (i : ℕ) (l : Link) (wanted : Option (ℕ × Member)) → i < length ls → l ≡ get_or ls i l → selecting_from w s (i + 1) (links_of (drop i ls)) ≡ wanted
-    → (d : Option Member) → d ≡ dummy_alone s (bare (tree (out-Link l).operand)) → (b : Bool) → b ≡ is_some (new_dummy w s (tree (out-Link l).operand)) → Chosen w s ls i l d b ≡ wanted
+pub one_chosen : (w : World) (s : Scope) (ls : List LinkedOperand) (i : ℕ) (l : LinkedOperand) (wanted : Option (ℕ × Member)) → i < length ls → l ≡ get_or ls i l → selecting_from w s (i + 1) (links_of (drop i ls)) ≡ wanted
+    → (d : Option Member) → d ≡ dummy_alone s (bare (tree (out-LinkedOperand l).operand)) → (b : Bool) → b ≡ is_some (new_dummy w s (tree (out-LinkedOperand l).operand)) → Chosen w s ls i l d b ≡ wanted
 one_chosen w s ls i l wanted h e same d is b new =
-    ap (λ x. Chosen w s ls i l x b) is ∙ ap (Chosen w s ls i l (dummy_alone s (bare (tree (out-Link l).operand)))) new ∙ sym (ap (selecting_from w s (i + 1)) (next_link ls i l h e)) ∙ same
+    ap (λ x. Chosen w s ls i l x b) is ∙ ap (Chosen w s ls i l (dummy_alone s (bare (tree (out-LinkedOperand l).operand)))) new ∙ sym (ap (selecting_from w s (i + 1)) (next_link ls i l h e)) ∙ same
 
 -- a walk over those that agree is one over all, where the others change nothing
 each_that_agrees : {B : Type 0} (f : Tuple → B → Outcome B) (k : ℕ) (m : Member) → ((t : Tuple) (b : B) → k < length t → agrees k m t ≡ false → f t b ≡ Ok b)

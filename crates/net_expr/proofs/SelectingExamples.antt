@@ -2,7 +2,7 @@
 use Rattle.std.specs.Prelude.{◌≡◌, None, Some, pos, codes}
 use Rattle.std.proofs.Common.{refl}
 use Rattle.net_sets.specs.declared.member.Member.TheVariants.{Number}
-use Rattle.net_tree.specs.declared.operator.Words.TheVariants as operator
+use Rattle.net_tree.specs.declared.operator.OperatorWords.TheVariants as operator
 use Rattle.net_tree.specs.Role.{role_of, marks, keys}
 use Rattle.net_tree.specs.Tree.{Tree, leaf, tuple, chain, none, link}
 use Rattle.net_tree.specs.Operations.{operations, operation}

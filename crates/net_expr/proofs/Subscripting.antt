@@ -8,7 +8,7 @@ use Rattle.net_base.specs.declared.diagnostic.Fault.TheVariants as faults
 use Rattle.net_base.specs.Outcomes.{Outcome, Refines, Yields, and_then, rejected}
 use Rattle.net_sets.specs.declared.member.Member.{Member}
 use Rattle.net_sets.specs.Sets.{Tuple}
-use Rattle.net_tree.specs.declared.expr.Link.{Link, out-Link}
+use Rattle.net_tree.specs.declared.expr.LinkedOperand.{LinkedOperand, out-LinkedOperand}
 use Rattle.net_tree.specs.Tree.{Tree, Links, none, link}
 use Rattle.net_tree.specs.View.{tree, links_of}
 use Rattle.net_tree.proofs.Views.{next_link}
@@ -76,11 +76,11 @@ pub from_none : (at : Span) (w : World) (s : Scope) (x : Tree) (l : Links) (f : 
 from_none at w s x l f e = step at w s x l none_yet ∙ ap (λ k. and_then (and_then (value w s x) (λ v. Ok (with_value v k))) (rest at w s l)) (sym e)
 
 -- one subscript more
-pub one-left : (at : Span) (w : World) (s : Scope) (ls : List Link) (i : ℕ) (l : Link) (f : Subscripts) (wanted : Outcome Tuple) → i < length ls → l ≡ get_or ls i l
+pub one-left : (at : Span) (w : World) (s : Scope) (ls : List LinkedOperand) (i : ℕ) (l : LinkedOperand) (f : Subscripts) (wanted : Outcome Tuple) → i < length ls → l ≡ get_or ls i l
     → rest at w s (links_of (drop i ls)) f ≡ wanted
-    → wanted ≡ and_then (and_then (value w s (tree (out-Link l).operand)) (λ v. Ok (with_value v f))) (rest at w s (links_of (drop (i + 1) ls)))
+    → wanted ≡ and_then (and_then (value w s (tree (out-LinkedOperand l).operand)) (λ v. Ok (with_value v f))) (rest at w s (links_of (drop (i + 1) ls)))
 one-left at w s ls i l f wanted h e same =
-    sym same ∙ ap (λ k. rest at w s k f) (next_link ls i l h e) ∙ step at w s (tree (out-Link l).operand) (links_of (drop (i + 1) ls)) f
+    sym same ∙ ap (λ k. rest at w s k f) (next_link ls i l h e) ∙ step at w s (tree (out-LinkedOperand l).operand) (links_of (drop (i + 1) ls)) f
 
 -- a dummy in scope that stands alone has its member for its value
 pub dummy_value : (w : World) (s : Scope) (x : Tree) (m : Member) → Some m ≡ dummy_alone s (bare x) → value w s x ≡ Ok (One m)
@@ -97,7 +97,7 @@ drop_whole (x ∷ xs) zero h = absurd (omega (arith, h))
 drop_whole (x ∷ xs) (suc i) h = drop_whole xs i (omega (arith, h))
 
 -- no subscript more
-pub none-left : (at : Span) (w : World) (s : Scope) (ls : List Link) (i : ℕ) (f : Subscripts) (wanted : Outcome Tuple) → length ls ≤ i → rest at w s (links_of (drop i ls)) f ≡ wanted
+pub none-left : (at : Span) (w : World) (s : Scope) (ls : List LinkedOperand) (i : ℕ) (f : Subscripts) (wanted : Outcome Tuple) → length ls ≤ i → rest at w s (links_of (drop i ls)) f ≡ wanted
     → wanted ≡ and_then (so_far at f) (short_enough at)
 none-left at w s ls i f wanted h same = sym same ∙ ap (λ k. rest at w s (links_of k) f) (drop_whole ls i h)
 

@@ -6,8 +6,8 @@ use Rattle.std.proofs.lemmas.Bool.{true≢false}
 use Rattle.net_base.specs.declared.diagnostic.Span.{Span}
 use Rattle.net_lex.specs.declared.token.Token.{Token}
 use Rattle.net_sets.specs.Sets.{Tuple}
-use Rattle.net_tree.specs.declared.expr.Link.{Link, out-Link}
-use Rattle.net_tree.specs.declared.operator.Words.{Words as Operator}
+use Rattle.net_tree.specs.declared.expr.LinkedOperand.{LinkedOperand, out-LinkedOperand}
+use Rattle.net_tree.specs.declared.operator.OperatorWords.{OperatorWords as Operator}
 use Rattle.net_tree.specs.Spans.{span_of, span_between}
 use Rattle.net_tree.specs.Tree.{Tree, Links, Part, Braces, indexed, tuple, negated, signed, reduced, chain, choice, none, link, filled, absent, part}
 use Rattle.net_tree.specs.View.{tree, links_of}
@@ -33,24 +33,24 @@ use Rattle.net_expr.specs.Rows.{start, onward, listed, reduce, match_whole, keep
 use Rattle.net_expr.specs.Values.{value, values, chained, index, walk, holds, set_after, place, left_place, either, subscripted, tupled, with_sign, otherwise}
 use Rattle.net_expr.specs.Walks.{joined, walked, opened_keys, by_sides, item_tuples, keys_by_sides, index_items, placed, component_places}
 
-pub size-links : (ls : List Link) → size (links_of ls) ≡ length ls
+pub size-links : (ls : List LinkedOperand) → size (links_of ls) ≡ length ls
 size-links [] = refl
 size-links (l ∷ ls) = ap size (links_of-cons l ls) ∙ ap (λ k. 1 + k) (size-links ls) ∙ omega arith
 
-pub range_first : (ls : List Link) (l : Link) → 1 ≤ length ls → l ≡ get_or ls 0 l → is_range (operation (out-Link l).operator) ≡ begins_range (links_of ls)
+pub range_first : (ls : List LinkedOperand) (l : LinkedOperand) → 1 ≤ length ls → l ≡ get_or ls 0 l → is_range (operation (out-LinkedOperand l).operator) ≡ begins_range (links_of ls)
 range_first [] l a e = absurd (omega arith)
-range_first (x ∷ ls) l a e = ap (λ (k : Link). is_range (operation (out-Link k).operator)) e ∙ sym (ap begins_range (links_of-cons x ls))
+range_first (x ∷ ls) l a e = ap (λ (k : LinkedOperand). is_range (operation (out-LinkedOperand k).operator)) e ∙ sym (ap begins_range (links_of-cons x ls))
 
-pub set_first : (ls : List Link) (l : Link) → 1 ≤ length ls → l ≡ get_or ls 0 l → makes_set (operation (out-Link l).operator) ≡ begin_set (links_of ls)
+pub set_first : (ls : List LinkedOperand) (l : LinkedOperand) → 1 ≤ length ls → l ≡ get_or ls 0 l → makes_set (operation (out-LinkedOperand l).operator) ≡ begin_set (links_of ls)
 set_first [] l a e = absurd (omega arith)
-set_first (x ∷ ls) l a e = ap (λ (k : Link). makes_set (operation (out-Link k).operator)) e ∙ sym (ap begin_set (links_of-cons x ls))
+set_first (x ∷ ls) l a e = ap (λ (k : LinkedOperand). makes_set (operation (out-LinkedOperand k).operator)) e ∙ sym (ap begin_set (links_of-cons x ls))
 
 pub ok_by : {A E : Type 0} (r : Result A E) (x y : A) → x ≡ y → IfOk r (λ a. a ≡ y) → IfOk r (λ a. a ≡ x)
 ok_by (Ok a) x y e h = h ∙ sym e
 ok_by (Err r) x y e h = h
 
 -- an item without `in` is passed over
-pub any_left : (ls : List Link) (i : ℕ) (l : Link) (b : Bool) → i < length ls → l ≡ get_or ls i l → b ≡ has_in (tree (out-Link l).operand)
+pub any_left : (ls : List LinkedOperand) (i : ℕ) (l : LinkedOperand) (b : Bool) → i < length ls → l ≡ get_or ls i l → b ≡ has_in (tree (out-LinkedOperand l).operand)
     → any_in (links_of (drop i ls)) ≡ (b || any_in (links_of (drop (i + 1) ls)))
 any_left ls i l b h e f = ap any_in (next_link ls i l h e) ∙ ap (λ c. c || any_in (links_of (drop (i + 1) ls))) (sym f)
 
@@ -212,18 +212,18 @@ pub place-sides : (w : World) (i x y : Tree) (t : Tuple) (p : Place) → Some (x
 place-sides w i x y t p e = place-is w i t p ∙ ap (placed w i t p) (sym e)
 
 -- a link is lighter than the links with it
-pub link_lighter : (ls : List Link) (i : ℕ) (l : Link) → i < length ls → l ≡ get_or ls i l → weight (tree (out-Link l).operand) < weights (links_of ls)
+pub link_lighter : (ls : List LinkedOperand) (i : ℕ) (l : LinkedOperand) → i < length ls → l ≡ get_or ls i l → weight (tree (out-LinkedOperand l).operand) < weights (links_of ls)
 link_lighter ls i l h e =
     let whole = links_drop ls i in
     let here = ap weights (next_link ls i l h e) in omega (arith, whole, here)
   where
-    links_drop : (ls : List Link) (i : ℕ) → weights (links_of (drop i ls)) ≤ weights (links_of ls)
+    links_drop : (ls : List LinkedOperand) (i : ℕ) → weights (links_of (drop i ls)) ≤ weights (links_of ls)
     links_drop ls zero = omega arith
     links_drop [] (suc i) = omega arith
     links_drop (x ∷ ls) (suc i) = let more = links_drop ls i in let here = ap weights (links_of-cons x ls) in omega (arith, more, here)
 
 -- the first link and the others weigh as much as all
-pub first_weighs : (ls : List Link) (l : Link) → 1 ≤ length ls → l ≡ get_or ls 0 l → weights (links_of ls) ≡ 1 + weight (tree (out-Link l).operand) + weights (links_of (drop 1 ls))
+pub first_weighs : (ls : List LinkedOperand) (l : LinkedOperand) → 1 ≤ length ls → l ≡ get_or ls 0 l → weights (links_of ls) ≡ 1 + weight (tree (out-LinkedOperand l).operand) + weights (links_of (drop 1 ls))
 first_weighs ls l h e = ap weights (first_link ls l h e)
 
 rest_taken : {A : Type 0} (x : A) (xs : List A) → take (length (x ∷ xs) - 1) xs ≡ xs
@@ -238,8 +238,8 @@ pub split_first : {A : Type 0} (xs : List A) (x : A) → 1 ≤ length xs → x �
 split_first [] x h e = absurd (omega arith)
 split_first (y ∷ ys) x h e = ap (λ z. z ∷ ys) (sym e) ∙ ap (◌∷◌ x) (sym (rest_taken y ys))
 
-pub rest_first : (ls : List Link) (l : Link) → 1 ≤ length ls → l ≡ get_or ls 0 l
-    → links_of ls ≡ link (out-Link l).operator (tree (out-Link l).operand) (links_of (take (length ls - 1) (drop 1 ls)))
+pub rest_first : (ls : List LinkedOperand) (l : LinkedOperand) → 1 ≤ length ls → l ≡ get_or ls 0 l
+    → links_of ls ≡ link (out-LinkedOperand l).operator (tree (out-LinkedOperand l).operand) (links_of (take (length ls - 1) (drop 1 ls)))
 rest_first ls l h e = ap links_of (split_first ls l h e) ∙ links_of-cons l (take (length ls - 1) (drop 1 ls))
 
 pub ok_same : {A : Type 0} (x y : A) (o p : Outcome A) → o ≡ Ok x → p ≡ Ok y → o ≡ p → x ≡ y
@@ -260,16 +260,16 @@ leaves_answers o wanted faults.OutOfMemory new e h = tt
 leaves_answers o wanted (faults.At r) new e h = e ∙ h
 
 -- one step over links
-pub values-left : (w : World) (s : Scope) (ls : List Link) (i : ℕ) (l : Link) (found : List Value) (wanted : Outcome (List Value)) → i < length ls → l ≡ get_or ls i l
+pub values-left : (w : World) (s : Scope) (ls : List LinkedOperand) (i : ℕ) (l : LinkedOperand) (found : List Value) (wanted : Outcome (List Value)) → i < length ls → l ≡ get_or ls i l
     → values w s (links_of (drop i ls)) found ≡ wanted
-    → wanted ≡ and_then (value w s (tree (out-Link l).operand)) (λ v. values w s (links_of (drop (i + 1) ls)) (found ++ v ∷ []))
+    → wanted ≡ and_then (value w s (tree (out-LinkedOperand l).operand)) (λ v. values w s (links_of (drop (i + 1) ls)) (found ++ v ∷ []))
 values-left w s ls i l found wanted h e same = sym same ∙ ap (λ k. values w s k found) (next_link ls i l h e)
 
-pub chained-left : (at : Span) (w : World) (s : Scope) (ls : List Link) (i : ℕ) (l : Link) (v : Value) (wanted : Outcome Value) → i < length ls → l ≡ get_or ls i l
+pub chained-left : (at : Span) (w : World) (s : Scope) (ls : List LinkedOperand) (i : ℕ) (l : LinkedOperand) (v : Value) (wanted : Outcome Value) → i < length ls → l ≡ get_or ls i l
     → chained at w s (links_of (drop i ls)) v ≡ wanted
-    → wanted ≡ and_then (joined at (operation (out-Link l).operator) (value w s (tree (out-Link l).operand)) v) (chained at w s (links_of (drop (i + 1) ls)))
+    → wanted ≡ and_then (joined at (operation (out-LinkedOperand l).operator) (value w s (tree (out-LinkedOperand l).operand)) v) (chained at w s (links_of (drop (i + 1) ls)))
 chained-left at w s ls i l v wanted h e same =
-    sym same ∙ ap (λ k. chained at w s k v) (next_link ls i l h e) ∙ chained-step at w s (out-Link l).operator (tree (out-Link l).operand) (links_of (drop (i + 1) ls)) v
+    sym same ∙ ap (λ k. chained at w s k v) (next_link ls i l h e) ∙ chained-step at w s (out-LinkedOperand l).operator (tree (out-LinkedOperand l).operand) (links_of (drop (i + 1) ls)) v
 
 drop_at : {A : Type 0} (xs : List A) (i : ℕ) (x : A) → i < length xs → x ≡ get_or xs i x → drop i xs ≡ x ∷ drop (i + 1) xs
 drop_at xs i x h e = let a = drop-cons xs i x h in let b = add-one i in cc

@@ -1,11 +1,10 @@
 //! The rows of braces whose items are one or two declared sets, as `{LINKS}`, `{(i,j) in LINKS}` and
 //! `{p in PEOPLE, s in SHIFTS}`: the keys are those of the sets, so a row need not be kept for each.
 
-ghost use Rattle.std.specs.Prelude.{◌≡◌, ◌≤◌, IsTrue, length, map, IfOk, Ok, Some};
-ghost use Rattle.std.specs.List.{AllByRecursion};
+ghost use Rattle.std.specs.Prelude.{◌≡◌, ◌≤◌, IsTrue, map, IfOk, Ok, Some};
 ghost use Rattle.std.specs.Option.{IfSome};
 ghost use Rattle.net_lex.specs.declared.token.Token.{Token};
-ghost use Rattle.net_tree.specs.declared.operator.Words.{Words};
+ghost use Rattle.net_tree.specs.declared.operator.OperatorWords.{OperatorWords};
 ghost use Rattle.net_tree.specs.Tree.{filled, link, none, absent};
 ghost use Rattle.net_tree.specs.View.{braces_of, links_of, tree};
 ghost use Rattle.net_sets.specs.Limits.{arity_limit};
@@ -20,8 +19,8 @@ use crate::row_list::RowList;
 use crate::scope::{Scope, is_same_name};
 use crate::world::Env;
 use net_base::{Excerpt, Items};
-use net_sets::{ARITY_LIMIT, Cow, KeyList, TUPLES_LIMIT, TupleSet};
-use net_tree::{Braces, Expr, Link, sides_of};
+use net_sets::{ARITY_LIMIT, Cow, KeyList, TUPLES_LIMIT, TupleSet, narrowest, widest};
+use net_tree::{Braces, Expr, LinkedOperand, sides_of};
 use std::alloc::{AllocError, Global};
 
 /// An item over a declared set.
@@ -66,7 +65,7 @@ fn add_dummy<'s>(
 /// Adds the names of new dummies, and returns whether all components are some.
 fn add_dummies<'s>(
     env: &Env<'_, 's>,
-    components: &[Link<'s>],
+    components: &[LinkedOperand<'s>],
     names: &mut Vec<Excerpt<'s>>,
 ) -> Result<bool, AllocError>
     ensures { IfOk result (λ added. IsTrue added → AreNewDummies env.now (links_of components.now) names.old.items names.new.items) }
@@ -166,34 +165,17 @@ fn set_of_item<'w, 's>(
     }
 }
 
-/// Returns whether all tuples of a set have this many members.
-fn are_wide(set: &TupleSet<'_>, count: usize) -> bool
-    ensures { IsTrue result → AllByRecursion (λ tuple. length tuple ≡ count) set.now }
-{
-    for place in 0..set.len() {
-        if set.tuple_at(place).len() != count {
-            return false;
-        }
-    }
-    true
-}
-
 /// Returns the number of members of each tuple of a set; `None` if it is not the same for all, or
 /// there is no tuple.
 fn width_of(set: &TupleSet<'_>) -> Option<usize>
     ensures value { IfSome result (λ width. AreWide width set.now) }
     ensures fits { IfSome result (λ width. width ≤ arity_limit) }
 {
-    match set.get(0) {
-        None => None,
-        Some(first) => {
-            let width = first.len();
-            if are_wide(set, width) {
-                Some(width)
-            } else {
-                None
-            }
-        }
+    let width = widest(set);
+    if narrowest(set) == width {
+        Some(width)
+    } else {
+        None
     }
 }
 
@@ -291,7 +273,7 @@ fn two_sets<'s>(
     first: &Expr<'s>,
     second: &Expr<'s>,
 ) -> Result<Option<Indexing<'s>>, AllocError>
-    ensures { (o c : Token) (q : Words) → IfOk result (λ found. IfSome found (λ i. indexing_in env.now (Some (filled o (tree first.now)
+    ensures { (o c : Token) (q : OperatorWords) → IfOk result (λ found. IfSome found (λ i. indexing_in env.now (Some (filled o (tree first.now)
         (link q (tree second.now) none) absent c)) ≡ Ok i)) }
 {
     let mut names = Vec::new(alloc);

@@ -31,7 +31,7 @@ use net_base::{Boxed, Fault, Items};
 use net_lex::Token;
 use net_sets::Member;
 use net_tree::{
-    Braces, Expr, Link, Operands, Part, Reducer, Reduction, Sign, braces_span, span_of,
+    Braces, Expr, LinkedOperand, Operands, Part, Reducer, Reduction, Sign, braces_span, span_of,
 };
 use std::alloc::Global;
 
@@ -268,7 +268,7 @@ pub(crate) fn evaluate_more<'w, 's>(
     env: &Env<'w, 's>,
     scope: &Scope<'s>,
     first: Value<'w, 's>,
-    more: &[Link<'s>],
+    more: &[LinkedOperand<'s>],
 ) -> Result<Items<Value<'w, 's>>, Fault>
     ensures { Refines (values.values env.now scope.now (links_of more.now) (first.entry ∷ [])) result }
 {
@@ -288,7 +288,7 @@ fn chained<'w, 's>(
     env: &Env<'w, 's>,
     scope: &Scope<'s>,
     whole: &Expr<'s>,
-    links: &[Link<'s>],
+    links: &[LinkedOperand<'s>],
     value: Value<'w, 's>,
 ) -> Result<Value<'w, 's>, Fault>
     ensures { Refines (values.chained (trees.span_of (tree whole.now)) env.now scope.now (links_of links.now) value.entry) result }
@@ -307,7 +307,7 @@ fn joined<'w, 's>(
     env: &Env<'w, 's>,
     scope: &Scope<'s>,
     whole: &Expr<'s>,
-    link: &Link<'s>,
+    link: &LinkedOperand<'s>,
     value: Value<'w, 's>,
 ) -> Result<Value<'w, 's>, Fault>
     ensures { Refines (walks.joined (trees.span_of (tree whole.now)) (operations.operation link.now.operator)

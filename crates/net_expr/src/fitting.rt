@@ -16,7 +16,7 @@ use crate::row::{Place, bind_first, matches_as_tuple, matches_member, stay, with
 use crate::world::Env;
 use net_base::Fault;
 use net_sets::{Member, Tuple};
-use net_tree::{Expr, Link, Operands, sides_of};
+use net_tree::{Expr, LinkedOperand, Operands, sides_of};
 use std::alloc::Global;
 
 /// Returns the state after an item for one tuple of its set, or `None` if the tuple does not match.
@@ -120,7 +120,7 @@ fn places<'s>(
     alloc: Global,
     env: &Env<'_, 's>,
     whole: &Expr<'s>,
-    links: &[Link<'s>],
+    links: &[LinkedOperand<'s>],
     members: &[Member<'s>],
     place: Place<'s>,
 ) -> Result<Option<Place<'s>>, Fault>
@@ -149,7 +149,7 @@ fn places<'s>(
 #[derive(Clone, Copy)]
 struct ComponentList<'a, 's> {
     first: &'a Expr<'s>,
-    more: &'a [Link<'s>],
+    more: &'a [LinkedOperand<'s>],
 }
 
 /// A member of a key, and those after it.

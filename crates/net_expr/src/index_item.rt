@@ -16,7 +16,7 @@ use crate::value::{Value, reject_tree};
 use crate::world::Env;
 use net_base::{Boxed, ErrorCode, Excerpt, Fault, Span};
 use net_sets::{ARITY_LIMIT, Cow};
-use net_tree::{BinOp, Expr, Link, Operator, Part, sides_of, single_name};
+use net_tree::{BinOp, Expr, LinkedOperand, Operator, Part, sides_of, single_name};
 
 pub(crate) fn has_in(item: &Expr<'_>) -> bool
     ensures { result ≡ items.has_in (tree item.now) }
@@ -24,7 +24,7 @@ pub(crate) fn has_in(item: &Expr<'_>) -> bool
     sides_of(item).is_some()
 }
 
-pub(crate) fn any_in(links: &[Link<'_>]) -> bool
+pub(crate) fn any_in(links: &[LinkedOperand<'_>]) -> bool
     ensures { result ≡ items.any_in (links_of links.now) }
 {
     for link in links {
@@ -42,7 +42,7 @@ fn is_range(operator: &Operator<'_>) -> bool
 }
 
 /// Returns whether a chain is a range.
-pub(crate) fn begins_range(links: &[Link<'_>]) -> bool
+pub(crate) fn begins_range(links: &[LinkedOperand<'_>]) -> bool
     ensures { result ≡ items.begins_range (links_of links.now) }
 {
     match links {
@@ -96,7 +96,7 @@ pub(crate) fn new_dummy<'a, 's>(
     }
 }
 
-pub(crate) fn links_len(links: &[Link<'_>]) -> usize
+pub(crate) fn links_len(links: &[LinkedOperand<'_>]) -> usize
     ensures { result ≡ items.size (links_of links.now) }
 {
     links.len()

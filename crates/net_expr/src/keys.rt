@@ -26,7 +26,7 @@ use crate::width::width;
 use crate::world::Env;
 use net_base::{Boxed, Fault, Items, Span};
 use net_sets::{Cow, Cursor};
-use net_tree::{Braces, Expr, Link, Part, sides_of, span_between};
+use net_tree::{Braces, Expr, LinkedOperand, Part, sides_of, span_between};
 use std::alloc::Global;
 
 /// Returns the keys of an indexing expression, each with the dummies in scope.
@@ -192,7 +192,7 @@ fn onward<'a, 'w, 's>(
     alloc: Global,
     env: &Env<'w, 's>,
     at: Span,
-    items: &'a [Link<'s>],
+    items: &'a [LinkedOperand<'s>],
     place: Option<Place<'s>>,
     found: &mut Vec<Row<'s>>,
 ) -> Result<Option<Frame<'a, 'w, 's>>, Fault>
@@ -224,7 +224,7 @@ fn entered<'a, 'w, 's>(
     env: &Env<'w, 's>,
     at: Span,
     item: &'a Expr<'s>,
-    more: &'a [Link<'s>],
+    more: &'a [LinkedOperand<'s>],
     place: Place<'s>,
 ) -> Result<Frame<'a, 'w, 's>, Fault>
     ensures { Refines (and_then (walks.item_tuples at env.now place.entry.scope (tree item.entry.now))
@@ -323,7 +323,7 @@ fn holds<'s>(
 pub(crate) struct Inside<'a, 's> {
     pub(crate) at: Span,
     pub(crate) first: &'a Expr<'s>,
-    pub(crate) more: &'a [Link<'s>],
+    pub(crate) more: &'a [LinkedOperand<'s>],
     pub(crate) condition: &'a Option<Boxed<Part<'s>>>,
 }
 
@@ -331,7 +331,7 @@ pub(crate) struct Inside<'a, 's> {
 /// call, to keep the proofs of functions with many exits small.
 pub(crate) struct Frame<'a, 'w, 's> {
     pub(crate) item: &'a Expr<'s>,
-    pub(crate) more: &'a [Link<'s>],
+    pub(crate) more: &'a [LinkedOperand<'s>],
     pub(crate) place: Place<'s>,
     pub(crate) left: Cursor<'w, 's>,
 }

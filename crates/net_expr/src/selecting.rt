@@ -11,7 +11,7 @@ use crate::index_item::{bare, new_dummy};
 use crate::scope::Scope;
 use crate::world::Env;
 use net_sets::{Cow, Cursor, Member};
-use net_tree::{Expr, Link, sides_of};
+use net_tree::{Expr, LinkedOperand, sides_of};
 
 /// Returns the member of a simple name that is a dummy in scope.
 fn dummy_alone<'s>(scope: &Scope<'s>, component: &Expr<'s>) -> Option<Member<'s>>
@@ -36,7 +36,7 @@ fn is_new<'s>(env: &Env<'_, 's>, scope: &Scope<'s>, component: &Expr<'s>) -> boo
 fn selecting_after<'s>(
     env: &Env<'_, 's>,
     scope: &Scope<'s>,
-    links: &[Link<'s>],
+    links: &[LinkedOperand<'s>],
 ) -> Option<(usize, Member<'s>)>
     ensures { result ≡ select.selecting_from env.now scope.now 1 (links_of links.now) }
 {
@@ -77,7 +77,7 @@ fn selecting_first<'s>(
     env: &Env<'_, 's>,
     scope: &Scope<'s>,
     first: &Expr<'s>,
-    more: &[Link<'s>],
+    more: &[LinkedOperand<'s>],
 ) -> Option<(usize, Member<'s>)>
     ensures { result ≡ select.selecting_components env.now scope.now (tree first.now) (links_of more.now) }
 {

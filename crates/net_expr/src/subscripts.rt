@@ -20,7 +20,7 @@ use crate::value::{Value, reject_tree};
 use crate::world::Env;
 use net_base::{ErrorCode, Fault};
 use net_sets::{Member, Tuple};
-use net_tree::{Expr, Link};
+use net_tree::{Expr, LinkedOperand};
 use std::alloc::Global;
 
 /// A key, as far as its subscripts have been evaluated.
@@ -131,7 +131,7 @@ pub fn key_of<'s>(
     scope: &Scope<'s>,
     whole: &Expr<'s>,
     first: &Expr<'s>,
-    more: &[Link<'s>],
+    more: &[LinkedOperand<'s>],
 ) -> Result<Tuple<'s>, Fault>
     ensures { Refines (and_then (and_then (values.value env.now scope.now (tree first.now))
         (λ v. values.values env.now scope.now (links_of more.now) (v ∷ []))) (operators.tuple_of (trees.span_of (tree whole.now)))) result }

@@ -18,7 +18,7 @@ use crate::scope::Scope;
 use crate::world::{Entry, Env};
 use net_base::{ErrorCode, Excerpt, Fault, Span};
 use net_sets::{ARITY_LIMIT, Member};
-use net_tree::{BinOp, Braces, Expr, Link, sides_of};
+use net_tree::{BinOp, Braces, Expr, LinkedOperand, sides_of};
 use std::alloc::{AllocError, Global};
 
 /// The form of items: the dummies in scope, the number of key members, whether all are sets.
@@ -36,7 +36,7 @@ fn capped_sum(a: u8, b: u8) -> u8
     (u16::from(a) + u16::from(b)).min(5) as u8
 }
 
-fn capped_size(more: &[Link<'_>]) -> u8
+fn capped_size(more: &[LinkedOperand<'_>]) -> u8
     ensures { result ≡ widths.capped (1 + items.size (links_of more.now)) }
 {
     1 + links_len(more).min(ARITY_LIMIT) as u8
@@ -90,7 +90,7 @@ fn makes_set(operation: BinOp) -> bool
     }
 }
 
-fn begin_set(links: &[Link<'_>]) -> bool
+fn begin_set(links: &[LinkedOperand<'_>]) -> bool
     ensures { result ≡ widths.begin_set (links_of links.now) }
 {
     match links {
@@ -171,7 +171,7 @@ fn with_components<'s>(
     alloc: Global,
     env: &Env<'_, 's>,
     form: Shape<'s>,
-    links: &[Link<'s>],
+    links: &[LinkedOperand<'s>],
 ) -> Result<Shape<'s>, AllocError>
     ensures { IfOk result (λ f. f ≡ widths.with_components env.now form.entry (links_of links.now)) }
 {
@@ -187,7 +187,7 @@ fn with_tuple<'s>(
     env: &Env<'_, 's>,
     form: Shape<'s>,
     first: &Expr<'s>,
-    more: &[Link<'s>],
+    more: &[LinkedOperand<'s>],
 ) -> Result<Shape<'s>, AllocError>
     ensures { IfOk result (λ f. f ≡ widths.with_components env.now (widths.with_component env.now form.entry (tree first.now)) (links_of more.now)) }
 {
@@ -268,7 +268,7 @@ fn chain_width<'s>(
     env: &Env<'_, 's>,
     scope: &Scope<'s>,
     first: &Expr<'s>,
-    more: &[Link<'s>],
+    more: &[LinkedOperand<'s>],
 ) -> Result<Option<u8>, AllocError>
     ensures { IfOk result (λ d. d ≡ widths.chain_width env.now scope.now (widths.width env.now scope.now (tree first.now)) (links_of more.now)) }
 {
@@ -304,7 +304,7 @@ fn filled_width<'s>(
     env: &Env<'_, 's>,
     scope: &Scope<'s>,
     item: &Expr<'s>,
-    more: &[Link<'s>],
+    more: &[LinkedOperand<'s>],
 ) -> Result<Option<u8>, AllocError>
     ensures { IfOk result (λ d. d ≡ widths.items_width env.now scope.now (tree item.now) (links_of more.now)) }
 {
@@ -323,7 +323,7 @@ fn items_form<'s>(
     env: &Env<'_, 's>,
     scope: &Scope<'s>,
     item: &Expr<'s>,
-    more: &[Link<'s>],
+    more: &[LinkedOperand<'s>],
 ) -> Result<Shape<'s>, AllocError>
     ensures { IfOk result (λ f. f ≡ widths.with_items env.now (widths.with_item env.now (widths.begin scope.now) (tree item.now)) (links_of more.now)) }
 {

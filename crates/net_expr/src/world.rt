@@ -103,7 +103,7 @@ impl<'w, 's> Env<'w, 's> {
     }
 
     /// Looks up a name.
-    pub(crate) fn find(&self, name: &Excerpt<'s>) -> Option<&'w Entry<'s>>
+    pub fn find(&self, name: &Excerpt<'s>) -> Option<&'w Entry<'s>>
         ensures { option_copied result ≡ entry_of self.now name.now }
     {
         self.world.find_among(self.known, name)

@@ -13,7 +13,7 @@ use Rattle.net_linear.specs.Forms.{Linear, form_at, all_apart}
 use Rattle.net_inst.specs.declared.draft.ChosenObjective.{ChosenObjective}
 use Rattle.net_inst.specs.declared.network_names.Declared.{Declared}
 use Rattle.net_inst.specs.Arcs.{with_arcs, arc_env}
-use Rattle.net_inst.specs.AsWritten.{Arc, arcs_of, nodes, arcs, known_after, in_order, arc_declared, same_label, Assignment, number_on, numbers_on}
+use Rattle.net_inst.specs.AsWritten.{WrittenArc, arcs_of, nodes, arcs, known_after, in_order, arc_declared, same_label, Assignment, number_on, numbers_on}
 use Rattle.net_inst.specs.Drafts.{Drawing, nothing, env, sense_of, part_form, aimed, passed, is_chosen, with_goal, known_more, nodes_more, arcs_more, declare, draw}
 use Rattle.net_inst.specs.Instances.{Network, network}
 use Rattle.net_inst.specs.Laws.{total_of, IsObjectiveOf, HaveObjective}
@@ -34,19 +34,19 @@ abbrev goal_after : Option Objective → Option ChosenObjective → Option Chose
 goal_after None g = g
 goal_after (Some o) g = Some (record { name = o.name; sense = o.sense })
 
-abbrev value_after : List Arc → Option Objective → Option ChosenObjective → Linear → List Arc → Assignment → ℤ
+abbrev value_after : List WrittenArc → Option Objective → Option ChosenObjective → Linear → List WrittenArc → Assignment → ℤ
 value_after all None g f rest x = form_at (by_place all x) f +ℤ goal_prices g rest x
 value_after all (Some o) g f rest x = value_of o x
 
 -- what the declarations left, with these objectives and arcs, make of the objective
-pub record Aims (all : List Arc) (o : Option Objective) (rest : List Arc) (d new : Drawing) : Type 0 where
+pub record Aims (all : List WrittenArc) (o : Option Objective) (rest : List WrittenArc) (d new : Drawing) : Type 0 where
   pub goal : new.goal ≡ goal_after o d.goal
   pub apart : all_apart d.arcs.form.products ≡ true → all_apart new.arcs.form.products ≡ true
   pub value : IsDistinct same_label (arc_labels all) → (x : Assignment) → form_at (by_place all x) new.arcs.form ≡ value_after all o d.goal d.arcs.form rest x
   pub valued : IsValued all o
 
 -- the objective stays as it is
-same_aim : (all : List Arc) (o : Option Objective) (rest : List Arc) (d next new : Drawing) → next.goal ≡ d.goal → next.arcs.form ≡ d.arcs.form → Aims all o rest next new → Aims all o rest d new
+same_aim : (all : List WrittenArc) (o : Option Objective) (rest : List WrittenArc) (d next new : Drawing) → next.goal ≡ d.goal → next.arcs.form ≡ d.arcs.form → Aims all o rest next new → Aims all o rest d new
 same_aim all o rest d next new g f h = record {
   goal = h.goal ∙ ap (goal_after o) g;
   apart = λ k. h.apart (ap (λ (z : Linear). all_apart z.products) f ∙ k);
@@ -54,13 +54,13 @@ same_aim all o rest d next new g f h = record {
   valued = h.valued;
 }
 
-prices_join : (g : Option ChosenObjective) (xs ys : List Arc) (x : Assignment) → goal_prices g (xs ++ ys) x ≡ goal_prices g xs x +ℤ goal_prices g ys x
+prices_join : (g : Option ChosenObjective) (xs ys : List WrittenArc) (x : Assignment) → goal_prices g (xs ++ ys) x ≡ goal_prices g xs x +ℤ goal_prices g ys x
 prices_join None xs ys x = omega (arith, ints)
 prices_join (Some g) [] ys x = omega (arith, ints)
 prices_join (Some g) (a ∷ xs) ys x = omega (arith, ints, prices_join (Some g) xs ys x)
 
 -- arcs more
-arcs_aim : (all : List Arc) (o : Option Objective) (here rest : List Arc) (d next new : Drawing) → next.goal ≡ d.goal → Adds all d.goal here d.arcs.form next.arcs.form → Aims all o rest next new → Aims all o (here ++ rest) d new
+arcs_aim : (all : List WrittenArc) (o : Option Objective) (here rest : List WrittenArc) (d next new : Drawing) → next.goal ≡ d.goal → Adds all d.goal here d.arcs.form next.arcs.form → Aims all o rest next new → Aims all o (here ++ rest) d new
 arcs_aim all None here rest d next new g adds h = record {
   goal = h.goal ∙ g;
   apart = λ k. h.apart (adds.apart k);
@@ -77,7 +77,7 @@ wanted_is None (Some g) n o b e h = cc
 wanted_is (Some name) g n o b e h = ap (bytes_eq name) e ∙ ok_is (bytes_eq name n.text) b h
 
 -- an objective that is passed over, and one that is chosen
-passed_aim : (all : List Arc) (wanted : Option Name) (o : Objective) (os : List Objective) (rest : List Arc) (d new : Drawing) → is_wanted wanted o ≡ false → Aims all (chosen wanted os) rest (passed d) new → Aims all (chosen wanted (o ∷ os)) rest d new
+passed_aim : (all : List WrittenArc) (wanted : Option Name) (o : Objective) (os : List Objective) (rest : List WrittenArc) (d new : Drawing) → is_wanted wanted o ≡ false → Aims all (chosen wanted os) rest (passed d) new → Aims all (chosen wanted (o ∷ os)) rest d new
 passed_aim all wanted o os rest d new e h =
     subst (λ (p : Option Objective). Aims all p rest d new) (none_more (chosen wanted os) ∙ ap (λ (b : Bool). or_else (chosen wanted os) (if b then Some o else None)) (sym e)) (same_aim all (chosen wanted os) rest d (passed d) new refl refl h)
   where
@@ -85,7 +85,7 @@ passed_aim all wanted o os rest d new e h =
     none_more None = refl
     none_more (Some p) = refl
 
-aimed_aim : (all : List Arc) (wanted : Option Name) (o : Objective) (os : List Objective) (rest : List Arc) (t n : Token) (f : Linear) (d new : Drawing) → is_wanted wanted o ≡ true → o.name ≡ n.text → o.sense ≡ sense_of t → o.behind ≡ rest
+aimed_aim : (all : List WrittenArc) (wanted : Option Name) (o : Objective) (os : List Objective) (rest : List WrittenArc) (t n : Token) (f : Linear) (d new : Drawing) → is_wanted wanted o ≡ true → o.name ≡ n.text → o.sense ≡ sense_of t → o.behind ≡ rest
     → all_apart f.products ≡ true → (IsDistinct same_label (arc_labels all) → (x : Assignment) → form_at (by_place all x) f ≡ part_value o.before o.env o.expression x)
     → IsValued all (Some o) → Aims all (chosen wanted os) rest (aimed d t n f) new → Aims all (chosen wanted (o ∷ os)) rest d new
 aimed_aim all wanted o os rest t n f d new e name sense later apart phrase_expression means h =
@@ -96,14 +96,14 @@ aimed_aim all wanted o os rest t n f d new e name sense later apart phrase_expre
       goal = k.goal ∙ ap (λ (z : Name). let g : Option ChosenObjective = Some (record { name = z; sense = sense_of t }) in g) (sym name) ∙ ap (λ z. let g : Option ChosenObjective = Some (record { name = o.name; sense = z }) in g) (sym sense);
       apart = λ a. k.apart apart;
       value = λ distinct x.
-          let after_it : prices n.text rest x ≡ prices o.name o.behind x = ap (λ (z : Name). prices z rest x) (sym name) ∙ ap (λ (z : List Arc). prices o.name z x) (sym later) in
+          let after_it : prices n.text rest x ≡ prices o.name o.behind x = ap (λ (z : Name). prices z rest x) (sym name) ∙ ap (λ (z : List WrittenArc). prices o.name z x) (sym later) in
           omega (arith, ints, k.value distinct x, phrase_expression distinct x, after_it);
       valued = means;
     }
     go (Some p) k = record { goal = k.goal; apart = λ a. k.apart apart; value = k.value; valued = k.valued }
 
 -- one declaration before others
-step : (wanted : Option Name) (w : World) (all : List Arc) (m : Lines) (x : Declaration) (d next new : Drawing) (os : List Objective) (rest : List Arc) → IsWritten m d → all ≡ m.arcs ++ (arcs_of (env w d) x ++ rest)
+step : (wanted : Option Name) (w : World) (all : List WrittenArc) (m : Lines) (x : Declaration) (d next new : Drawing) (os : List Objective) (rest : List WrittenArc) → IsWritten m d → all ≡ m.arcs ++ (arcs_of (env w d) x ++ rest)
     → declare wanted w x d ≡ Ok next → Aims all (chosen wanted os) rest next new → Aims all (chosen wanted (objective_of m.arc_names (env w d) x rest ++ os)) (arcs_of (env w d) x ++ rest) d new
 step wanted w all m (set t n ps z) d next new os rest h whole e k =
     let same = ok_is (known_more d) next e in
@@ -132,7 +132,7 @@ step wanted w all m (objective t n p z) d next new os rest h whole e k =
 
     reads : IsDistinct same_label (arc_labels all) → (x : Assignment) → ReadAlike d.arcs.group.numbers (by_place all x) x
     reads distinct x =
-        read_alike all m.arcs rest x d.arcs.group.numbers h.arcs.group.finds (distinct_front same_label (arc_labels m.arcs) (arc_labels rest) (subst (IsDistinct same_label) (ap arc_labels whole ∙ map_join (λ (v : Arc). v.label) m.arcs rest) distinct)) whole
+        read_alike all m.arcs rest x d.arcs.group.numbers h.arcs.group.finds (distinct_front same_label (arc_labels m.arcs) (arc_labels rest) (subst (IsDistinct same_label) (ap arc_labels whole ∙ map_join (λ (v : WrittenArc). v.label) m.arcs rest) distinct)) whole
 
     go : (b : Bool) → is_wanted wanted here ≡ b → (if b then with_goal (env w d) t n p d else Ok (passed d)) ≡ Ok next → Aims all (chosen wanted (here ∷ os)) rest d new
     go false i j = passed_aim all wanted here os rest d new i (subst (λ (y : Drawing). Aims all (chosen wanted os) rest y new) (sym (ok_is (passed d) next j)) k)
@@ -143,7 +143,7 @@ step wanted w all m (objective t n p z) d next new os rest h whole e k =
         (λ sets distinct x. said_means d.arcs.group.numbers m.arc_names all x (env w d) p f sets h.arcs.group.known (reads distinct x) q)
         (subst (λ (y : Drawing). Aims all (chosen wanted os) rest y new) (sym (ok_is (aimed d t n f) next r)) k))
 
-has_objective : (wanted : Option Name) (w : World) (ds : List Declaration) (all : List Arc) (m : Lines) (d new : Drawing) → IsWritten m d → all ≡ m.arcs ++ in_order arcs_of w d.known ds → draw wanted w ds d ≡ Ok new
+has_objective : (wanted : Option Name) (w : World) (ds : List Declaration) (all : List WrittenArc) (m : Lines) (d new : Drawing) → IsWritten m d → all ≡ m.arcs ++ in_order arcs_of w d.known ds → draw wanted w ds d ≡ Ok new
     → Aims all (chosen wanted (objectives_from m.arc_names w d.known ds)) (in_order arcs_of w d.known ds) d new
 has_objective wanted w [] all m d new h whole e =
     let same = ok_is d new e in

@@ -20,7 +20,7 @@ use Rattle.net_inst.specs.declared.node_name.Group.{Group}
 use Rattle.net_expr.specs.declared.indexing.Indexing.{Indexing}
 use Rattle.net_inst.specs.declared.network_names.Declared.{Declared}
 use Rattle.net_inst.specs.Arcs.{BuiltArcs, built, arcs_at, next_arc, with_arcs, named_arcs, arc_env, arc_text}
-use Rattle.net_inst.specs.AsWritten.{Label, Node, Arc, rows_of, label_at, node_at_row, arc_at_row, arcs_with, same_label, from_end, to_end}
+use Rattle.net_inst.specs.AsWritten.{WrittenLabel, WrittenNode, WrittenArc, rows_of, label_at, node_at_row, arc_at_row, arcs_with, same_label, from_end, to_end}
 use Rattle.net_inst.specs.Groups.{group_with}
 use Rattle.net_expr.specs.Indexings.{indexing_in}
 use Rattle.net_inst.specs.Laws.{IsPlaceOf}
@@ -33,24 +33,24 @@ use Rattle.net_inst.proofs.Labels.{IsGroup, count_is, group_more}
 use Rattle.net_inst.proofs.Placing.{end_place, place_stays, built_is}
 use Rattle.net_inst.proofs.Zips.{ok_then, ok_is, map_map, map_join, zip_join, zip_as, zip_long, distinct_front}
 
-abbrev pub node_labels : List Node → List Label
+abbrev pub node_labels : List WrittenNode → List WrittenLabel
 node_labels ns = map (λ n. n.label) ns
 
-abbrev pub arc_labels : List Arc → List Label
+abbrev pub arc_labels : List WrittenArc → List WrittenLabel
 arc_labels all = map (λ a. a.label) all
 
 -- ---- nodes
 
 -- a range is that of the node's condition
-pub record HasRange (n : Node) (r : Sides) : Type 0 where
+pub record HasRange (n : WrittenNode) (r : Sides) : Type 0 where
   pub is : range_in n.env n.scope n.condition ≡ Ok (Some r)
 
-pub record AreNodes (ns : List Node) (names : List Declared) (d : BuiltNodes) : Type 0 where
+pub record AreNodes (ns : List WrittenNode) (names : List Declared) (d : BuiltNodes) : Type 0 where
   pub ranges : AllZip HasRange ns d.ranges
   pub group : IsGroup (node_labels ns) names d.group
 
 -- more ranges behind others
-pub record AreMore (ns : List Node) (found new : List Sides) : Type 0 where
+pub record AreMore (ns : List WrittenNode) (found new : List Sides) : Type 0 where
   pub more : List Sides
   pub whole : new ≡ found ++ more
   pub ranges : AllZip HasRange ns more
@@ -81,7 +81,7 @@ ranges_are w n b k c (row ∷ rows) found new e =
       ranges = (record { is = one.1 }, rest.ranges);
     })
 
-pub nodes_more_are : (w : World) (n : Token) (b : Option Braces) (c : Condition) (ns : List Node) (names : List Declared) (d new : BuiltNodes) → AreNodes ns names d → with_nodes w n b c d ≡ Ok new
+pub nodes_more_are : (w : World) (n : Token) (b : Option Braces) (c : Condition) (ns : List WrittenNode) (names : List Declared) (d new : BuiltNodes) → AreNodes ns names d → with_nodes w n b c d ≡ Ok new
     → AreNodes (ns ++ map (node_at_row w n b c) (rows_of (indexing_in w b))) (names ++ (record { name = n.text; indexed = is_some b }) ∷ []) new
 nodes_more_are w n b c ns names d new h e =
     ok_then (indexing_in w b) (nodes_by w n c d) new e (λ i j k.
@@ -98,7 +98,7 @@ nodes_more_are w n b c ns names d new h e =
           ranges =
               subst (AllZip HasRange (ns ++ map (node_at_row w n b c) i.rows)) (sym found.whole) (zip_join HasRange ns (map (node_at_row w n b c) i.rows) d.ranges found.more h.ranges found.ranges);
           group =
-              subst (λ (ls : List Label). IsGroup ls (names ++ (record { name = n.text; indexed = is_some b }) ∷ []) (group_with d.group n.text (length d.ranges) i)) labels
+              subst (λ (ls : List WrittenLabel). IsGroup ls (names ++ (record { name = n.text; indexed = is_some b }) ∷ []) (group_with d.group n.text (length d.ranges) i)) labels
               (group_more (node_labels ns) names d.group n b (length d.ranges) i h.group (zip_long HasRange ns d.ranges h.ranges ∙ sym (length-map ns (λ v. v.label))) (count_is w b i j));
         }))
       where
@@ -107,33 +107,33 @@ nodes_more_are w n b c ns names d new h e =
 
         labels : node_labels ns ++ map (label_at n b) i.rows ≡ node_labels (ns ++ map (node_at_row w n b c) i.rows)
         labels =
-            ap (λ (ls : List Label). node_labels ns ++ ls) (sym (map_map (λ (v : Node). v.label) (node_at_row w n b c) i.rows))
-            ∙ sym (map_join (λ (v : Node). v.label) ns (map (node_at_row w n b c) i.rows))
+            ap (λ (ls : List WrittenLabel). node_labels ns ++ ls) (sym (map_map (λ (v : WrittenNode). v.label) (node_at_row w n b c) i.rows))
+            ∙ sym (map_join (λ (v : WrittenNode). v.label) ns (map (node_at_row w n b c) i.rows))
 
 -- ---- arcs
 
-pub record HasEnds (labels : List Label) (a : Arc) (x : Built) : Type 0 where
+pub record HasEnds (labels : List WrittenLabel) (a : WrittenArc) (x : Built) : Type 0 where
   pub from : IsPlaceOf labels (from_end a) x.tail
   pub to : IsPlaceOf labels (to_end a) x.head
 
 -- what is drawn of an arc
-pub record IsBuiltAs (labels : List Label) (a : Arc) (x : Built) : Type 0 where
+pub record IsBuiltAs (labels : List WrittenLabel) (a : WrittenArc) (x : Built) : Type 0 where
   pub lower : value a.env a.scope a.parts.lower ≡ Ok (One (Number x.lower))
   pub upper : value a.env a.scope a.parts.upper ≡ Ok (One (Number x.upper))
   pub ends : IsDistinct same_label labels → HasEnds labels a x
 
-pub record AreArcs (labels : List Label) (all : List Arc) (names : List Declared) (d : BuiltArcs) : Type 0 where
+pub record AreArcs (labels : List WrittenLabel) (all : List WrittenArc) (names : List Declared) (d : BuiltArcs) : Type 0 where
   pub built : AllZip (IsBuiltAs labels) all d.arcs
   pub group : IsGroup (arc_labels all) names d.group
 
 -- more arcs behind others
-pub record AreMoreArcs (labels : List Label) (all : List Arc) (d new : BuiltArcs) : Type 0 where
+pub record AreMoreArcs (labels : List WrittenLabel) (all : List WrittenArc) (d new : BuiltArcs) : Type 0 where
   pub more : List Built
   pub whole : new.arcs ≡ d.arcs ++ more
   pub built : AllZip (IsBuiltAs labels) all more
   pub group : new.group ≡ d.group
 
-one_arc : (ns : List Node) (names : List Declared) (dn : BuiltNodes) → AreNodes ns names dn → (w : World) (n : Token) (b : Option Braces) (k : Option ℕ) (p : Parts) (ps : List Phrase) (row : Row) (x : Built)
+one_arc : (ns : List WrittenNode) (names : List Declared) (dn : BuiltNodes) → AreNodes ns names dn → (w : World) (n : Token) (b : Option Braces) (k : Option ℕ) (p : Parts) (ps : List Phrase) (row : Row) (x : Built)
     → built dn w n k p row ≡ Ok x → IsBuiltAs (node_labels ns) (arc_at_row w n b ps p row) x
 one_arc ns names dn h w n b k p ps row x e =
     let by = built_is dn w n k p row x e in
@@ -146,7 +146,7 @@ one_arc ns names dn h w n b k p ps row x e =
       };
     }
 
-arcs_are : (ns : List Node) (names : List Declared) (dn : BuiltNodes) → AreNodes ns names dn → (g : Option ChosenObjective) (w : World) (n : Token) (b : Option Braces) (k : Option ℕ) (p : Parts) (ps : List Phrase) (rows : List Row) (d new : BuiltArcs)
+arcs_are : (ns : List WrittenNode) (names : List Declared) (dn : BuiltNodes) → AreNodes ns names dn → (g : Option ChosenObjective) (w : World) (n : Token) (b : Option Braces) (k : Option ℕ) (p : Parts) (ps : List Phrase) (rows : List Row) (d new : BuiltArcs)
     → arcs_at (arc_env g dn w) (arc_text n p ps) k rows d ≡ Ok new → AreMoreArcs (node_labels ns) (map (arc_at_row w n b ps p) rows) d new
 arcs_are ns names dn h g w n b k p ps [] d new e =
     let same = ok_is d new e in
@@ -162,17 +162,17 @@ arcs_are ns names dn h g w n b k p ps (row ∷ rows) d new e =
       group = rest.group ∙ one.group;
     })
 
-pub arcs_more_are : (ns : List Node) (node_names : List Declared) (dn : BuiltNodes) → AreNodes ns node_names dn → (g : Option ChosenObjective) (w : World) (n : Token) (b : Option Braces) (ps : List Phrase) (all : List Arc) (names : List Declared) (d new : BuiltArcs)
+pub arcs_more_are : (ns : List WrittenNode) (node_names : List Declared) (dn : BuiltNodes) → AreNodes ns node_names dn → (g : Option ChosenObjective) (w : World) (n : Token) (b : Option Braces) (ps : List Phrase) (all : List WrittenArc) (names : List Declared) (d new : BuiltArcs)
     → AreArcs (node_labels ns) all names d → with_arcs (arc_env g dn w) n b ps d ≡ Ok new → AreArcs (node_labels ns) (all ++ arcs_with w n b ps (parts_of n ps)) (names ++ (record { name = n.text; indexed = is_some b }) ∷ []) new
 arcs_more_are ns node_names dn hn g w n b ps all names d new h e =
     subst (AreArcs (node_labels ns) (all ++ arcs_with w n b ps (parts_of n ps)) more_names) by.is_named
-    (subst (λ (xs : List Arc). AreArcs (node_labels ns) (all ++ xs) more_names (named_arcs n.text (length d.arcs) by.indexing by.found)) (sym written)
+    (subst (λ (xs : List WrittenArc). AreArcs (node_labels ns) (all ++ xs) more_names (named_arcs n.text (length d.arcs) by.indexing by.found)) (sym written)
     (record {
       built = subst (AllZip (IsBuiltAs (node_labels ns)) (all ++ here)) (sym found.whole) (zip_join (IsBuiltAs (node_labels ns)) all here d.arcs found.more h.built found.built);
       group =
-          subst (λ (ls : List Label). IsGroup ls more_names (group_with by.found.group n.text (length d.arcs) by.indexing)) labels
+          subst (λ (ls : List WrittenLabel). IsGroup ls more_names (group_with by.found.group n.text (length d.arcs) by.indexing)) labels
           (subst (λ (z : Group). IsGroup (arc_labels all ++ map (label_at n b) by.indexing.rows) more_names (group_with z n.text (length d.arcs) by.indexing)) (sym found.group)
-          (group_more (arc_labels all) names d.group n b (length d.arcs) by.indexing h.group (zip_long (IsBuiltAs (node_labels ns)) all d.arcs h.built ∙ sym (length-map all (λ (v : Arc). v.label))) (count_is w b by.indexing by.keys)));
+          (group_more (arc_labels all) names d.group n b (length d.arcs) by.indexing h.group (zip_long (IsBuiltAs (node_labels ns)) all d.arcs h.built ∙ sym (length-map all (λ (v : WrittenArc). v.label))) (count_is w b by.indexing by.keys)));
     }))
   where
     by : AreArcsBy g dn w n b ps d new
@@ -181,7 +181,7 @@ arcs_more_are ns node_names dn hn g w n b ps all names d new h e =
     more_names : List Declared
     more_names = names ++ (record { name = n.text; indexed = is_some b }) ∷ []
 
-    here : List Arc
+    here : List WrittenArc
     here = map (arc_at_row w n b ps by.parts) by.indexing.rows
 
     found : AreMoreArcs (node_labels ns) here d by.found
@@ -192,11 +192,11 @@ arcs_more_are ns node_names dn hn g w n b ps all names d new h e =
 
     labels : arc_labels all ++ map (label_at n b) by.indexing.rows ≡ arc_labels (all ++ here)
     labels =
-        ap (λ (ls : List Label). arc_labels all ++ ls) (sym (map_map (λ (v : Arc). v.label) (arc_at_row w n b ps by.parts) by.indexing.rows))
-        ∙ sym (map_join (λ (v : Arc). v.label) all here)
+        ap (λ (ls : List WrittenLabel). arc_labels all ++ ls) (sym (map_map (λ (v : WrittenArc). v.label) (arc_at_row w n b ps by.parts) by.indexing.rows))
+        ∙ sym (map_join (λ (v : WrittenArc). v.label) all here)
 
 -- behind more nodes the arcs stay
-pub arcs_stay : (labels more : List Label) (all : List Arc) (names : List Declared) (d : BuiltArcs) → AreArcs labels all names d → AreArcs (labels ++ more) all names d
+pub arcs_stay : (labels more : List WrittenLabel) (all : List WrittenArc) (names : List Declared) (d : BuiltArcs) → AreArcs labels all names d → AreArcs (labels ++ more) all names d
 arcs_stay labels more all names d h = record {
   built = zip_as (IsBuiltAs labels) (IsBuiltAs (labels ++ more)) all d.arcs (λ a x u. record {
     lower = u.lower;

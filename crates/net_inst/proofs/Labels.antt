@@ -19,7 +19,7 @@ use Rattle.net_inst.specs.declared.node_name.Group.{Group}
 use Rattle.net_expr.specs.declared.indexing.Indexing.{Indexing}
 use Rattle.net_inst.specs.declared.network_names.Declared.{Declared}
 use Rattle.net_inst.specs.Lists.{Key, keyed, AreInOrder}
-use Rattle.net_inst.specs.AsWritten.{Label, label_at, same_label}
+use Rattle.net_inst.specs.AsWritten.{WrittenLabel, label_at, same_label}
 use Rattle.net_inst.specs.Groups.{Numbers, unless_known, numbers_with, group_with}
 use Rattle.net_expr.specs.Indexings.{alone, by_keys, indexing_in}
 use Rattle.net_expr.specs.Rows.{keys_of}
@@ -27,32 +27,32 @@ use Rattle.net_inst.specs.Laws.{IsKeyOf}
 use Rattle.net_inst.specs.Readings.{name_alone}
 use Rattle.net_inst.proofs.Zips.{ok_then, ok_is, map_map, map_join, zip_join, zip_as, get_front, get_after, get_last, get_below, distinct_front, distinct_after, distinct_of}
 
-abbrev pub label_of : Name → Bool → Tuple → Label
+abbrev pub label_of : Name → Bool → Tuple → WrittenLabel
 label_of name flag key = record { name = name; indexed = flag; key = key }
 
 -- the keys of a declared name have their labels together
-pub record IsRun (labels : List Label) (name : Name) (k : KeyNumbers) : Type 0 where
-  pub before : List Label
+pub record IsRun (labels : List WrittenLabel) (name : Name) (k : KeyNumbers) : Type 0 where
+  pub before : List WrittenLabel
   pub flag : Bool
   pub keys : List Tuple
-  pub after : List Label
+  pub after : List WrittenLabel
   pub whole : labels ≡ before ++ (map (label_of name flag) keys ++ after)
   pub first : k.first ≡ length before
   pub index : k.index ≡ union [] keys
 
-pub record Finds (labels : List Label) (numbers : Numbers) : Type 0 where
+pub record Finds (labels : List WrittenLabel) (numbers : Numbers) : Type 0 where
   pub runs : (name : Name) (k : KeyNumbers) → declared numbers name ≡ Some k → IsRun labels name k
 
-longer : (labels more : List Label) (name : Name) (k : KeyNumbers) → IsRun labels name k → IsRun (labels ++ more) name k
+longer : (labels more : List WrittenLabel) (name : Name) (k : KeyNumbers) → IsRun labels name k → IsRun (labels ++ more) name k
 longer labels more name k r = record {
   before = r.before;
   flag = r.flag;
   keys = r.keys;
   after = r.after ++ more;
   whole =
-      ap (λ (l : List Label). l ++ more) r.whole
+      ap (λ (l : List WrittenLabel). l ++ more) r.whole
       ∙ append_assoc r.before (map (label_of name r.flag) r.keys ++ r.after) more
-      ∙ ap (λ (l : List Label). r.before ++ l) (append_assoc (map (label_of name r.flag) r.keys) r.after more);
+      ∙ ap (λ (l : List WrittenLabel). r.before ++ l) (append_assoc (map (label_of name r.flag) r.keys) r.after more);
   first = r.first;
   index = r.index;
 }
@@ -70,13 +70,13 @@ declared_last (x ∷ a) name k q j e = go (bytes_eq x.0 q) e (declared_last a na
     go true h more = inl h
     go false h more = more h
 
-finds_more : (labels : List Label) (a : Numbers) (name : Name) (flag : Bool) (first : ℕ) (i : Indexing) → Finds labels a → first ≡ length labels → Finds (labels ++ map (label_of name flag) (keys_of i.rows)) (numbers_with a name first i)
+finds_more : (labels : List WrittenLabel) (a : Numbers) (name : Name) (flag : Bool) (first : ℕ) (i : Indexing) → Finds labels a → first ≡ length labels → Finds (labels ++ map (label_of name flag) (keys_of i.rows)) (numbers_with a name first i)
 finds_more labels a name flag first i finds at = record { runs = λ q k e. go q k (is_arc a name) e }
   where
     new : KeyNumbers
     new = record { keys = i.count; first = first; index = union [] (keys_of i.rows) }
 
-    run : List Label
+    run : List WrittenLabel
     run = map (label_of name flag) (keys_of i.rows)
 
     one : IsRun (labels ++ run) name new
@@ -85,7 +85,7 @@ finds_more labels a name flag first i finds at = record { runs = λ q k e. go q 
       flag = flag;
       keys = keys_of i.rows;
       after = [];
-      whole = ap (λ (l : List Label). labels ++ l) (sym (append-nil run));
+      whole = ap (λ (l : List WrittenLabel). labels ++ l) (sym (append-nil run));
       first = at;
       index = refl;
     }
@@ -127,14 +127,14 @@ keys_distinct name flag keys h = distinct_of same_tuple same_label (label_of nam
     both x y e = rw ((bytes_eq-Decides name name).1 refl) e
 
 -- a number that is found is the place of the label
-pub found_label : (labels : List Label) (numbers : Numbers) (name : Name) (k : KeyNumbers) (key : Tuple) (p v : ℕ) → Finds labels numbers → IsDistinct same_label labels → declared numbers name ≡ Some k → place_of k.index key ≡ Some p → v ≡ k.first + p
-    → (l : Label) × (slice_get labels v ≡ Some l) × (l.name ≡ name) × (l.key ≡ key)
+pub found_label : (labels : List WrittenLabel) (numbers : Numbers) (name : Name) (k : KeyNumbers) (key : Tuple) (p v : ℕ) → Finds labels numbers → IsDistinct same_label labels → declared numbers name ≡ Some k → place_of k.index key ≡ Some p → v ≡ k.first + p
+    → (l : WrittenLabel) × (slice_get labels v ≡ Some l) × (l.name ≡ name) × (l.key ≡ key)
 found_label labels numbers name k key p v finds distinct e at same = (label_of name r.flag key, there, refl, refl)
   where
     r : IsRun labels name k
     r = finds.runs name k e
 
-    run : List Label
+    run : List WrittenLabel
     run = map (label_of name r.flag) r.keys
 
     run_distinct : IsDistinct same_label run
@@ -148,7 +148,7 @@ found_label labels numbers name k key p v finds distinct e at same = (label_of n
 
     there : slice_get labels v ≡ Some (label_of name r.flag key)
     there =
-        ap (λ (ls : List Label). slice_get ls v) r.whole
+        ap (λ (ls : List WrittenLabel). slice_get ls v) r.whole
         ∙ get_after r.before (run ++ r.after) p v (same ∙ ap (λ (m : ℕ). m + p) r.first)
         ∙ get_front run r.after p (label_of name r.flag key) (get_map (label_of name r.flag) r.keys p key in_keys)
 
@@ -190,7 +190,7 @@ known_more a ds d first i h = record { alike = λ q. go q (is_arc a d.name) refl
     go q false k = known_join a ((d.name, new) ∷ []) q ∙ ap (λ (t : Bool). is_arc a q || t) (alone_alike (bytes_eq d.name q))
 
 -- a group of declared names lists these labels
-pub record IsGroup (labels : List Label) (names : List Declared) (g : Group) : Type 0 where
+pub record IsGroup (labels : List WrittenLabel) (names : List Declared) (g : Group) : Type 0 where
   pub declarations : g.list.declarations ≡ names
   pub keys : AllZip (IsKeyOf names) labels g.list.keys
   pub ordered : AreInOrder 0 g.list.keys
@@ -217,7 +217,7 @@ fresh_order least m [] l = tt
 fresh_order least m (row ∷ rows) l = (l, fresh_order m m rows (omega arith))
 
 -- one more declaration's keys stand behind those of the declarations before
-more_order : (names : List Declared) (labels : List Label) (ks : List Key) (least m : ℕ) (rows : List Row) → m ≡ length names → least ≤ m → AllZip (IsKeyOf names) labels ks → AreInOrder least ks
+more_order : (names : List Declared) (labels : List WrittenLabel) (ks : List Key) (least m : ℕ) (rows : List Row) → m ≡ length names → least ≤ m → AllZip (IsKeyOf names) labels ks → AreInOrder least ks
     → AreInOrder least (ks ++ map (keyed m) rows)
 more_order names [] [] least m rows e l h o = fresh_order least m rows l
 more_order names [] (k ∷ ks) least m rows e l h o = absurd h
@@ -226,7 +226,7 @@ more_order names (x ∷ labels) (k ∷ ks) least m rows e l h o =
     let below : k.declaration < length names = get_below names k.declaration _ h.0.declaration in
     (o.0, more_order names labels ks k.declaration m rows e (omega (arith, e, below)) h.1 o.1)
 
-pub group_more : (labels : List Label) (names : List Declared) (g : Group) (n : Token) (b : Option Braces) (first : ℕ) (i : Indexing) → IsGroup labels names g → first ≡ length labels → is_some i.count ≡ is_some b
+pub group_more : (labels : List WrittenLabel) (names : List Declared) (g : Group) (n : Token) (b : Option Braces) (first : ℕ) (i : Indexing) → IsGroup labels names g → first ≡ length labels → is_some i.count ≡ is_some b
     → IsGroup (labels ++ map (label_at n b) i.rows) (names ++ (record { name = n.text; indexed = is_some b }) ∷ []) (group_with g n.text first i)
 group_more labels names g n b first i h at flag = record {
   declarations = ap (λ (ds : List Declared). ds ++ (record { name = n.text; indexed = is_some i.count }) ∷ []) h.declarations ∙ ap (λ (t : Bool). names ++ (record { name = n.text; indexed = t }) ∷ []) flag;
@@ -234,7 +234,7 @@ group_more labels names g n b first i h at flag = record {
       (zip_as (IsKeyOf names) (IsKeyOf all) labels g.list.keys (λ l k u. record { declaration = get_front names (last ∷ []) k.declaration _ u.declaration; key = u.key }) h.keys)
       (fresh_keys names n b (length g.list.declarations) i.rows (ap (λ (ds : List Declared). length ds) h.declarations));
   ordered = more_order names labels g.list.keys 0 (length g.list.declarations) i.rows (ap (λ (ds : List Declared). length ds) h.declarations) (omega arith) h.keys h.ordered;
-  finds = subst (λ (ls : List Label). Finds (labels ++ ls) (numbers_with g.numbers n.text first i)) (map_map (label_of n.text (is_some b)) (λ (row : Row). row.key) i.rows) (finds_more labels g.numbers n.text (is_some b) first i h.finds at);
+  finds = subst (λ (ls : List WrittenLabel). Finds (labels ++ ls) (numbers_with g.numbers n.text first i)) (map_map (label_of n.text (is_some b)) (λ (row : Row). row.key) i.rows) (finds_more labels g.numbers n.text (is_some b) first i h.finds at);
   known = known_more g.numbers names last first i h.known;
 }
   where

@@ -11,7 +11,7 @@ use Rattle.net_tree.specs.Tree.{Braces, Phrase, Declaration, set, param, check, 
 use Rattle.net_expr.specs.declared.row.Row.{Row}
 use Rattle.net_expr.specs.Worlds.{Name, World}
 use Rattle.net_inst.specs.declared.network_names.Declared.{Declared}
-use Rattle.net_inst.specs.AsWritten.{Label, Node, Arc, rows_of, label_at, node_at_row, arc_at_row, nodes_of, arcs_with, arcs_of, known_after, in_order, node_declared, arc_declared, same_label}
+use Rattle.net_inst.specs.AsWritten.{WrittenLabel, WrittenNode, WrittenArc, rows_of, label_at, node_at_row, arc_at_row, nodes_of, arcs_with, arcs_of, known_after, in_order, node_declared, arc_declared, same_label}
 use Rattle.net_expr.specs.Indexings.{indexing_in}
 use Rattle.net_expr.specs.Rows.{keys_of}
 use Rattle.net_inst.specs.Laws.{keys_by, HaveKeysOnce, same_name, AreDistinctAsDeclared}
@@ -24,7 +24,7 @@ abbrev among : List Declared → Name → Bool
 among ds n = list_any (λ (d : Declared). bytes_eq d.name n) ds
 
 -- each label has a name among them
-abbrev AreOf : List Declared → List Label → Type 0
+abbrev AreOf : List Declared → List WrittenLabel → Type 0
 AreOf ds ls = AllByRecursion (λ l. among ds l.name ≡ true) ls
 
 all_as : {A : Type 0} (P Q : A → Type 0) (xs : List A) → ((x : A) → P x → Q x) → AllByRecursion P xs → AllByRecursion Q xs
@@ -81,23 +81,23 @@ none_once : IsDistinct same_label []
 unfolding IsDistinct
 none_once = tt
 
-distinct_join : (xs ys : List Label) → IsDistinct same_label xs → IsDistinct same_label ys → AllByRecursion (λ x. AllByRecursion (λ y. same_label x y ≡ false) ys) xs → IsDistinct same_label (xs ++ ys)
+distinct_join : (xs ys : List WrittenLabel) → IsDistinct same_label xs → IsDistinct same_label ys → AllByRecursion (λ x. AllByRecursion (λ y. same_label x y ≡ false) ys) xs → IsDistinct same_label (xs ++ ys)
 distinct_join [] ys h k apart = k
 distinct_join (x ∷ xs) ys h k apart =
     IsDistinct-cons same_label x (xs ++ ys) (all_join (λ y. same_label x y ≡ false) xs ys (IsDistinct-head same_label x xs h) apart.0) (distinct_join xs ys (IsDistinct-tail same_label x xs h) k apart.1)
 
 -- labels with names apart
-labels_apart : (ds es : List Declared) (xs ys : List Label) → IsDistinct same_name (ds ++ es) → AreOf ds xs → AreOf es ys → AllByRecursion (λ x. AllByRecursion (λ y. same_label x y ≡ false) ys) xs
+labels_apart : (ds es : List Declared) (xs ys : List WrittenLabel) → IsDistinct same_name (ds ++ es) → AreOf ds xs → AreOf es ys → AllByRecursion (λ x. AllByRecursion (λ y. same_label x y ≡ false) ys) xs
 labels_apart ds es xs ys distinct h k =
     all_as (λ x. among ds x.name ≡ true) (λ x. AllByRecursion (λ y. same_label x y ≡ false) ys) xs
     (λ x i. all_as (λ y. among es y.name ≡ true) (λ y. same_label x y ≡ false) ys (λ y j. ap (λ (b : Bool). b && same_tuple x.key y.key) (names_apart ds es x.name y.name distinct i j)) k) h
 
 -- what declarations label: each by a name of its own, and its keys once
-pub record Labels (f : World → Declaration → List Label) (g : Declaration → List Declared) : Type 0 where
+pub record Labels (f : World → Declaration → List WrittenLabel) (g : Declaration → List Declared) : Type 0 where
   pub named : (w : World) (d : Declaration) → AreOf (g d) (f w d)
   pub once : (w : World) (d : Declaration) → IsDistinct same_tuple (keys_by w d) → IsDistinct same_label (f w d)
 
-module _ (f : World → Declaration → List Label) (g : Declaration → List Declared) (h : Labels f g) (w : World) where
+module _ (f : World → Declaration → List WrittenLabel) (g : Declaration → List Declared) (h : Labels f g) (w : World) where
   all_of : (k : ℕ) (ds : List Declaration) → AreOf (flat_map g ds) (in_order f w k ds)
   all_of k [] = tt
   all_of k (d ∷ ds) =
@@ -125,15 +125,15 @@ rows_once n b (row ∷ rows) h =
     none true = refl
     none false = refl
 
-    go : (more : List Row) → AllByRecursion (λ (t : Tuple). same_tuple row.key t ≡ false) (keys_of more) → AllByRecursion (λ (l : Label). same_label (label_at n b row) l ≡ false) (map (label_at n b) more)
+    go : (more : List Row) → AllByRecursion (λ (t : Tuple). same_tuple row.key t ≡ false) (keys_of more) → AllByRecursion (λ (l : WrittenLabel). same_label (label_at n b row) l ≡ false) (map (label_at n b) more)
     go [] i = tt
     go (r ∷ more) i = (ap (λ (t : Bool). bytes_eq n.text n.text && t) i.0 ∙ none (bytes_eq n.text n.text), go more i.1)
 
-abbrev node_labels_of : World → Declaration → List Label
-node_labels_of w d = map (λ (v : Node). v.label) (nodes_of w d)
+abbrev node_labels_of : World → Declaration → List WrittenLabel
+node_labels_of w d = map (λ (v : WrittenNode). v.label) (nodes_of w d)
 
-abbrev arc_labels_of : World → Declaration → List Label
-arc_labels_of w d = map (λ (v : Arc). v.label) (arcs_of w d)
+abbrev arc_labels_of : World → Declaration → List WrittenLabel
+arc_labels_of w d = map (λ (v : WrittenArc). v.label) (arcs_of w d)
 
 nodes_labelled : Labels node_labels_of node_declared
 nodes_labelled = record { named = named; once = once }
@@ -142,7 +142,7 @@ nodes_labelled = record { named = named; once = once }
     named w (set t n ps e) = tt
     named w (param t n b ps e) = tt
     named w (check t b m x e) = tt
-    named w (node t n b c e) = subst (AreOf (node_declared (node t n b c e))) (sym (map_map (λ (v : Node). v.label) (node_at_row w n b c) (rows_of (indexing_in w b)))) (rows_named n b (rows_of (indexing_in w b)) (record { name = n.text; indexed = is_some b }) refl)
+    named w (node t n b c e) = subst (AreOf (node_declared (node t n b c e))) (sym (map_map (λ (v : WrittenNode). v.label) (node_at_row w n b c) (rows_of (indexing_in w b)))) (rows_named n b (rows_of (indexing_in w b)) (record { name = n.text; indexed = is_some b }) refl)
     named w (arc t n b ps e) = tt
     named w (objective t n p e) = tt
 
@@ -150,17 +150,17 @@ nodes_labelled = record { named = named; once = once }
     once w (set t n ps e) h = none_once
     once w (param t n b ps e) h = none_once
     once w (check t b m x e) h = none_once
-    once w (node t n b c e) h = subst (IsDistinct same_label) (sym (map_map (λ (v : Node). v.label) (node_at_row w n b c) (rows_of (indexing_in w b)))) (rows_once n b (rows_of (indexing_in w b)) h)
+    once w (node t n b c e) h = subst (IsDistinct same_label) (sym (map_map (λ (v : WrittenNode). v.label) (node_at_row w n b c) (rows_of (indexing_in w b)))) (rows_once n b (rows_of (indexing_in w b)) h)
     once w (arc t n b ps e) h = none_once
     once w (objective t n p e) h = none_once
 
 arcs_labelled : Labels arc_labels_of arc_declared
 arcs_labelled = record { named = named; once = once }
   where
-    by_parts : (w : World) (n : Token) (b : Option Braces) (ps : List Phrase) (p : Parts) → map (label_at n b) (rows_of (indexing_in w b)) ≡ map (λ (v : Arc). v.label) (map (arc_at_row w n b ps p) (rows_of (indexing_in w b)))
-    by_parts w n b ps p = sym (map_map (λ (v : Arc). v.label) (arc_at_row w n b ps p) (rows_of (indexing_in w b)))
+    by_parts : (w : World) (n : Token) (b : Option Braces) (ps : List Phrase) (p : Parts) → map (label_at n b) (rows_of (indexing_in w b)) ≡ map (λ (v : WrittenArc). v.label) (map (arc_at_row w n b ps p) (rows_of (indexing_in w b)))
+    by_parts w n b ps p = sym (map_map (λ (v : WrittenArc). v.label) (arc_at_row w n b ps p) (rows_of (indexing_in w b)))
 
-    named_with : (w : World) (n : Token) (b : Option Braces) (ps : List Phrase) (d : Declared) → d.name ≡ n.text → (o : Outcome Parts) → AreOf (d ∷ []) (map (λ (v : Arc). v.label) (arcs_with w n b ps o))
+    named_with : (w : World) (n : Token) (b : Option Braces) (ps : List Phrase) (d : Declared) → d.name ≡ n.text → (o : Outcome Parts) → AreOf (d ∷ []) (map (λ (v : WrittenArc). v.label) (arcs_with w n b ps o))
     named_with w n b ps d e (Ok p) = subst (AreOf (d ∷ [])) (by_parts w n b ps p) (rows_named n b (rows_of (indexing_in w b)) d e)
     named_with w n b ps d e (Err r) = tt
 
@@ -172,7 +172,7 @@ arcs_labelled = record { named = named; once = once }
     named w (arc t n b ps e) = named_with w n b ps (record { name = n.text; indexed = is_some b }) refl (parts_of n ps)
     named w (objective t n p e) = tt
 
-    once_with : (w : World) (n : Token) (b : Option Braces) (ps : List Phrase) (o : Outcome Parts) → IsDistinct same_tuple (keys_of (rows_of (indexing_in w b))) → IsDistinct same_label (map (λ (v : Arc). v.label) (arcs_with w n b ps o))
+    once_with : (w : World) (n : Token) (b : Option Braces) (ps : List Phrase) (o : Outcome Parts) → IsDistinct same_tuple (keys_of (rows_of (indexing_in w b))) → IsDistinct same_label (map (λ (v : WrittenArc). v.label) (arcs_with w n b ps o))
     once_with w n b ps (Ok p) h = subst (IsDistinct same_label) (by_parts w n b ps p) (rows_once n b (rows_of (indexing_in w b)) h)
     once_with w n b ps (Err r) h = none_once
 
@@ -184,12 +184,12 @@ arcs_labelled = record { named = named; once = once }
     once w (arc t n b ps e) h = once_with w n b ps (parts_of n ps) h
     once w (objective t n p e) h = none_once
 
-labels_in_order : {A : Type 0} (f : World → Declaration → List A) (v : A → Label) (w : World) (k : ℕ) (ds : List Declaration) → in_order (λ u d. map v (f u d)) w k ds ≡ map v (in_order f w k ds)
+labels_in_order : {A : Type 0} (f : World → Declaration → List A) (v : A → WrittenLabel) (w : World) (k : ℕ) (ds : List Declaration) → in_order (λ u d. map v (f u d)) w k ds ≡ map v (in_order f w k ds)
 labels_in_order f v w k [] = refl
-labels_in_order f v w k (d ∷ ds) = ap (λ (ls : List Label). map v (f (take k w) d) ++ ls) (labels_in_order f v w (known_after k d) ds) ∙ sym (map_join v (f (take k w) d) (in_order f w (known_after k d) ds))
+labels_in_order f v w k (d ∷ ds) = ap (λ (ls : List WrittenLabel). map v (f (take k w) d) ++ ls) (labels_in_order f v w (known_after k d) ds) ∙ sym (map_join v (f (take k w) d) (in_order f w (known_after k d) ds))
 
 pub are_distinct_as_declared : AreDistinctAsDeclared
 are_distinct_as_declared w ds h = record {
-  nodes = subst (IsDistinct same_label) (labels_in_order nodes_of (λ (v : Node). v.label) w 0 ds) (labelled_once node_labels_of node_declared nodes_labelled w 0 ds h.keys h.nodes);
-  arcs = subst (IsDistinct same_label) (labels_in_order arcs_of (λ (v : Arc). v.label) w 0 ds) (labelled_once arc_labels_of arc_declared arcs_labelled w 0 ds h.keys h.arcs);
+  nodes = subst (IsDistinct same_label) (labels_in_order nodes_of (λ (v : WrittenNode). v.label) w 0 ds) (labelled_once node_labels_of node_declared nodes_labelled w 0 ds h.keys h.nodes);
+  arcs = subst (IsDistinct same_label) (labels_in_order arcs_of (λ (v : WrittenArc). v.label) w 0 ds) (labelled_once arc_labels_of arc_declared arcs_labelled w 0 ds h.keys h.arcs);
 }

@@ -22,7 +22,7 @@ use Rattle.net_linear.specs.Arcs.{declared}
 use Rattle.net_linear.specs.Objectives.{key_of}
 use Rattle.net_inst.specs.declared.arc.Built.{Built}
 use Rattle.net_inst.specs.Arcs.{end_at, with_ends, built}
-use Rattle.net_inst.specs.AsWritten.{Label, same_label, with_key, reference_in, end_of}
+use Rattle.net_inst.specs.AsWritten.{WrittenLabel, same_label, with_key, reference_in, end_of}
 use Rattle.net_inst.specs.Groups.{Numbers}
 use Rattle.net_inst.specs.Laws.{IsPlaceOf}
 use Rattle.net_inst.specs.Nodes.{BuiltNodes, numbered, node_at, node_named}
@@ -33,13 +33,13 @@ use Rattle.net_inst.proofs.Labels.{Finds, found_label}
 use Rattle.net_inst.proofs.Zips.{ok_then, ok_is, get_front}
 
 -- a label stands at a place
-pub record Stands (labels : List Label) (name : Name) (key : Tuple) (v : ℕ) : Type 0 where
-  pub label : Label
+pub record Stands (labels : List WrittenLabel) (name : Name) (key : Tuple) (v : ℕ) : Type 0 where
+  pub label : WrittenLabel
   pub at : slice_get labels v ≡ Some label
   pub name_is : label.name ≡ name
   pub key_is : label.key ≡ key
 
-place_is : (labels : List Label) (numbers : Numbers) (name : Name) (key : Tuple) (v count : ℕ) (at : Span) → Finds labels numbers → IsDistinct same_label labels
+place_is : (labels : List WrittenLabel) (numbers : Numbers) (name : Name) (key : Tuple) (v count : ℕ) (at : Span) → Finds labels numbers → IsDistinct same_label labels
     → node_at count at name (declared numbers name) key ≡ Ok v → Stands labels name key v
 place_is labels numbers name key v count at finds distinct e = by_keys (declared numbers name) refl e
   where
@@ -61,11 +61,11 @@ place_is labels numbers name key v count at finds distinct e = by_keys (declared
         go true f = by_place k h (place_of k.index key) refl (reference name k.keys key) f
         go false f = cc
 
-as_place : (labels : List Label) (name : Name) (key : Tuple) (v : ℕ) → Stands labels name key v → IsPlaceOf labels (Some (name, key)) (Some v)
+as_place : (labels : List WrittenLabel) (name : Name) (key : Tuple) (v : ℕ) → Stands labels name key v → IsPlaceOf labels (Some (name, key)) (Some v)
 as_place labels name key v s = (s.label, s.at, s.name_is, s.key_is)
 
 -- the node that a tree names
-pub named_place : (labels : List Label) (ns : BuiltNodes) (w : World) (s : Scope) (t : Tree) (v : ℕ) → Finds labels ns.group.numbers → IsDistinct same_label labels
+pub named_place : (labels : List WrittenLabel) (ns : BuiltNodes) (w : World) (s : Scope) (t : Tree) (v : ℕ) → Finds labels ns.group.numbers → IsDistinct same_label labels
     → node_named ns w s t ≡ Ok v → IsPlaceOf labels (reference_in w s t) (Some v)
 named_place labels ns w s (leaf t) v finds distinct e = as_place labels t.text [] v (place_is labels ns.group.numbers t.text [] v (length ns.ranges) (span_of (leaf t)) finds distinct e)
 named_place labels ns w s (indexed n o x l c) v finds distinct e = go (key_of w s (span_of (indexed n o x l c)) x l) e
@@ -83,7 +83,7 @@ named_place labels ns w s (chain n y l) v finds distinct e = cc
 named_place labels ns w s (choice i y t z p) v finds distinct e = cc
 named_place labels ns w s (net t u) v finds distinct e = cc
 
-pub end_place : (labels : List Label) (ns : BuiltNodes) (w : World) (s : Scope) (o : Option Tree) (v : Option ℕ) → Finds labels ns.group.numbers → IsDistinct same_label labels
+pub end_place : (labels : List WrittenLabel) (ns : BuiltNodes) (w : World) (s : Scope) (o : Option Tree) (v : Option ℕ) → Finds labels ns.group.numbers → IsDistinct same_label labels
     → end_at ns w s o ≡ Ok v → IsPlaceOf labels (end_of w s o) v
 end_place labels ns w s None v finds distinct e = subst (IsPlaceOf labels None) (ok_is None v e) tt
 end_place labels ns w s (Some t) v finds distinct e =
@@ -91,7 +91,7 @@ end_place labels ns w s (Some t) v finds distinct e =
     subst (IsPlaceOf labels (reference_in w s t)) (ok_is (Some u) v i) (named_place labels ns w s t u finds distinct h))
 
 -- behind more labels the places stay
-pub place_stays : (labels more : List Label) (r : Option (Name × Tuple)) (v : Option ℕ) → IsPlaceOf labels r v → IsPlaceOf (labels ++ more) r v
+pub place_stays : (labels more : List WrittenLabel) (r : Option (Name × Tuple)) (v : Option ℕ) → IsPlaceOf labels r v → IsPlaceOf (labels ++ more) r v
 place_stays labels more None None h = tt
 place_stays labels more None (Some v) h = absurd h
 place_stays labels more (Some r) None h = absurd h

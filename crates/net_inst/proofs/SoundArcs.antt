@@ -188,7 +188,7 @@ pub record HasBuiltBounds (a : meaning.Arc) (x : Built) : Type 0 where
   pub upper : x.upper ≡ a.upper
 
 -- the coefficient of an arc is the sum of its `obj` phrases for this objective
-abbrev pub HasPrice : Name → written.Arc → meaning.Arc → Type 0
+abbrev pub HasPrice : Name → written.WrittenArc → meaning.Arc → Type 0
 HasPrice goal v a = a.coefficient ≡ price_of goal v.env v.scope v.phrases
 
 is_arc : (goal : Name) (w : World) (n : Token) (b : Option Braces) (ps : List Phrase) (p : Parts) (row : Row) (x : Built) (c : ℤ) → IsRow w row.scope ps p x → IsCoefficient goal (env_of w row.scope) ps c

@@ -49,10 +49,10 @@ use Rattle.net_inst.proofs.Zips.{ok_then}
 
 -- ---- flows
 
-pub flow_same : (v : written.Arc) (a : meaning.Arc) (x : meaning.Assignment) → IsSameArc v a → meaning.flow_on x a ≡ number_on x v
+pub flow_same : (v : written.WrittenArc) (a : meaning.Arc) (x : meaning.Assignment) → IsSameArc v a → meaning.flow_on x a ≡ number_on x v
 flow_same v a x same = ap (λ (m : Name). x m a.label.key) same.name ∙ ap (x v.label.name) same.key
 
-pub flows_same : (xs : List written.Arc) (all : List meaning.Arc) (x : meaning.Assignment) → AllZip IsSameArc xs all → map (meaning.flow_on x) all ≡ map (number_on x) xs
+pub flows_same : (xs : List written.WrittenArc) (all : List meaning.Arc) (x : meaning.Assignment) → AllZip IsSameArc xs all → map (meaning.flow_on x) all ≡ map (number_on x) xs
 flows_same [] [] x h = refl
 flows_same [] (a ∷ all) x h = absurd h
 flows_same (v ∷ xs) [] x h = absurd h
@@ -61,18 +61,18 @@ flows_same (v ∷ xs) (a ∷ all) x h =
     let rest = flows_same xs all x h.1 in
     λ t. one t ∷ rest t
 
-at_label : (r : Option (Name × Tuple)) (l : written.Label) → is_at r (as_label l) ≡ is_named l r
+at_label : (r : Option (Name × Tuple)) (l : written.WrittenLabel) → is_at r (as_label l) ≡ is_named l r
 at_label None l = refl
 at_label (Some r) l = refl
 
 -- the part of an arc in the net inflow, at one of its ends
-at_end : (v : written.Arc) (a : meaning.Arc) (x : meaning.Assignment) (l : written.Label) (r q : Option (Name × Tuple)) → IsSameArc v a → r ≡ q → (if is_at r (as_label l) then meaning.flow_on x a else pos 0) ≡ (if is_named l q then number_on x v else pos 0)
+at_end : (v : written.WrittenArc) (a : meaning.Arc) (x : meaning.Assignment) (l : written.WrittenLabel) (r q : Option (Name × Tuple)) → IsSameArc v a → r ≡ q → (if is_at r (as_label l) then meaning.flow_on x a else pos 0) ≡ (if is_named l q then number_on x v else pos 0)
 at_end v a x l r q same e =
     ap (λ (o : Option (Name × Tuple)). if is_at o (as_label l) then meaning.flow_on x a else pos 0) e
     ∙ ap (λ (b : Bool). if b then meaning.flow_on x a else pos 0) (at_label q l)
     ∙ ap (λ (n : ℤ). if is_named l q then n else pos 0) (flow_same v a x same)
 
-inflow_same : (xs : List written.Arc) (all : List meaning.Arc) (x : meaning.Assignment) (l : written.Label) → AllZip IsSameArc xs all → meaning.net_inflow all x (as_label l) ≡ written.net_inflow xs x l
+inflow_same : (xs : List written.WrittenArc) (all : List meaning.Arc) (x : meaning.Assignment) (l : written.WrittenLabel) → AllZip IsSameArc xs all → meaning.net_inflow all x (as_label l) ≡ written.net_inflow xs x l
 inflow_same [] [] x l h = omega (arith, ints)
 inflow_same [] (a ∷ all) x l h = absurd h
 inflow_same (v ∷ xs) [] x l h = absurd h
@@ -83,7 +83,7 @@ inflow_same (v ∷ xs) (a ∷ all) x l h = omega (arith, ints, at_end v a x l a.
 abbrev Bounded : meaning.Assignment → meaning.Arc → Type 0
 Bounded x a = (a.lower ≤ℤ meaning.flow_on x a) × (meaning.flow_on x a ≤ℤ a.upper)
 
-bounds_to : (xs : List written.Arc) (all : List meaning.Arc) (is : List InstArc) (x : meaning.Assignment) → AllZip IsSameArc xs all → AllZip HasBounds all is → AllZip IsBoundedAs xs is → AllByRecursion (Bounded x) all → AllByRecursion (IsWithin x) xs
+bounds_to : (xs : List written.WrittenArc) (all : List meaning.Arc) (is : List InstArc) (x : meaning.Assignment) → AllZip IsSameArc xs all → AllZip HasBounds all is → AllZip IsBoundedAs xs is → AllByRecursion (Bounded x) all → AllByRecursion (IsWithin x) xs
 bounds_to [] all is x same has ok h = tt
 bounds_to (v ∷ xs) [] is x same has ok h = absurd same
 bounds_to (v ∷ xs) (a ∷ all) [] x same has ok h = absurd has
@@ -95,7 +95,7 @@ bounds_to (v ∷ xs) (a ∷ all) (i ∷ is) x same has ok h =
       bounds_to xs all is x same.1 has.1 ok.1 h.1,
     )
 
-bounds_from : (xs : List written.Arc) (all : List meaning.Arc) (is : List InstArc) (x : meaning.Assignment) → AllZip IsSameArc xs all → AllZip HasBounds all is → AllZip IsBoundedAs xs is → AllByRecursion (IsWithin x) xs → AllByRecursion (Bounded x) all
+bounds_from : (xs : List written.WrittenArc) (all : List meaning.Arc) (is : List InstArc) (x : meaning.Assignment) → AllZip IsSameArc xs all → AllZip HasBounds all is → AllZip IsBoundedAs xs is → AllByRecursion (IsWithin x) xs → AllByRecursion (Bounded x) all
 bounds_from [] [] is x same has ok h = tt
 bounds_from [] (a ∷ all) is x same has ok h = absurd same
 bounds_from (v ∷ xs) [] is x same has ok h = absurd same
@@ -110,7 +110,7 @@ bounds_from (v ∷ xs) (a ∷ all) (i ∷ is) x same has ok h =
 -- ---- conditions
 
 -- a node has a condition of the grammar, and the declared sets before the node are sets
-abbrev HasCondition : written.Node → Type 0
+abbrev HasCondition : written.WrittenNode → Type 0
 HasCondition v = IsCondition v.condition × HasSets v.env
 
 conditions_of : (w : World) → HasSets w → (k : ℕ) (ds : List Declaration) → AreDeclarations ds → AllByRecursion HasCondition (in_order nodes_of w k ds)
@@ -128,7 +128,7 @@ conditions_of w sets k (node t n b c e ∷ ds) h =
     each (row ∷ rows) = ((h.0.3, front_has k w sets), each rows)
 
 -- a node's condition is true in the model exactly when its form holds
-one_condition : (n : written.Node) (v : meaning.Node) (r : Sides) (y : ℤ) → IsSameNode n v → HasCondition n → HasRange n r → IsSatisfied v.env v.condition y ↔ Holds n.env n.scope n.condition y
+one_condition : (n : written.WrittenNode) (v : meaning.Node) (r : Sides) (y : ℤ) → IsSameNode n v → HasCondition n → HasRange n r → IsSatisfied v.env v.condition y ↔ Holds n.env n.scope n.condition y
 one_condition n v r y same good range =
     ok_then (sides_in n.env n.scope n.condition) (λ s. Ok (uncrossed s)) (Some r) range.is (λ s i j.
     subst (λ e. IsSatisfied e v.condition y ↔ Holds n.env n.scope n.condition y) (sym same.env)
@@ -136,13 +136,13 @@ one_condition n v r y same good range =
     (conditions_are_sound no_flows n.env n.scope n.condition s y good.1 (condition_plain y n.condition good.0) i)))
 
 -- the sides of a node's condition have numbers
-one_has_sides : (n : written.Node) (v : meaning.Node) (r : Sides) (y : ℤ) → IsSameNode n v → HasCondition n → HasRange n r → HasSides (with_inflow v.env y) v.condition
+one_has_sides : (n : written.WrittenNode) (v : meaning.Node) (r : Sides) (y : ℤ) → IsSameNode n v → HasCondition n → HasRange n r → HasSides (with_inflow v.env y) v.condition
 one_has_sides n v r y same good range =
     ok_then (sides_in n.env n.scope n.condition) (λ s. Ok (uncrossed s)) (Some r) range.is (λ s i j.
     subst (λ e. HasSides (with_inflow e y) v.condition) (sym same.env)
     (subst (λ c. HasSides (with_inflow (env_of n.env n.scope) y) c) (sym same.condition) (sides_have_numbers no_flows n.env n.scope n.condition s y good.1 (condition_plain y n.condition good.0) i)))
 
-all_have_sides : (y : ℤ) (ns : List written.Node) (vs : List meaning.Node) (rs : List Sides) → AllZip IsSameNode ns vs → AllByRecursion HasCondition ns → AllZip HasRange ns rs → AllByRecursion (λ (v : meaning.Node). HasSides (with_inflow v.env y) v.condition) vs
+all_have_sides : (y : ℤ) (ns : List written.WrittenNode) (vs : List meaning.Node) (rs : List Sides) → AllZip IsSameNode ns vs → AllByRecursion HasCondition ns → AllZip HasRange ns rs → AllByRecursion (λ (v : meaning.Node). HasSides (with_inflow v.env y) v.condition) vs
 all_have_sides y [] [] rs same good ranges = tt
 all_have_sides y [] (v ∷ vs) rs same good ranges = absurd same
 all_have_sides y (n ∷ ns) [] rs same good ranges = absurd same
@@ -150,28 +150,28 @@ all_have_sides y (n ∷ ns) (v ∷ vs) [] same good ranges = absurd ranges
 all_have_sides y (n ∷ ns) (v ∷ vs) (r ∷ rs) same good ranges = (one_has_sides n v r y same.0 good.0 ranges.0, all_have_sides y ns vs rs same.1 good.1 ranges.1)
 
 -- what a node's label is as written
-label_is : (n : written.Node) (v : meaning.Node) → IsSameNode n v → v.label ≡ as_label n.label
+label_is : (n : written.WrittenNode) (v : meaning.Node) → IsSameNode n v → v.label ≡ as_label n.label
 label_is n v same =
     let name = same.name in
     let indexed = same.indexed in
     let key = same.key in
     λ t. record { name = name t; indexed = indexed t; key = key t }
 
-module _ (xs : List written.Arc) (all : List meaning.Arc) (x : meaning.Assignment) (arcs : AllZip IsSameArc xs all) where
+module _ (xs : List written.WrittenArc) (all : List meaning.Arc) (x : meaning.Assignment) (arcs : AllZip IsSameArc xs all) where
   abbrev Satisfied : meaning.Node → Type 0
   Satisfied v = IsSatisfied v.env v.condition (meaning.net_inflow all x v.label)
 
-  node_alike : (n : written.Node) (v : meaning.Node) (r : Sides) → IsSameNode n v → HasCondition n → HasRange n r → Satisfied v ↔ IsMet xs x n
+  node_alike : (n : written.WrittenNode) (v : meaning.Node) (r : Sides) → IsSameNode n v → HasCondition n → HasRange n r → Satisfied v ↔ IsMet xs x n
   node_alike n v r same good range =
       subst (λ y. IsSatisfied v.env v.condition y ↔ IsMet xs x n) (sym (ap (meaning.net_inflow all x) (label_is n v same) ∙ inflow_same xs all x n.label arcs)) (one_condition n v r (written.net_inflow xs x n.label) same good range)
 
-  conditions_to : (ns : List written.Node) (vs : List meaning.Node) (rs : List Sides) → AllZip IsSameNode ns vs → AllByRecursion HasCondition ns → AllZip HasRange ns rs → AllByRecursion Satisfied vs → AllByRecursion (IsMet xs x) ns
+  conditions_to : (ns : List written.WrittenNode) (vs : List meaning.Node) (rs : List Sides) → AllZip IsSameNode ns vs → AllByRecursion HasCondition ns → AllZip HasRange ns rs → AllByRecursion Satisfied vs → AllByRecursion (IsMet xs x) ns
   conditions_to [] vs rs same good ranges h = tt
   conditions_to (n ∷ ns) [] rs same good ranges h = absurd same
   conditions_to (n ∷ ns) (v ∷ vs) [] same good ranges h = absurd ranges
   conditions_to (n ∷ ns) (v ∷ vs) (r ∷ rs) same good ranges h = ((node_alike n v r same.0 good.0 ranges.0).0 h.0, conditions_to ns vs rs same.1 good.1 ranges.1 h.1)
 
-  conditions_from : (ns : List written.Node) (vs : List meaning.Node) (rs : List Sides) → AllZip IsSameNode ns vs → AllByRecursion HasCondition ns → AllZip HasRange ns rs → AllByRecursion (IsMet xs x) ns → AllByRecursion Satisfied vs
+  conditions_from : (ns : List written.WrittenNode) (vs : List meaning.Node) (rs : List Sides) → AllZip IsSameNode ns vs → AllByRecursion HasCondition ns → AllZip HasRange ns rs → AllByRecursion (IsMet xs x) ns → AllByRecursion Satisfied vs
   conditions_from [] [] rs same good ranges h = tt
   conditions_from [] (v ∷ vs) rs same good ranges h = absurd same
   conditions_from (n ∷ ns) [] rs same good ranges h = absurd same
@@ -199,8 +199,8 @@ limits_from (a ∷ all) (i ∷ is) x has h =
     let upper = h.0.upper in ((search (arith, ints, low, lower), search (arith, ints, high, upper)), limits_from all is x has.1 h.1)
 
 -- the node with number i, as written, with its range
-record IsFoundAt (ns : List written.Node) (v : meaning.Node) (rs : List Sides) (ranges : List NodeRange) (i : ℕ) : Type 0 where
-  node : written.Node
+record IsFoundAt (ns : List written.WrittenNode) (v : meaning.Node) (rs : List Sides) (ranges : List NodeRange) (i : ℕ) : Type 0 where
+  node : written.WrittenNode
   at : slice_get ns i ≡ Some node
   same : IsSameNode node v
   good : HasCondition node
@@ -210,7 +210,7 @@ record IsFoundAt (ns : List written.Node) (v : meaning.Node) (rs : List Sides) (
   range_at : slice_get ranges i ≡ Some range
   exact : IsRangeOf node (sides_of range)
 
-found_at : (i : ℕ) (ns : List written.Node) (vs : List meaning.Node) (rs : List Sides) (ranges : List NodeRange) (v : meaning.Node) → AllZip IsSameNode ns vs → AllByRecursion HasCondition ns → AllZip HasRange ns rs → AllZip IsRangeOf ns (map sides_of ranges)
+found_at : (i : ℕ) (ns : List written.WrittenNode) (vs : List meaning.Node) (rs : List Sides) (ranges : List NodeRange) (v : meaning.Node) → AllZip IsSameNode ns vs → AllByRecursion HasCondition ns → AllZip HasRange ns rs → AllZip IsRangeOf ns (map sides_of ranges)
     → slice_get vs i ≡ Some v → IsFoundAt ns v rs ranges i
 found_at i ns [] rs ranges v same good has exact e = absurd (let h = e in cc)
 found_at i [] (u ∷ vs) rs ranges v same good has exact e = absurd same
@@ -224,7 +224,7 @@ found_at (suc i) (n ∷ ns) (u ∷ vs) (r ∷ rs) (q ∷ ranges) v same good has
     record { node = more.node; at = more.at; same = more.same; good = more.good; sides = more.sides; has = more.has; range = more.range; range_at = more.range_at; exact = more.exact }
 
 -- the condition is true of a net inflow exactly when this is in the range
-condition_alike : (ns : List written.Node) (v : meaning.Node) (rs : List Sides) (ranges : List NodeRange) (i : ℕ) (f : IsFoundAt ns v rs ranges i) (y : ℤ) → IsSatisfied v.env v.condition y ↔ IsInRange f.range y
+condition_alike : (ns : List written.WrittenNode) (v : meaning.Node) (rs : List Sides) (ranges : List NodeRange) (i : ℕ) (f : IsFoundAt ns v rs ranges i) (y : ℤ) → IsSatisfied v.env v.condition y ↔ IsInRange f.range y
 condition_alike ns v rs ranges i f y =
     let one = one_condition f.node v f.sides y f.same f.good f.has in (
       (λ h. in_range_from f.range y ((f.exact y).1 (one.0 h))),

@@ -9,7 +9,7 @@ use Rattle.net_lex.specs.declared.token.Kind.TheVariants as kinds
 use Rattle.net_lex.specs.declared.token.Token.{Token}
 use Rattle.net_sets.specs.Sets.{Tuple}
 use Rattle.net_tree.specs.Conditions.{IsSum, IsFirstTerm, IsFurtherTerm, AreTerms, IsNetSum, IsCondition}
-use Rattle.net_tree.specs.declared.operator.Words.TheVariants.{One, Two}
+use Rattle.net_tree.specs.declared.operator.OperatorWords.TheVariants.{One, Two}
 use Rattle.net_tree.specs.declared.role.Role.{Role}
 use Rattle.net_tree.specs.Operations.{operation, operation_in, operations}
 use Rattle.net_tree.specs.Precedence.{of_comma, of_reduction, of_sum, of_relation, of_union, of_if}

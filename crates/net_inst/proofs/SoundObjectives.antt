@@ -12,7 +12,7 @@ use Rattle.net_meaning.specs.Network as meaning
 use Rattle.net_meaning.specs.Network.{is_eligible}
 use Rattle.net_inst.specs.declared.draft.ChosenObjective.{ChosenObjective}
 use Rattle.net_inst.specs.declared.network_names.Declared.{Declared}
-use Rattle.net_inst.specs.AsWritten.{Arc, in_order, arcs_of, known_after, arc_declared}
+use Rattle.net_inst.specs.AsWritten.{WrittenArc, in_order, arcs_of, known_after, arc_declared}
 use Rattle.net_inst.specs.Drafts.{Drawing, nothing, sense_of, declare, draw}
 use Rattle.net_inst.specs.Readings.{Objective, objective_of, objectives_from, objectives, or_else, chosen}
 use Rattle.net_inst.specs.Soundness.{names_in}
@@ -100,7 +100,7 @@ only_one [] p h e = absurd (let q = e in cc)
 only_one (o ∷ []) p h e = ap (λ (q : Objective). as_objective q ∷ []) (some_is o p e)
 only_one (o ∷ q ∷ os) p h e = absurd h
 
-nothing_here : (before : List Declared) (w : World) (x : Declaration) (later : List Arc) (g h : Option ChosenObjective) (z : ChosenObjective) → g ≡ Some z → IsNextGoal None x g h → objective_of before w x later ≡ []
+nothing_here : (before : List Declared) (w : World) (x : Declaration) (later : List WrittenArc) (g h : Option ChosenObjective) (z : ChosenObjective) → g ≡ Some z → IsNextGoal None x g h → objective_of before w x later ≡ []
 nothing_here before w (objective t n p e) later g h z i (none, y, j, f) = absurd (differ (sym none ∙ i))
   where
     differ : no_goal ≡ Some z → ⊥
@@ -120,7 +120,7 @@ none_later before w k (x ∷ xs) d new z h e =
     ap (λ (os : List Objective). os ++ objectives_from (before ++ arc_declared x) w (known_after k x) xs) here
     ∙ none_later (before ++ arc_declared x) w (known_after k x) xs next new z (goal_stays x d.goal next.goal z h goes) j)
 
-one_more : (before : List Declared) (w : World) (x : Declaration) (later : List Arc) (g h : Option ChosenObjective) (os : List Objective) → IsNextGoal None x g h → AtMostOne os → ((z : ChosenObjective) → h ≡ Some z → os ≡ [])
+one_more : (before : List Declared) (w : World) (x : Declaration) (later : List WrittenArc) (g h : Option ChosenObjective) (os : List Objective) → IsNextGoal None x g h → AtMostOne os → ((z : ChosenObjective) → h ≡ Some z → os ≡ [])
     → AtMostOne (objective_of before w x later ++ os)
 one_more before w (objective t n p e) later g h os (none, y, j, f) one after = subst (λ (l : List Objective). AtMostOne (here ∷ l)) (sym (after y j)) tt
   where

@@ -13,7 +13,7 @@ use Rattle.net_expr.specs.declared.row.Row.{Row}
 use Rattle.net_expr.specs.Worlds.{Name, World, Scope}
 use Rattle.net_meaning.specs.Network as meaning
 use Rattle.net_inst.specs.declared.network_names.Declared.{Declared}
-use Rattle.net_inst.specs.AsWritten.{Arc, arcs_of, arcs_with, arc_at_row, rows_of, in_order, arc_declared, Assignment, number_on, amount}
+use Rattle.net_inst.specs.AsWritten.{WrittenArc, arcs_of, arcs_with, arc_at_row, rows_of, in_order, arc_declared, Assignment, number_on, amount}
 use Rattle.net_inst.specs.Drafts.{sense_of}
 use Rattle.net_expr.specs.Indexings.{indexing_in}
 use Rattle.net_inst.specs.Phrases.{Parts, parts_of}
@@ -48,7 +48,7 @@ arcs_free : (before : List Name) (goal : Name) (w : World) (n : Token) (b : Opti
 arcs_free before goal w n b ps (Ok p) x later h = rows_free before goal w n b ps p (rows_of (indexing_in w b)) x later h
 arcs_free before goal w n b ps (Err r) x later h = refl
 
-prices_join : (goal : Name) (xs ys : List Arc) (x : Assignment) → prices goal (xs ++ ys) x ≡ prices goal xs x +ℤ prices goal ys x
+prices_join : (goal : Name) (xs ys : List WrittenArc) (x : Assignment) → prices goal (xs ++ ys) x ≡ prices goal xs x +ℤ prices goal ys x
 prices_join goal [] ys x = omega (arith, ints)
 prices_join goal (a ∷ xs) ys x = omega (arith, ints, prices_join goal xs ys x)
 
@@ -101,7 +101,7 @@ all_prices wanted names before w k (objective t n q z ∷ ds) x p h once later e
 
 -- ---- coefficients
 
-pub terms_are : (goal : Name) (xs : List Arc) (all : List meaning.Arc) (x : Assignment) → AllZip (HasPrice goal) xs all → AllZip IsSameArc xs all → meaning.coefficient_terms all x ≡ prices goal xs x
+pub terms_are : (goal : Name) (xs : List WrittenArc) (all : List meaning.Arc) (x : Assignment) → AllZip (HasPrice goal) xs all → AllZip IsSameArc xs all → meaning.coefficient_terms all x ≡ prices goal xs x
 terms_are goal [] [] x h same = refl
 terms_are goal [] (a ∷ all) x h same = absurd h
 terms_are goal (v ∷ xs) [] x h same = absurd h

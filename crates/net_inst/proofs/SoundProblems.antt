@@ -46,19 +46,19 @@ record IsFoundAt (r : Name × Tuple) (vs : List meaning.Node) (i : ℕ) : Type 0
   at : slice_get vs i ≡ Some node
   named : IsTrue (is_at (Some r) node.label)
 
-found_at : (r : Name × Tuple) (ns : List written.Node) (vs : List meaning.Node) (i : ℕ) (l : written.Label) → AllZip IsSameNode ns vs → slice_get (node_labels ns) i ≡ Some l → l.name ≡ r.0 → l.key ≡ r.1 → IsFoundAt r vs i
+found_at : (r : Name × Tuple) (ns : List written.WrittenNode) (vs : List meaning.Node) (i : ℕ) (l : written.WrittenLabel) → AllZip IsSameNode ns vs → slice_get (node_labels ns) i ≡ Some l → l.name ≡ r.0 → l.key ≡ r.1 → IsFoundAt r vs i
 found_at r [] vs i l h e n k = absurd (let q = e in cc)
 found_at r (x ∷ ns) [] i l h e n k = absurd h
 found_at r (x ∷ ns) (v ∷ vs) zero l h e n k =
     let same : x.label ≡ l = cc in
-    let name : r.0 ≡ v.label.name = sym n ∙ ap (λ (m : written.Label). m.name) (sym same) ∙ sym h.0.name in
-    let key : r.1 ≡ v.label.key = sym k ∙ ap (λ (m : written.Label). m.key) (sym same) ∙ sym h.0.key in
+    let name : r.0 ≡ v.label.name = sym n ∙ ap (λ (m : written.WrittenLabel). m.name) (sym same) ∙ sym h.0.name in
+    let key : r.1 ≡ v.label.key = sym k ∙ ap (λ (m : written.WrittenLabel). m.key) (sym same) ∙ sym h.0.key in
     record { node = v; at = refl; named = both_same r.0 v.label.name r.1 v.label.key name key }
 found_at r (x ∷ ns) (v ∷ vs) (suc i) l h e n k =
     let more = found_at r ns vs i l h.1 e n k in
     record { node = more.node; at = more.at; named = more.named }
 
-number_is : (ns : List written.Node) (vs : List meaning.Node) → AllZip IsSameNode ns vs → (r : Option (Name × Tuple)) (v : Option ℕ) → IsPlaceOf (node_labels ns) r v → IsNodeNumber vs r (unwrap_or v (length vs))
+number_is : (ns : List written.WrittenNode) (vs : List meaning.Node) → AllZip IsSameNode ns vs → (r : Option (Name × Tuple)) (v : Option ℕ) → IsPlaceOf (node_labels ns) r v → IsNodeNumber vs r (unwrap_or v (length vs))
 number_is ns vs same None None p = represents.outside
 number_is ns vs same None (Some i) p = absurd p
 number_is ns vs same (Some r) None p = absurd p
@@ -73,7 +73,7 @@ record HasNodes (vs : List meaning.Node) (outside : ℕ) (a : meaning.Arc) (x : 
   from : IsNodeNumber vs a.from (unwrap_or x.tail outside)
   to : IsNodeNumber vs a.to (unwrap_or x.head outside)
 
-have_nodes : (ns : List written.Node) (vs : List meaning.Node) (xs : List written.Arc) (all : List meaning.Arc) (is : List InstArc) → AllZip IsSameNode ns vs → AllZip IsSameArc xs all → AllZip (HasEndsOf (node_labels ns)) xs is → AllZip (HasNodes vs (length vs)) all is
+have_nodes : (ns : List written.WrittenNode) (vs : List meaning.Node) (xs : List written.WrittenArc) (all : List meaning.Arc) (is : List InstArc) → AllZip IsSameNode ns vs → AllZip IsSameArc xs all → AllZip (HasEndsOf (node_labels ns)) xs is → AllZip (HasNodes vs (length vs)) all is
 have_nodes ns vs [] [] [] nodes same ends = tt
 have_nodes ns vs [] [] (i ∷ is) nodes same ends = absurd ends
 have_nodes ns vs [] (a ∷ all) is nodes same ends = absurd same

@@ -18,7 +18,7 @@ use Rattle.net_meaning.specs.Network.{with_arcs}
 use Rattle.net_meaning.specs.Operators as values
 use Rattle.net_meaning.specs.Values.{env_of, env_with}
 use Rattle.net_inst.specs.declared.network_names.Declared.{Declared}
-use Rattle.net_inst.specs.AsWritten.{Arc, same_label, Assignment}
+use Rattle.net_inst.specs.AsWritten.{WrittenArc, same_label, Assignment}
 use Rattle.net_inst.specs.Drafts.{part_form}
 use Rattle.net_inst.specs.Groups.{Numbers}
 use Rattle.net_inst.specs.Readings.{Objective, name_alone, part_value}
@@ -60,7 +60,7 @@ present at n key i None e = cc
 present at n key i (Some k) e = refl
 
 -- the flows of the arcs declared so far are those of their numbers
-reads_arcs : (a : Numbers) (ds : List Declared) (all : List Arc) (x : Assignment) → NameAlike a (map name_alone ds) → ReadAlike a (by_place all x) x → ReadsArcs a (by_place all x) (flows_of ds x)
+reads_arcs : (a : Numbers) (ds : List Declared) (all : List WrittenArc) (x : Assignment) → NameAlike a (map name_alone ds) → ReadAlike a (by_place all x) x → ReadsArcs a (by_place all x) (flows_of ds x)
 reads_arcs a ds all x alike reads = record {
   others = λ n e. ap (λ (b : Bool). pick n b) (listed_is a ds n alike ∙ e);
   arcs = λ at n key i e. (x n, ap (λ (b : Bool). pick n b) (listed_is a ds n alike ∙ present at n key i (declared a n) e), sym (reads.alike at n key i e));
@@ -69,7 +69,7 @@ reads_arcs a ds all x alike reads = record {
     pick : Name → Bool → Option (Tuple → ℤ)
     pick n b = if b then Some (x n) else None
 
-pub said_means : (a : Numbers) (ds : List Declared) (all : List Arc) (x : Assignment) (w : World) (p : Part) (f : Linear) → HasSets w → NameAlike a (map name_alone ds) → ReadAlike a (by_place all x) x → part_form a w p ≡ Ok f
+pub said_means : (a : Numbers) (ds : List Declared) (all : List WrittenArc) (x : Assignment) (w : World) (p : Part) (f : Linear) → HasSets w → NameAlike a (map name_alone ds) → ReadAlike a (by_place all x) x → part_form a w p ≡ Ok f
     → IsExpressionValue (with_arcs (env_of w []) (names_back ds []) x) p (part_value ds w p x)
 said_means a ds all x w absent f sets alike reads e = refl
 said_means a ds all x w (part m t) f sets alike reads e =
@@ -77,6 +77,6 @@ said_means a ds all x w (part m t) f sets alike reads e =
     (objectives_are_sound a (by_place all x) (flows_of ds x) w [] t f sets (reads_arcs a ds all x alike reads) e)
 
 -- if the declared sets before it are sets, the objective's own expression has its value at each assignment
-abbrev pub IsValued : List Arc → Option Objective → Type 0
+abbrev pub IsValued : List WrittenArc → Option Objective → Type 0
 IsValued all None = ⊤
 IsValued all (Some o) = HasSets o.env → IsDistinct same_label (arc_labels all) → (x : Assignment) → IsExpressionValue (with_arcs (env_of o.env []) (names_back o.before []) x) o.expression (part_value o.before o.env o.expression x)

@@ -10,7 +10,7 @@ use Rattle.net_linear.specs.Forms.{Products, coefficient, stands_in, all_apart, 
 use Rattle.net_linear.proofs.Coefficients.{head_apart, tail_apart}
 use Rattle.net_linear.proofs.Rings.{mul-none}
 use Rattle.net_inst.specs.declared.arc.Built.{Built}
-use Rattle.net_inst.specs.AsWritten.{Label, Arc, Assignment, number_on, numbers_on}
+use Rattle.net_inst.specs.AsWritten.{WrittenLabel, WrittenArc, Assignment, number_on, numbers_on}
 use Rattle.net_inst.specs.Instances.{with_coefficients}
 
 -- the number at a place; 0 past the end
@@ -101,14 +101,14 @@ pub total_is : (ps : Products) (xs : List Built) (ys : List ℤ) → all_apart p
 total_is ps xs ys h l = spelled (number_at ys) ps xs ys h l (spells [] ys 0 refl)
 
 -- the number at an arc's place
-pub number_of_label : (x : Assignment) (all : List Arc) (v : ℕ) (l : Label) → slice_get (map (λ a. a.label) all) v ≡ Some l → number_at (numbers_on x all) v ≡ x l.name l.key
+pub number_of_label : (x : Assignment) (all : List WrittenArc) (v : ℕ) (l : WrittenLabel) → slice_get (map (λ a. a.label) all) v ≡ Some l → number_at (numbers_on x all) v ≡ x l.name l.key
 number_of_label x [] v l e = absurd (let h = e in cc)
-number_of_label x (a ∷ all) zero l e = let same : a.label ≡ l = cc in ap (λ (m : Label). x m.name m.key) same
+number_of_label x (a ∷ all) zero l e = let same : a.label ≡ l = cc in ap (λ (m : WrittenLabel). x m.name m.key) same
 number_of_label x (a ∷ all) (suc v) l e = number_of_label x all v l e
 
-pub number_of_arc : (x : Assignment) (front : List Arc) (a : Arc) (rest : List Arc) (v : ℕ) → v ≡ length front → number_at (numbers_on x (front ++ a ∷ rest)) v ≡ number_on x a
+pub number_of_arc : (x : Assignment) (front : List WrittenArc) (a : WrittenArc) (rest : List WrittenArc) (v : ℕ) → v ≡ length front → number_at (numbers_on x (front ++ a ∷ rest)) v ≡ number_on x a
 number_of_arc x front a rest v e = ap (number_at (numbers_on x (front ++ a ∷ rest))) e ∙ go front
   where
-    go : (front : List Arc) → number_at (numbers_on x (front ++ a ∷ rest)) (length front) ≡ number_on x a
+    go : (front : List WrittenArc) → number_at (numbers_on x (front ++ a ∷ rest)) (length front) ≡ number_on x a
     go [] = refl
     go (b ∷ front) = go front

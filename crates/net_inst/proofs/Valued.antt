@@ -28,7 +28,7 @@ use Rattle.net_inst.specs.declared.arc.Built.{Built}
 use Rattle.net_inst.specs.declared.draft.ChosenObjective.{ChosenObjective}
 use Rattle.net_inst.specs.declared.network_names.Declared.{Declared}
 use Rattle.net_inst.specs.Arcs.{BuiltArcs, priced_by, price_in, prices_in, next_arc, arcs_at, with_arcs, arc_env, arc_text}
-use Rattle.net_inst.specs.AsWritten.{Label, Arc, rows_of, arc_at_row, arcs_with, same_label, Assignment, number_on, numbers_on, amount}
+use Rattle.net_inst.specs.AsWritten.{WrittenLabel, WrittenArc, rows_of, arc_at_row, arcs_with, same_label, Assignment, number_on, numbers_on, amount}
 use Rattle.net_inst.specs.Drafts.{part_form}
 use Rattle.net_inst.specs.Groups.{Numbers}
 use Rattle.net_inst.specs.Nodes.{BuiltNodes}
@@ -46,7 +46,7 @@ use Rattle.net_inst.proofs.Totals.{number_at, number_of_label, number_of_arc}
 use Rattle.net_inst.proofs.Zips.{ok_then, ok_is, map_join, get_front}
 
 -- the numbers of all arcs by their places
-abbrev pub by_place : List Arc → Assignment → ℕ → ℤ
+abbrev pub by_place : List WrittenArc → Assignment → ℕ → ℤ
 by_place all x = number_at (numbers_on x all)
 
 -- ---- phrases
@@ -55,7 +55,7 @@ abbrev pub goal_price : Option ChosenObjective → World → Scope → List Phra
 goal_price None w s ps = pos 0
 goal_price (Some g) w s ps = price_of g.name w s ps
 
-abbrev pub goal_prices : Option ChosenObjective → List Arc → Assignment → ℤ
+abbrev pub goal_prices : Option ChosenObjective → List WrittenArc → Assignment → ℤ
 goal_prices None all x = pos 0
 goal_prices (Some g) all x = prices g.name all x
 
@@ -109,11 +109,11 @@ prices_apart g w s a (p ∷ ps) f new h e = ok_then (price_in g w s a p.body f) 
 -- ---- arcs
 
 -- what rows of an arc's declaration add to the form
-pub record Adds (all : List Arc) (g : Option ChosenObjective) (here : List Arc) (f new : Linear) : Type 0 where
+pub record Adds (all : List WrittenArc) (g : Option ChosenObjective) (here : List WrittenArc) (f new : Linear) : Type 0 where
   pub apart : all_apart f.products ≡ true → all_apart new.products ≡ true
   pub sum : (x : Assignment) → form_at (by_place all x) new ≡ form_at (by_place all x) f +ℤ goal_prices g here x
 
-goal_more : (g : Option ChosenObjective) (w : World) (n : Token) (b : Option Braces) (ps : List Phrase) (p : Parts) (row : Row) (rest : List Arc) (x : Assignment)
+goal_more : (g : Option ChosenObjective) (w : World) (n : Token) (b : Option Braces) (ps : List Phrase) (p : Parts) (row : Row) (rest : List WrittenArc) (x : Assignment)
     → goal_prices g (arc_at_row w n b ps p row ∷ rest) x ≡ goal_price g w row.scope ps *ℤ number_on x (arc_at_row w n b ps p row) +ℤ goal_prices g rest x
 goal_more None w n b ps p row rest x = omega (arith, ints, zero-*ℤ (number_on x (arc_at_row w n b ps p row)))
 goal_more (Some g) w n b ps p row rest x = refl
@@ -122,21 +122,21 @@ nothing_more : (g : Option ChosenObjective) (m : ℤ) (x : Assignment) → m ≡
 nothing_more None m x = omega (arith, ints)
 nothing_more (Some g) m x = omega (arith, ints)
 
-row_adds : (all : List Arc) (g : Option ChosenObjective) (dn : BuiltNodes) (w : World) (n : Token) (b : Option Braces) (k : Option ℕ) (p : Parts) (ps : List Phrase) (row : Row) (d next new : BuiltArcs) (front later after : List Arc)
+row_adds : (all : List WrittenArc) (g : Option ChosenObjective) (dn : BuiltNodes) (w : World) (n : Token) (b : Option Braces) (k : Option ℕ) (p : Parts) (ps : List Phrase) (row : Row) (d next new : BuiltArcs) (front later after : List WrittenArc)
     → length d.arcs ≡ length front → all ≡ front ++ (arc_at_row w n b ps p row ∷ later ++ after) → IsNextArc g dn w n k p ps row d next → Adds all g later next.form new.form → Adds all g (arc_at_row w n b ps p row ∷ later) d.form new.form
 row_adds all g dn w n b k p ps row d next new front later after l whole by rest = record {
   apart = λ h. rest.apart (prices_apart g w row.scope (length d.arcs) ps d.form next.form h by.priced);
   sum = λ x.
       let first = all_prices g w row.scope (length d.arcs) ps d.form next.form by.priced (by_place all x) in
-      let place : by_place all x (length d.arcs) ≡ number_on x one = ap (λ (each : List Arc). by_place each x (length d.arcs)) whole ∙ number_of_arc x front one (later ++ after) (length d.arcs) l in
+      let place : by_place all x (length d.arcs) ≡ number_on x one = ap (λ (each : List WrittenArc). by_place each x (length d.arcs)) whole ∙ number_of_arc x front one (later ++ after) (length d.arcs) l in
       let times : goal_price g w row.scope ps *ℤ by_place all x (length d.arcs) ≡ goal_price g w row.scope ps *ℤ number_on x one = ap (λ (m : ℤ). goal_price g w row.scope ps *ℤ m) place in
       omega (arith, ints, rest.sum x, first, times, goal_more g w n b ps p row later x);
 }
   where
-    one : Arc
+    one : WrittenArc
     one = arc_at_row w n b ps p row
 
-rows_add : (all : List Arc) (g : Option ChosenObjective) (dn : BuiltNodes) (w : World) (n : Token) (b : Option Braces) (k : Option ℕ) (p : Parts) (ps : List Phrase) (rows : List Row) (d new : BuiltArcs) (front after : List Arc)
+rows_add : (all : List WrittenArc) (g : Option ChosenObjective) (dn : BuiltNodes) (w : World) (n : Token) (b : Option Braces) (k : Option ℕ) (p : Parts) (ps : List Phrase) (rows : List Row) (d new : BuiltArcs) (front after : List WrittenArc)
     → length d.arcs ≡ length front → all ≡ front ++ (map (arc_at_row w n b ps p) rows ++ after) → arcs_at (arc_env g dn w) (arc_text n p ps) k rows d ≡ Ok new → Adds all g (map (arc_at_row w n b ps p) rows) d.form new.form
 rows_add all g dn w n b k p ps [] d new front after l whole e =
     let same = ap (λ (z : BuiltArcs). z.form) (ok_is d new e) in
@@ -150,16 +150,16 @@ rows_add all g dn w n b k p ps (row ∷ rows) d new front after l whole e =
     row_adds all g dn w n b k p ps row d next new front later after l whole by
     (rows_add all g dn w n b k p ps rows next new (front ++ one ∷ []) after counted (whole ∙ sym (append_assoc front (one ∷ []) (later ++ after))) j))
 
-pub arcs_add : (all : List Arc) (g : Option ChosenObjective) (dn : BuiltNodes) (w : World) (n : Token) (b : Option Braces) (ps : List Phrase) (d new : BuiltArcs) (front after : List Arc)
+pub arcs_add : (all : List WrittenArc) (g : Option ChosenObjective) (dn : BuiltNodes) (w : World) (n : Token) (b : Option Braces) (ps : List Phrase) (d new : BuiltArcs) (front after : List WrittenArc)
     → length d.arcs ≡ length front → all ≡ front ++ (arcs_with w n b ps (parts_of n ps) ++ after) → with_arcs (arc_env g dn w) n b ps d ≡ Ok new → Adds all g (arcs_with w n b ps (parts_of n ps)) d.form new.form
 arcs_add all g dn w n b ps d new front after l whole e =
-    subst (λ (here : List Arc). Adds all g here d.form new.form) (sym here_is)
-    (subst (λ (z : BuiltArcs). Adds all g here d.form z.form) by.is_named (rows_add all g dn w n b by.indexing.count by.parts ps by.indexing.rows d by.found front after l (whole ∙ ap (λ (xs : List Arc). front ++ (xs ++ after)) here_is) by.are_found))
+    subst (λ (here : List WrittenArc). Adds all g here d.form new.form) (sym here_is)
+    (subst (λ (z : BuiltArcs). Adds all g here d.form z.form) by.is_named (rows_add all g dn w n b by.indexing.count by.parts ps by.indexing.rows d by.found front after l (whole ∙ ap (λ (xs : List WrittenArc). front ++ (xs ++ after)) here_is) by.are_found))
   where
     by : AreArcsBy g dn w n b ps d new
     by = with_arcs_is g dn w n b ps d new e
 
-    here : List Arc
+    here : List WrittenArc
     here = map (arc_at_row w n b ps by.parts) by.indexing.rows
 
     here_is : arcs_with w n b ps (parts_of n ps) ≡ here
@@ -168,13 +168,13 @@ arcs_add all g dn w n b ps d new front after l whole e =
 -- ---- what an objective says
 
 -- an arc's number is the place of its label
-pub read_alike : (all front after : List Arc) (x : Assignment) (a : Numbers) → Finds (map (λ v. v.label) front) a → IsDistinct same_label (map (λ v. v.label) front) → all ≡ front ++ after → ReadAlike a (by_place all x) x
+pub read_alike : (all front after : List WrittenArc) (x : Assignment) (a : Numbers) → Finds (map (λ v. v.label) front) a → IsDistinct same_label (map (λ v. v.label) front) → all ≡ front ++ after → ReadAlike a (by_place all x) x
 read_alike all front after x a finds distinct whole = record { alike = λ at n key v e. by_keys at n key v (declared a n) refl e }
   where
     placed : (n : Name) (key : Tuple) (v : ℕ) (k : KeyNumbers) (p : ℕ) → declared a n ≡ Some k → place_of k.index key ≡ Some p → v ≡ k.first + p → by_place all x v ≡ x n key
     placed n key v k p e i j =
         let found = found_label (map (λ v. v.label) front) a n k key p v finds distinct e i j in
-        let there : slice_get (map (λ u. u.label) all) v ≡ Some found.0 = ap (λ (l : List Arc). slice_get (map (λ u. u.label) l) v) whole ∙ ap (λ (l : List Label). slice_get l v) (map_join (λ (u : Arc). u.label) front after) ∙ get_front (map (λ u. u.label) front) (map (λ u. u.label) after) v found.0 found.1 in
+        let there : slice_get (map (λ u. u.label) all) v ≡ Some found.0 = ap (λ (l : List WrittenArc). slice_get (map (λ u. u.label) l) v) whole ∙ ap (λ (l : List WrittenLabel). slice_get l v) (map_join (λ (u : WrittenArc). u.label) front after) ∙ get_front (map (λ u. u.label) front) (map (λ u. u.label) after) v found.0 found.1 in
         number_of_label x all v found.0 there ∙ ap (λ (m : Name). x m found.0.key) found.2 ∙ ap (x n) found.3
 
     by_number : (at : Span) (n : Name) (key : Tuple) (v : ℕ) (k : KeyNumbers) → declared a n ≡ Some k → (o : Option ℕ) → place_of k.index key ≡ o → (r : Detail) → numbered at r k.first o ≡ Ok v → by_place all x v ≡ x n key

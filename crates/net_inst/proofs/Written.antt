@@ -13,7 +13,7 @@ use Rattle.net_inst.specs.declared.arc.Built.{Built}
 use Rattle.net_inst.specs.declared.node_name.Group.{Group}
 use Rattle.net_inst.specs.declared.network_names.Declared.{Declared}
 use Rattle.net_inst.specs.Arcs.{with_arcs, arc_env}
-use Rattle.net_inst.specs.AsWritten.{Label, Node, Arc, nodes_of, arcs_of, nodes, arcs, known_after, in_order, node_declared, arc_declared, same_label}
+use Rattle.net_inst.specs.AsWritten.{WrittenLabel, WrittenNode, WrittenArc, nodes_of, arcs_of, nodes, arcs, known_after, in_order, node_declared, arc_declared, same_label}
 use Rattle.net_inst.specs.Drafts.{Drawing, nothing, env, part_form, aimed, passed, is_chosen, with_goal, with_objective, known_more, nodes_more, arcs_more, declare, draw}
 use Rattle.net_inst.specs.Instances.{Network, with_coefficients}
 use Rattle.net_inst.specs.Laws.{IsInSides, IsRangeOf, HaveExactRanges, AreNames, AreNamesOf, HaveNames, IsBoundedAs, HaveBounds, HasEndsOf, HaveEnds}
@@ -25,9 +25,9 @@ use Rattle.net_inst.proofs.Zips.{ok_then, ok_is, map_join, zip_as}
 
 -- what is written in some declarations
 pub record Lines : Type 0 where
-  pub nodes : List Node
+  pub nodes : List WrittenNode
   pub node_names : List Declared
-  pub arcs : List Arc
+  pub arcs : List WrittenArc
   pub arc_names : List Declared
 
 abbrev pub lines_of : World → Declaration → Lines
@@ -44,9 +44,9 @@ no_lines = record { nodes = []; node_names = []; arcs = []; arc_names = [] }
 
 after_none : (a b : Lines) → b.nodes ≡ [] → b.node_names ≡ [] → b.arcs ≡ [] → b.arc_names ≡ [] → a ≡ behind a b
 after_none a b h i j k =
-    let p = sym (append-nil a.nodes) ∙ ap (λ (x : List Node). a.nodes ++ x) (sym h) in
+    let p = sym (append-nil a.nodes) ∙ ap (λ (x : List WrittenNode). a.nodes ++ x) (sym h) in
     let q = sym (append-nil a.node_names) ∙ ap (λ (x : List Declared). a.node_names ++ x) (sym i) in
-    let r = sym (append-nil a.arcs) ∙ ap (λ (x : List Arc). a.arcs ++ x) (sym j) in
+    let r = sym (append-nil a.arcs) ∙ ap (λ (x : List WrittenArc). a.arcs ++ x) (sym j) in
     let s = sym (append-nil a.arc_names) ∙ ap (λ (x : List Declared). a.arc_names ++ x) (sym k) in
     λ t. record { nodes = p t; node_names = q t; arcs = r t; arc_names = s t }
 
@@ -114,9 +114,9 @@ next_is wanted w m (node t n b c z) d new h e =
       is_written = record {
         nodes = nodes_more_are (env w d) n b c m.nodes m.node_names d.nodes ns h.nodes i;
         arcs =
-            subst (λ (xs : List Arc). AreArcs (node_labels (m.nodes ++ nodes_of (env w d) (node t n b c z))) xs (m.arc_names ++ []) d.arcs) (sym (append-nil m.arcs))
+            subst (λ (xs : List WrittenArc). AreArcs (node_labels (m.nodes ++ nodes_of (env w d) (node t n b c z))) xs (m.arc_names ++ []) d.arcs) (sym (append-nil m.arcs))
             (subst (λ (xs : List Declared). AreArcs (node_labels (m.nodes ++ nodes_of (env w d) (node t n b c z))) m.arcs xs d.arcs) (sym (append-nil m.arc_names))
-            (subst (λ (ls : List Label). AreArcs ls m.arcs m.arc_names d.arcs) (sym (map_join (λ (v : Node). v.label) m.nodes (nodes_of (env w d) (node t n b c z))))
+            (subst (λ (ls : List WrittenLabel). AreArcs ls m.arcs m.arc_names d.arcs) (sym (map_join (λ (v : WrittenNode). v.label) m.nodes (nodes_of (env w d) (node t n b c z))))
             (arcs_stay (node_labels m.nodes) (node_labels (nodes_of (env w d) (node t n b c z))) m.arcs m.arc_names d.arcs h.arcs)));
       };
     }))
@@ -125,9 +125,9 @@ next_is wanted w m (arc t n b ps z) d new h e =
     subst (IsNext m w (arc t n b ps z) d) (ok_is (arcs_more d xs) new j) (record {
       known = refl;
       is_written = record {
-        nodes = subst (λ (ns : List Node). AreNodes ns (m.node_names ++ []) d.nodes) (sym (append-nil m.nodes)) (subst (λ (ns : List Declared). AreNodes m.nodes ns d.nodes) (sym (append-nil m.node_names)) h.nodes);
+        nodes = subst (λ (ns : List WrittenNode). AreNodes ns (m.node_names ++ []) d.nodes) (sym (append-nil m.nodes)) (subst (λ (ns : List Declared). AreNodes m.nodes ns d.nodes) (sym (append-nil m.node_names)) h.nodes);
         arcs =
-            subst (λ (ns : List Node). AreArcs (node_labels ns) (m.arcs ++ arcs_of (env w d) (arc t n b ps z)) (m.arc_names ++ arc_declared (arc t n b ps z)) xs) (sym (append-nil m.nodes))
+            subst (λ (ns : List WrittenNode). AreArcs (node_labels ns) (m.arcs ++ arcs_of (env w d) (arc t n b ps z)) (m.arc_names ++ arc_declared (arc t n b ps z)) xs) (sym (append-nil m.nodes))
             (arcs_more_are m.nodes m.node_names d.nodes h.nodes d.goal (env w d) n b ps m.arcs m.arc_names d.arcs xs h.arcs i);
       };
     }))
@@ -168,7 +168,7 @@ one_range None (Some n) y = ((λ h. record { low = for_none (λ l. l ≤ℤ y); 
 one_range (Some l) None y = ((λ h. record { low = for_some (λ m. m ≤ℤ y) l h.0; high = for_none (λ g. y ≤ℤ g) }), (λ h. (h.low l refl, tt)))
 one_range (Some l) (Some n) y = ((λ h. record { low = for_some (λ m. m ≤ℤ y) l h.0; high = for_some (λ g. y ≤ℤ g) n h.1 }), (λ h. (h.low l refl, h.high n refl)))
 
-range_is : (n : Node) (r : Sides) → HasRange n r → IsRangeOf n r
+range_is : (n : WrittenNode) (r : Sides) → HasRange n r → IsRangeOf n r
 range_is n r h y =
     let exact = range_exact n.env n.scope n.condition r h.is y in
     let words = one_range r.low r.high y in
@@ -179,7 +179,7 @@ have_exact_ranges wanted w ds n e =
     let f = network_is wanted w ds n e in
     subst (AllZip IsRangeOf (nodes w ds)) (ap (λ (z : Network). z.nodes) f.whole) (zip_as HasRange IsRangeOf (nodes w ds) f.drawing.nodes.ranges range_is (all_written wanted w ds f.drawing f.is_built).nodes.ranges)
 
-names_are : (labels : List Label) (names : List Declared) (g : Group) → IsGroup labels names g → AreNames names labels g.list
+names_are : (labels : List WrittenLabel) (names : List Declared) (g : Group) → IsGroup labels names g → AreNames names labels g.list
 names_are labels names g h = record { declarations = h.declarations; keys = h.keys; ordered = h.ordered }
 
 pub have_names : HaveNames
@@ -191,7 +191,7 @@ have_names wanted w ds n e =
       arcs = names_are (arc_labels (arcs w ds)) (flat_map arc_declared ds) f.drawing.arcs.group all.arcs.group;
     })
 
-bounded : (labels : List Label) (ps : Products) (a : ℕ) (all : List Arc) (xs : List Built) → AllZip (IsBuiltAs labels) all xs → AllZip IsBoundedAs all (with_coefficients ps a xs)
+bounded : (labels : List WrittenLabel) (ps : Products) (a : ℕ) (all : List WrittenArc) (xs : List Built) → AllZip (IsBuiltAs labels) all xs → AllZip IsBoundedAs all (with_coefficients ps a xs)
 bounded labels ps a [] [] h = tt
 bounded labels ps a [] (x ∷ xs) h = absurd h
 bounded labels ps a (y ∷ all) [] h = absurd h
@@ -203,7 +203,7 @@ have_bounds wanted w ds n e =
     let all = all_written wanted w ds f.drawing f.is_built in
     subst (AllZip IsBoundedAs (arcs w ds)) (ap (λ (z : Network). z.arcs) f.whole) (bounded (node_labels (nodes w ds)) f.drawing.arcs.form.products 0 (arcs w ds) f.drawing.arcs.arcs all.arcs.built)
 
-with_ends : (labels : List Label) → IsDistinct same_label labels → (ps : Products) (a : ℕ) (all : List Arc) (xs : List Built) → AllZip (IsBuiltAs labels) all xs → AllZip (HasEndsOf labels) all (with_coefficients ps a xs)
+with_ends : (labels : List WrittenLabel) → IsDistinct same_label labels → (ps : Products) (a : ℕ) (all : List WrittenArc) (xs : List Built) → AllZip (IsBuiltAs labels) all xs → AllZip (HasEndsOf labels) all (with_coefficients ps a xs)
 with_ends labels distinct ps a [] [] h = tt
 with_ends labels distinct ps a [] (x ∷ xs) h = absurd h
 with_ends labels distinct ps a (y ∷ all) [] h = absurd h

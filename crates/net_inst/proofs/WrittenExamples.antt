@@ -11,7 +11,7 @@ use Rattle.net_lex.specs.declared.token.Token.{Token}
 use Rattle.net_lex.specs.declared.token.Kind.{Kind}
 use Rattle.net_lex.specs.declared.token.Kind.TheVariants as kinds
 use Rattle.net_sets.specs.declared.member.Member.TheVariants.{Number}
-use Rattle.net_tree.specs.declared.operator.Words.TheVariants as operator
+use Rattle.net_tree.specs.declared.operator.OperatorWords.TheVariants as operator
 use Rattle.net_tree.specs.Role.{role_of, marks, keys}
 use Rattle.net_tree.specs.Spans.{span_of, span_between, braces_span}
 use Rattle.net_tree.specs.Tree.{Tree, leaf, indexed, braced, chain, net, none, link, absent, part, Braces, filled, Phrase, valued, priced, one, Declaration, node, arc, objective}
@@ -19,7 +19,7 @@ use Rattle.net_expr.specs.Limits.{is_small}
 use Rattle.net_tree.specs.Operations.{operations, operation, reduction, is_minus}
 use Rattle.net_tree.specs.Numerals.{number_in}
 use Rattle.net_expr.specs.Worlds.{Name}
-use Rattle.net_inst.specs.AsWritten.{Label, nodes, arcs, numbers_on, Assignment, by_label, from_end, to_end, net_inflow}
+use Rattle.net_inst.specs.AsWritten.{WrittenLabel, nodes, arcs, numbers_on, Assignment, by_label, from_end, to_end, net_inflow}
 use Rattle.net_inst.specs.Drafts.{sense_of}
 use Rattle.net_inst.specs.Readings.{Objective, objectives, chosen, value_of}
 use Rattle.std.specs.Prelude.{option_map}
@@ -68,7 +68,7 @@ model =
     ∷ arc (key (codes "arc")) (name (codes "X")) (Some each) phrases (mark (codes ";"))
     ∷ objective (key (codes "maximize")) (name (codes "Gain")) (part (mark (codes ":")) gain) (mark (codes ";")) ∷ []
 
-abbrev label : List ℕ → ℤ → Label
+abbrev label : List ℕ → ℤ → WrittenLabel
 label n k = record { name = n; indexed = true; key = Number k ∷ [] }
 
 two_nodes : map (λ n. n.label) (nodes [] model) ≡ label (codes "N") (pos 1) ∷ label (codes "N") (pos 2) ∷ []

@@ -20,22 +20,22 @@ use Rattle.net_inst.specs.Phrases.{Parts, parts_of}
 
 -- the identity of a node or an arc: its declared name, whether it is indexed, and its key, which is
 -- empty if it is not
-pub record Label : Type 0 where
+pub record WrittenLabel : Type 0 where
   pub name : Name
   pub indexed : Bool
   pub key : Tuple
 
 -- the node at a key: the sets and parameters visible to its declaration, the dummies that the key
 -- binds, and its condition
-pub record Node : Type 0 where
-  pub label : Label
+pub record WrittenNode : Type 0 where
+  pub label : WrittenLabel
   pub env : World
   pub scope : Scope
   pub condition : Condition
 
 -- the arc at a key, with the bounds and ends from its phrases, and all its phrases
-pub record Arc : Type 0 where
-  pub label : Label
+pub record WrittenArc : Type 0 where
+  pub label : WrittenLabel
   pub env : World
   pub scope : Scope
   pub parts : Parts
@@ -47,27 +47,27 @@ abbrev pub rows_of : Outcome Indexing → List Row
 rows_of (Ok i) = i.rows
 rows_of (Err r) = []
 
-abbrev pub label_at : Token → Option Braces → Row → Label
+abbrev pub label_at : Token → Option Braces → Row → WrittenLabel
 label_at n b row = record { name = n.text; indexed = is_some b; key = row.key }
 
-abbrev pub node_at_row : World → Token → Option Braces → Condition → Row → Node
+abbrev pub node_at_row : World → Token → Option Braces → Condition → Row → WrittenNode
 node_at_row w n b c row = record { label = label_at n b row; env = w; scope = row.scope; condition = c }
 
-abbrev pub arc_at_row : World → Token → Option Braces → List Phrase → Parts → Row → Arc
+abbrev pub arc_at_row : World → Token → Option Braces → List Phrase → Parts → Row → WrittenArc
 arc_at_row w n b ps p row = record { label = label_at n b row; env = w; scope = row.scope; parts = p; phrases = ps }
 
 -- the nodes of a declaration, one for each key
-abbrev pub nodes_of : World → Declaration → List Node
+abbrev pub nodes_of : World → Declaration → List WrittenNode
 nodes_of w (node t n b c e) = map (node_at_row w n b c) (rows_of (indexing_in w b))
 nodes_of w _ = []
 
 -- the arcs with these phrases, one for each key; none if the phrases have an error
-abbrev pub arcs_with : World → Token → Option Braces → List Phrase → Outcome Parts → List Arc
+abbrev pub arcs_with : World → Token → Option Braces → List Phrase → Outcome Parts → List WrittenArc
 arcs_with w n b ps (Ok p) = map (arc_at_row w n b ps p) (rows_of (indexing_in w b))
 arcs_with w n b ps (Err r) = []
 
 -- the arcs of a declaration, one for each key
-abbrev pub arcs_of : World → Declaration → List Arc
+abbrev pub arcs_of : World → Declaration → List WrittenArc
 arcs_of w (arc t n b ps e) = arcs_with w n b ps (parts_of n ps)
 arcs_of w _ = []
 
@@ -85,10 +85,10 @@ in_order f w k [] = []
 in_order f w k (d ∷ ds) = f (take k w) d ++ in_order f w (known_after k d) ds
 
 -- the nodes (`nodes`) and the arcs (`arcs`) of a model in its world
-abbrev pub nodes : World → List Declaration → List Node
+abbrev pub nodes : World → List Declaration → List WrittenNode
 nodes w ds = in_order nodes_of w 0 ds
 
-abbrev pub arcs : World → List Declaration → List Arc
+abbrev pub arcs : World → List Declaration → List WrittenArc
 arcs w ds = in_order arcs_of w 0 ds
 
 -- the declared names, each with whether it is indexed
@@ -101,10 +101,10 @@ arc_declared (arc t n b ps e) = (record { name = n.text; indexed = is_some b }) 
 arc_declared _ = []
 
 -- equal names and equal keys; `indexed` follows from the name, because no name is declared twice
-abbrev pub same_label : Label → Label → Bool
+abbrev pub same_label : WrittenLabel → WrittenLabel → Bool
 same_label l m = bytes_eq l.name m.name && same_tuple l.key m.key
 
-pub record AreDistinct (ns : List Node) (all : List Arc) : Type 0 where
+pub record AreDistinct (ns : List WrittenNode) (all : List WrittenArc) : Type 0 where
   pub nodes : IsDistinct same_label (map (λ n. n.label) ns)
   pub arcs : IsDistinct same_label (map (λ a. a.label) all)
 
@@ -113,14 +113,14 @@ abbrev pub Assignment : Type 0
 Assignment = Name → Tuple → ℤ
 
 -- the value of an arc
-abbrev pub number_on : Assignment → Arc → ℤ
+abbrev pub number_on : Assignment → WrittenArc → ℤ
 number_on x a = x a.label.name a.label.key
 
-abbrev pub numbers_on : Assignment → List Arc → List ℤ
+abbrev pub numbers_on : Assignment → List WrittenArc → List ℤ
 numbers_on x all = map (number_on x) all
 
 -- the assignment of these numbers to these labels, in order
-abbrev pub by_label : List Label → List ℤ → Assignment
+abbrev pub by_label : List WrittenLabel → List ℤ → Assignment
 by_label [] numbers n key = pos 0
 by_label (l ∷ ls) [] n key = pos 0
 by_label (l ∷ ls) (y ∷ ys) n key = if bytes_eq l.name n && same_tuple l.key key then y else by_label ls ys n key
@@ -140,38 +140,38 @@ end_of w s None = None
 end_of w s (Some t) = reference_in w s t
 
 -- the node of the arc's `from` phrase (`from_end`) and of its `to` phrase (`to_end`)
-abbrev pub from_end : Arc → Option (Name × Tuple)
+abbrev pub from_end : WrittenArc → Option (Name × Tuple)
 from_end a = end_of a.env a.scope a.parts.tail
 
-abbrev pub to_end : Arc → Option (Name × Tuple)
+abbrev pub to_end : WrittenArc → Option (Name × Tuple)
 to_end a = end_of a.env a.scope a.parts.head
 
-abbrev pub is_named : Label → Option (Name × Tuple) → Bool
+abbrev pub is_named : WrittenLabel → Option (Name × Tuple) → Bool
 is_named l None = false
 is_named l (Some r) = bytes_eq r.0 l.name && same_tuple r.1 l.key
 
 -- the total value of the arcs whose end is the node; the function `end` is `from_end` or `to_end`
-abbrev pub flow_at_ends : (Arc → Option (Name × Tuple)) → Label → List Arc → Assignment → ℤ
+abbrev pub flow_at_ends : (WrittenArc → Option (Name × Tuple)) → WrittenLabel → List WrittenArc → Assignment → ℤ
 flow_at_ends end v [] x = pos 0
 flow_at_ends end v (a ∷ all) x = (if is_named v (end a) then number_on x a else pos 0) +ℤ flow_at_ends end v all x
 
 -- inflow minus outflow of a node
-abbrev pub net_inflow : List Arc → Assignment → Label → ℤ
+abbrev pub net_inflow : List WrittenArc → Assignment → WrittenLabel → ℤ
 net_inflow all x v = flow_at_ends to_end v all x -ℤ flow_at_ends from_end v all x
 
 -- the value of an expression without arcs; 0 on an error, which `has_network` of `IsBuilt` excludes
 abbrev pub amount : World → Scope → Tree → ℤ
 amount w s t = number_of (number_or_none w s t)
 
-pub record IsWithin (x : Assignment) (a : Arc) : Type 0 where
+pub record IsWithin (x : Assignment) (a : WrittenArc) : Type 0 where
   pub lower : amount a.env a.scope a.parts.lower ≤ℤ number_on x a
   pub upper : number_on x a ≤ℤ amount a.env a.scope a.parts.upper
 
 -- the condition of the node is true for its net inflow
-abbrev pub IsMet : List Arc → Assignment → Node → Type 0
+abbrev pub IsMet : List WrittenArc → Assignment → WrittenNode → Type 0
 IsMet all x n = Holds n.env n.scope n.condition (net_inflow all x n.label)
 
 -- each arc is within its bounds, and each node's condition is true
-pub record IsFeasible (ns : List Node) (all : List Arc) (x : Assignment) : Type 0 where
+pub record IsFeasible (ns : List WrittenNode) (all : List WrittenArc) (x : Assignment) : Type 0 where
   pub bounds : AllByRecursion (IsWithin x) all
   pub conditions : AllByRecursion (IsMet all x) ns

@@ -10,19 +10,19 @@ use Rattle.net_normal.specs.declared.problem.Link.{Link}
 use Rattle.net_normal.specs.declared.problem.Problem.{Problem}
 use Rattle.net_expr.specs.Worlds.{Name, World}
 use Rattle.net_inst.specs.declared.network.Named.{Named as NamedOfCode}
-use Rattle.net_inst.specs.AsWritten.{Node, Arc, nodes, arcs, AreDistinct, Assignment, numbers_on, by_label, IsFeasible}
+use Rattle.net_inst.specs.AsWritten.{WrittenNode, WrittenArc, nodes, arcs, AreDistinct, Assignment, numbers_on, by_label, IsFeasible}
 use Rattle.net_inst.specs.Instances.{network, seen_as}
 use Rattle.net_inst.specs.Readings.{Objective, objectives, chosen, value_of}
 
 -- the assignment that corresponds to a flow
-abbrev pub up : List Arc → Link → List ℤ → Assignment
+abbrev pub up : List WrittenArc → Link → List ℤ → Assignment
 up all link flows = by_label (map (λ a. a.label) all) (mapped_back link flows)
 
 -- both give each arc the same value
-abbrev pub Agree : List Arc → Assignment → Assignment → Type 0
+abbrev pub Agree : List WrittenArc → Assignment → Assignment → Type 0
 Agree all x y = numbers_on x all ≡ numbers_on y all
 
-pub record CorrespondsByName (ns : List Node) (all : List Arc) (o : Objective) (problem : Problem) (link : Link) : Type 0 where
+pub record CorrespondsByName (ns : List WrittenNode) (all : List WrittenArc) (o : Objective) (problem : Problem) (link : Link) : Type 0 where
   -- each feasible flow maps to a feasible assignment
   pub forward : (flows : List ℤ) → IsFeasibleFlow problem flows → IsFeasible ns all (up all link flows)
   -- surjective: every feasible assignment comes from a feasible flow

@@ -19,7 +19,7 @@ use Rattle.net_inst.specs.declared.arc.Built.{Built}
 use Rattle.net_inst.specs.declared.network.Named.{Named as NamedOfCode}
 use Rattle.net_inst.specs.declared.network_names.Declared.{Declared}
 use Rattle.net_inst.specs.Lists.{Key, Listed, AreInOrder}
-use Rattle.net_inst.specs.AsWritten.{Label, Node, Arc, rows_of, known_after, nodes, arcs, node_declared, arc_declared, same_label, Assignment, numbers_on, by_label, from_end, to_end, AreDistinct, IsFeasible}
+use Rattle.net_inst.specs.AsWritten.{WrittenLabel, WrittenNode, WrittenArc, rows_of, known_after, nodes, arcs, node_declared, arc_declared, same_label, Assignment, numbers_on, by_label, from_end, to_end, AreDistinct, IsFeasible}
 use Rattle.net_expr.specs.Indexings.{indexing_in}
 use Rattle.net_expr.specs.Rows.{keys_of}
 use Rattle.net_inst.specs.Instances.{Network, network, seen_as}
@@ -46,19 +46,19 @@ pub record IsInSides (r : Sides) (inflow : ℤ) : Type 0 where
 
 -- a node's range contains a number if and only if the condition as written is true for it as the
 -- net inflow
-abbrev pub IsRangeOf : Node → Sides → Type 0
+abbrev pub IsRangeOf : WrittenNode → Sides → Type 0
 IsRangeOf n r = (y : ℤ) → IsInSides r y ↔ Holds n.env n.scope n.condition y
 
 abbrev pub HaveExactRanges : Type 0
 HaveExactRanges = (wanted : Option Name) (w : World) (ds : List Declaration) (n : Network) → network wanted w ds ≡ Ok n → AllZip IsRangeOf (nodes w ds) n.nodes
 
 -- a listed key is that of the label, and its declaration is that of the label
-pub record IsKeyOf (declared : List Declared) (l : Label) (k : Key) : Type 0 where
+pub record IsKeyOf (declared : List Declared) (l : WrittenLabel) (k : Key) : Type 0 where
   pub declaration : slice_get declared k.declaration ≡ Some (record { name = l.name; indexed = l.indexed })
   pub key : k.tuple ≡ l.key
 
 -- the declared names in order, and the keys of the nodes or arcs in order, grouped by declaration
-pub record AreNames (declared : List Declared) (labels : List Label) (listed : Listed) : Type 0 where
+pub record AreNames (declared : List Declared) (labels : List WrittenLabel) (listed : Listed) : Type 0 where
   pub declarations : listed.declarations ≡ declared
   pub keys : AllZip (IsKeyOf declared) labels listed.keys
   pub ordered : AreInOrder 0 listed.keys
@@ -71,14 +71,14 @@ abbrev pub HaveNames : Type 0
 HaveNames = (wanted : Option Name) (w : World) (ds : List Declaration) (n : Network) → network wanted w ds ≡ Ok n → AreNamesOf w ds n
 
 -- the number of a node is the index of the node that the end names
-abbrev pub IsPlaceOf : List Label → Option (Name × Tuple) → Option ℕ → Type 0
+abbrev pub IsPlaceOf : List WrittenLabel → Option (Name × Tuple) → Option ℕ → Type 0
 IsPlaceOf labels None None = ⊤
 IsPlaceOf labels None (Some v) = ⊥
 IsPlaceOf labels (Some r) None = ⊥
-IsPlaceOf labels (Some r) (Some v) = (l : Label) × (slice_get labels v ≡ Some l) × (l.name ≡ r.0) × (l.key ≡ r.1)
+IsPlaceOf labels (Some r) (Some v) = (l : WrittenLabel) × (slice_get labels v ≡ Some l) × (l.name ≡ r.0) × (l.key ≡ r.1)
 
 -- the bounds are the values of the bounds as written
-pub record IsBoundedAs (a : Arc) (x : InstArc) : Type 0 where
+pub record IsBoundedAs (a : WrittenArc) (x : InstArc) : Type 0 where
   pub lower : value a.env a.scope a.parts.lower ≡ Ok (One (Number x.lower))
   pub upper : value a.env a.scope a.parts.upper ≡ Ok (One (Number x.upper))
 
@@ -86,7 +86,7 @@ abbrev pub HaveBounds : Type 0
 HaveBounds = (wanted : Option Name) (w : World) (ds : List Declaration) (n : Network) → network wanted w ds ≡ Ok n → AllZip IsBoundedAs (arcs w ds) n.arcs
 
 -- the ends are the nodes that are named
-pub record HasEndsOf (labels : List Label) (a : Arc) (x : InstArc) : Type 0 where
+pub record HasEndsOf (labels : List WrittenLabel) (a : WrittenArc) (x : InstArc) : Type 0 where
   pub from : IsPlaceOf labels (from_end a) x.tail
   pub to : IsPlaceOf labels (to_end a) x.head
 
@@ -99,7 +99,7 @@ abbrev pub total_of : Network → List ℤ → ℤ
 total_of n numbers = n.constant +ℤ price_of (λ a. a.coefficient) n.arcs numbers
 
 -- the objective is the chosen one, and the network's objective has its value at every assignment
-pub record IsObjectiveOf (o : Objective) (n : Network) (all : List Arc) : Type 0 where
+pub record IsObjectiveOf (o : Objective) (n : Network) (all : List WrittenArc) : Type 0 where
   pub name : n.names.objective ≡ o.name
   pub sense : n.sense ≡ o.sense
   pub value : IsDistinct same_label (map (λ a. a.label) all) → (x : Assignment) → total_of n (numbers_on x all) ≡ value_of o x
@@ -117,7 +117,7 @@ HaveFeasible = (wanted : Option Name) (w : World) (ds : List Declaration) (n : N
 
 -- each list with one number for each arc comes from an assignment
 abbrev pub HaveAssignments : Type 0
-HaveAssignments = (all : List Arc) (numbers : List ℤ) → IsDistinct same_label (map (λ a. a.label) all) → length numbers ≡ length all → numbers_on (by_label (map (λ a. a.label) all) numbers) all ≡ numbers
+HaveAssignments = (all : List WrittenArc) (numbers : List ℤ) → IsDistinct same_label (map (λ a. a.label) all) → length numbers ≡ length all → numbers_on (by_label (map (λ a. a.label) all) numbers) all ≡ numbers
 
 -- the keys of a declaration of nodes or arcs
 abbrev pub keys_by : World → Declaration → List Tuple

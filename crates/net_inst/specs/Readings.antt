@@ -15,7 +15,7 @@ use Rattle.net_linear.specs.Objectives.{names_arc, key_of, condition}
 use Rattle.net_base.specs.Outcomes.{Outcome}
 use Rattle.net_linear.specs.ObjectiveValues.{read, combine, sum_in, choose}
 use Rattle.net_inst.specs.declared.network_names.Declared.{Declared}
-use Rattle.net_inst.specs.AsWritten.{Arc, Assignment, number_on, amount, arcs_of, arc_declared, in_order, known_after}
+use Rattle.net_inst.specs.AsWritten.{WrittenArc, Assignment, number_on, amount, arcs_of, arc_declared, in_order, known_after}
 use Rattle.net_inst.specs.Drafts.{sense_of}
 
 -- the value of the arc with a name and a key
@@ -70,7 +70,7 @@ price_of goal w s [] = pos 0
 price_of goal w s (p ∷ ps) = price_in goal w s p.body +ℤ price_of goal w s ps
 
 -- the contribution of arcs to the objective with this name
-abbrev pub prices : Name → List Arc → Assignment → ℤ
+abbrev pub prices : Name → List WrittenArc → Assignment → ℤ
 prices goal [] x = pos 0
 prices goal (a ∷ all) x = (price_of goal a.env a.scope a.phrases *ℤ number_on x a) +ℤ prices goal all x
 
@@ -82,7 +82,7 @@ pub record Objective : Type 0 where
   pub env : World
   pub expression : Part
   pub before : List Declared
-  pub behind : List Arc
+  pub behind : List WrittenArc
 
 -- the value of the objective's own expression
 abbrev pub part_value : List Declared → World → Part → Assignment → ℤ
@@ -93,7 +93,7 @@ part_value ds w (part m t) x = reading (stands_in ds) w [] t x
 abbrev pub value_of : Objective → Assignment → ℤ
 value_of o x = part_value o.before o.env o.expression x +ℤ prices o.name o.behind x
 
-abbrev pub objective_of : List Declared → World → Declaration → List Arc → List Objective
+abbrev pub objective_of : List Declared → World → Declaration → List WrittenArc → List Objective
 objective_of before w (objective t n p e) behind = (record { sense = sense_of t; name = n.text; env = w; expression = p; before = before; behind = behind }) ∷ []
 objective_of before w _ behind = []
 

@@ -57,7 +57,7 @@ pub record IsNamedOnce (ds : List Declaration) : Type 0 where
   pub priced : NameObjectives [] ds
 
 -- a node as written and its meaning have the same label and, without punctuation, the same condition, in the same environment
-pub record IsSameNode (v : written.Node) (a : meaning.Node) : Type 0 where
+pub record IsSameNode (v : written.WrittenNode) (a : meaning.Node) : Type 0 where
   pub name : a.label.name ≡ v.label.name
   pub indexed : a.label.indexed ≡ v.label.indexed
   pub key : a.label.key ≡ v.label.key
@@ -65,7 +65,7 @@ pub record IsSameNode (v : written.Node) (a : meaning.Node) : Type 0 where
   pub env : a.env ≡ env_of v.env v.scope
 
 -- an arc as written and its meaning have the same label and the same ends
-pub record IsSameArc (v : written.Arc) (a : meaning.Arc) : Type 0 where
+pub record IsSameArc (v : written.WrittenArc) (a : meaning.Arc) : Type 0 where
   pub name : a.label.name ≡ v.label.name
   pub indexed : a.label.indexed ≡ v.label.indexed
   pub key : a.label.key ≡ v.label.key

@@ -25,7 +25,7 @@ use net_expr::{Env, Indexing, RowList, Scope, key_count, reject_tree, reported_r
 use net_lex::Token;
 use net_linear::{KeyNumbers, NumberedNames, key_of};
 use net_sets::{HashKey, KeyList, SetFault, Tuple};
-use net_tree::{Expr, Link, span_of};
+use net_tree::{Expr, LinkedOperand, span_of};
 use std::alloc::{AllocError, Global};
 
 /// A reference to a node, by a declared name and a key.
@@ -123,7 +123,12 @@ fn node_at<'s>(
 #[tactic(auto, using(net_tree::proofs::Views::views))]
 fn name_in<'a, 's>(
     expr: &'a Expr<'s>,
-) -> Option<(&'a Token<'s>, Option<(&'a Expr<'s>, &'a [Link<'s>])>)>
+) -> Option<
+    (
+        &'a Token<'s>,
+        Option<(&'a Expr<'s>, &'a [LinkedOperand<'s>])>,
+    ),
+>
     ensures { option_map (λ p. (p.0.now, option_map (λ q. (tree q.0.now, links_of q.1.now)) p.1)) result ≡ found.name_in (tree expr.entry.now) }
 {
     match expr {

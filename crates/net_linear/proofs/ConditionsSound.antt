@@ -24,7 +24,7 @@ use Rattle.net_lex.specs.declared.token.Kind.{Kind}
 use Rattle.net_lex.specs.declared.token.Kind.TheVariants as kinds
 use Rattle.net_base.specs.declared.error_code.ErrorCode.TheVariants.{KindMismatch, ValueTooLarge}
 use Rattle.net_tree.specs.declared.role.Role.{Role}
-use Rattle.net_tree.specs.declared.operator.Words.TheVariants as words
+use Rattle.net_tree.specs.declared.operator.OperatorWords.TheVariants as words
 use Rattle.net_tree.specs.Role.{role_of, role_as, role_in, marks, keys}
 use Rattle.net_expr.specs.Limits.{is_small}
 use Rattle.std.proofs.lemmas.Slice.Eq.{bytes_eq-Decides}

@@ -6,7 +6,7 @@ use Rattle.std.proofs.Common.{add-one}
 use Rattle.net_base.specs.declared.diagnostic.Language.TheVariants as languages
 use Rattle.net_base.specs.declared.diagnostic.Span.{Span}
 use Rattle.net_lex.specs.declared.token.Token.{Token}
-use Rattle.net_tree.specs.declared.expr.Link.{Link, out-Link}
+use Rattle.net_tree.specs.declared.expr.LinkedOperand.{LinkedOperand, out-LinkedOperand}
 use Rattle.net_tree.specs.Spans.{span_of}
 use Rattle.net_tree.specs.Tree.{Tree, Links, Part, Braces, leaf, indexed, parens, tuple, negated, braced, signed, reduced, chain, choice, net}
 use Rattle.net_tree.specs.View.{tree, links_of}
@@ -81,12 +81,12 @@ and_then-assoc (Ok x) f g = refl
 and_then-assoc (Err r) f g = refl
 
 -- one link of a chain
-pub chained-left : (a : Arcs) (at : Span) (w : World) (s : Scope) (ls : List Link) (i : ℕ) (l : Link) (u : Term) (wanted : Outcome Term) → i < length ls → l ≡ get_or ls i l
+pub chained-left : (a : Arcs) (at : Span) (w : World) (s : Scope) (ls : List LinkedOperand) (i : ℕ) (l : LinkedOperand) (u : Term) (wanted : Outcome Term) → i < length ls → l ≡ get_or ls i l
     → chained a at w s (links_of (drop i ls)) u ≡ wanted
-    → wanted ≡ and_then (and_then (objective a w s (tree (out-Link l).operand)) (join (operation (out-Link l).operator) at u)) (chained a at w s (links_of (drop (i + 1) ls)))
+    → wanted ≡ and_then (and_then (objective a w s (tree (out-LinkedOperand l).operand)) (join (operation (out-LinkedOperand l).operator) at u)) (chained a at w s (links_of (drop (i + 1) ls)))
 chained-left a at w s ls i l u wanted h e same =
     sym same ∙ ap (λ k. chained a at w s k u) (next_link ls i l h e)
-    ∙ and_then-assoc (objective a w s (tree (out-Link l).operand)) (join (operation (out-Link l).operator) at u) (chained a at w s (links_of (drop (i + 1) ls)))
+    ∙ and_then-assoc (objective a w s (tree (out-LinkedOperand l).operand)) (join (operation (out-LinkedOperand l).operator) at u) (chained a at w s (links_of (drop (i + 1) ls)))
 
 -- one row of a sum
 drop_row : (rows : List Row) (i : ℕ) (r : Row) → i < length rows → r ≡ get_or rows i r → drop i rows ≡ r ∷ drop (i + 1) rows

@@ -4,9 +4,9 @@ use Rattle.std.proofs.Common.{refl, ap, sym, ◌∙◌, arith}
 use Rattle.std.proofs.lemmas.Int.{ints}
 use Rattle.net_base.specs.declared.diagnostic.Span.{Span}
 use Rattle.net_sets.specs.declared.member.Member.TheVariants.{Number, Name}
-use Rattle.net_tree.specs.declared.expr.Link.{Link, out-Link}
-use Rattle.net_tree.specs.declared.operator.Words.{Words as Operator}
-use Rattle.net_tree.specs.declared.operator.Words.TheVariants.{One}
+use Rattle.net_tree.specs.declared.expr.LinkedOperand.{LinkedOperand, out-LinkedOperand}
+use Rattle.net_tree.specs.declared.operator.OperatorWords.{OperatorWords as Operator}
+use Rattle.net_tree.specs.declared.operator.OperatorWords.TheVariants.{One}
 use Rattle.net_tree.specs.Spans.{span_of}
 use Rattle.net_tree.specs.Tree.{Tree, Links, leaf, indexed, parens, tuple, negated, braced, signed, reduced, chain, choice, net, none, link}
 use Rattle.net_tree.specs.View.{tree, links_of}
@@ -34,18 +34,18 @@ use Rattle.net_base.specs.Outcomes.{Outcome, and_then, rejected}
 use Rattle.net_linear.specs.Amounts.{as_number, number_or_none}
 
 -- a step of a walk over links
-pub net_terms-left : (ls : List Link) (i : ℕ) (l : Link) (so_far : NetTerm) → i < length ls → l ≡ get_or ls i l
-    → net_terms (links_of (drop i ls)) so_far ≡ net_terms (links_of (drop (i + 1) ls)) (behind (operation (out-Link l).operator) so_far (net_term (tree (out-Link l).operand)))
+pub net_terms-left : (ls : List LinkedOperand) (i : ℕ) (l : LinkedOperand) (so_far : NetTerm) → i < length ls → l ≡ get_or ls i l
+    → net_terms (links_of (drop i ls)) so_far ≡ net_terms (links_of (drop (i + 1) ls)) (behind (operation (out-LinkedOperand l).operator) so_far (net_term (tree (out-LinkedOperand l).operand)))
 net_terms-left ls i l so_far h e = ap (λ k. net_terms k so_far) (next_link ls i l h e)
 
-terms-left : (ls : List Link) (i : ℕ) (l : Link) (j : BinOp) → i < length ls → l ≡ get_or ls i l → j ≡ operation (out-Link l).operator
+terms-left : (ls : List LinkedOperand) (i : ℕ) (l : LinkedOperand) (j : BinOp) → i < length ls → l ≡ get_or ls i l → j ≡ operation (out-LinkedOperand l).operator
     → are_terms (links_of (drop i ls)) ≡ is_sign j && are_terms (links_of (drop (i + 1) ls))
 terms-left ls i l j h e f = ap are_terms (next_link ls i l h e) ∙ ap (λ k. is_sign k && are_terms (links_of (drop (i + 1) ls))) (sym f)
 
-pub terms_stop : (ls : List Link) (i : ℕ) (l : Link) (j : BinOp) → i < length ls → l ≡ get_or ls i l → j ≡ operation (out-Link l).operator → is_sign j ≡ false → false ≡ are_terms (links_of (drop i ls))
+pub terms_stop : (ls : List LinkedOperand) (i : ℕ) (l : LinkedOperand) (j : BinOp) → i < length ls → l ≡ get_or ls i l → j ≡ operation (out-LinkedOperand l).operator → is_sign j ≡ false → false ≡ are_terms (links_of (drop i ls))
 terms_stop ls i l j h e f g = sym (terms-left ls i l j h e f ∙ ap (λ b. b && are_terms (links_of (drop (i + 1) ls))) g)
 
-pub terms_go : (ls : List Link) (i : ℕ) (l : Link) (j : BinOp) → i < length ls → l ≡ get_or ls i l → j ≡ operation (out-Link l).operator → is_sign j ≡ true → are_terms (links_of (drop (i + 1) ls)) ≡ are_terms (links_of (drop i ls))
+pub terms_go : (ls : List LinkedOperand) (i : ℕ) (l : LinkedOperand) (j : BinOp) → i < length ls → l ≡ get_or ls i l → j ≡ operation (out-LinkedOperand l).operator → is_sign j ≡ true → are_terms (links_of (drop (i + 1) ls)) ≡ are_terms (links_of (drop i ls))
 terms_go ls i l j h e f g = sym (terms-left ls i l j h e f ∙ ap (λ b. b && are_terms (links_of (drop (i + 1) ls))) g)
 
 -- what stands behind an Ok

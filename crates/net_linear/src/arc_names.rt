@@ -7,7 +7,7 @@ ghost use Rattle.net_linear.specs.Objectives as objectives;
 use crate::key_numbers::NumberedNames;
 use crate::net_term::is_sign;
 use net_base::Boxed;
-use net_tree::{BinOp, Braces, Expr, Link, Part};
+use net_tree::{BinOp, Braces, Expr, LinkedOperand, Part};
 
 /// Returns whether an expression contains an arc.
 #[cycle(names)]
@@ -46,14 +46,18 @@ pub(crate) fn names_arc<'s>(arcs: &NumberedNames<'s>, expr: &Expr<'s>) -> bool
 }
 
 #[cycle(names)]
-pub(crate) fn any_arc<'s>(arcs: &NumberedNames<'s>, first: &Expr<'s>, more: &[Link<'s>]) -> bool
+pub(crate) fn any_arc<'s>(
+    arcs: &NumberedNames<'s>,
+    first: &Expr<'s>,
+    more: &[LinkedOperand<'s>],
+) -> bool
     ensures { result ≡ objectives.first_or_any arcs.now (tree first.now) (links_of more.now) }
 {
     names_arc(arcs, first) || links_arc(arcs, more)
 }
 
 #[cycle(names)]
-fn links_arc<'s>(arcs: &NumberedNames<'s>, links: &[Link<'s>]) -> bool
+fn links_arc<'s>(arcs: &NumberedNames<'s>, links: &[LinkedOperand<'s>]) -> bool
     ensures { result ≡ objectives.any_arc arcs.now (links_of links.now) }
 {
     for link in links {
@@ -88,7 +92,7 @@ pub(crate) fn braces_arc<'s>(arcs: &NumberedNames<'s>, braces: &Braces<'s>) -> b
     }
 }
 
-fn are_signs(links: &[Link<'_>]) -> bool
+fn are_signs(links: &[LinkedOperand<'_>]) -> bool
     ensures { result ≡ objectives.are_signs (links_of links.now) }
 {
     for link in links {
@@ -117,7 +121,7 @@ fn either(a: bool, b: bool) -> bool
     a || b
 }
 
-fn one_factor<'s>(arcs: &NumberedNames<'s>, first: bool, links: &[Link<'s>]) -> bool
+fn one_factor<'s>(arcs: &NumberedNames<'s>, first: bool, links: &[LinkedOperand<'s>]) -> bool
     ensures { result ≡ objectives.one_factor arcs.now first (links_of links.now) }
 {
     let mut before = first;
@@ -132,7 +136,11 @@ fn one_factor<'s>(arcs: &NumberedNames<'s>, first: bool, links: &[Link<'s>]) -> 
 }
 
 /// Returns whether a chain is a sum, or a product with at most one operand that contains an arc.
-pub(crate) fn is_linear<'s>(arcs: &NumberedNames<'s>, first: &Expr<'s>, more: &[Link<'s>]) -> bool
+pub(crate) fn is_linear<'s>(
+    arcs: &NumberedNames<'s>,
+    first: &Expr<'s>,
+    more: &[LinkedOperand<'s>],
+) -> bool
     ensures { result ≡ objectives.is_linear arcs.now (tree first.now) (links_of more.now) }
 {
     are_signs(more) || one_factor(arcs, names_arc(arcs, first), more)

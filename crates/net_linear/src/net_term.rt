@@ -6,7 +6,7 @@ ghost use Rattle.net_tree.specs.View.{tree, links_of};
 ghost use Rattle.net_linear.specs.NetTerms as terms;
 ghost use Rattle.net_linear.specs.Signs.{is_sign};
 
-use net_tree::{BinOp, Expr, Link, NetWord, Sign};
+use net_tree::{BinOp, Expr, LinkedOperand, NetWord, Sign};
 
 /// How the net inflow of a node occurs in a term or a side of its condition.
 #[derive(Clone, Copy)]
@@ -91,7 +91,7 @@ fn behind(op: BinOp, so_far: NetTerm, term: NetTerm) -> NetTerm
     }
 }
 
-fn net_terms(links: &[Link<'_>], first: NetTerm) -> NetTerm
+fn net_terms(links: &[LinkedOperand<'_>], first: NetTerm) -> NetTerm
     ensures { result ≡ terms.net_terms (links_of links.now) first }
 {
     let mut so_far = first;
@@ -109,7 +109,7 @@ pub(crate) fn is_sign(op: BinOp) -> bool
 }
 
 /// Returns whether all operators are `+` and `-`.
-fn are_terms(links: &[Link<'_>]) -> bool
+fn are_terms(links: &[LinkedOperand<'_>]) -> bool
     ensures { result ≡ terms.are_terms (links_of links.now) }
 {
     for link in links {
@@ -120,7 +120,7 @@ fn are_terms(links: &[Link<'_>]) -> bool
     true
 }
 
-fn net_chain(first: &Expr<'_>, more: &[Link<'_>]) -> NetTerm
+fn net_chain(first: &Expr<'_>, more: &[LinkedOperand<'_>]) -> NetTerm
     ensures { result ≡ if terms.are_terms (links_of more.now) then terms.net_terms (links_of more.now) (terms.net_term (tree first.now)) else NetTerm.Absent }
 {
     if are_terms(more) {

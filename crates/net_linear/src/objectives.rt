@@ -20,7 +20,7 @@ use net_base::{Boxed, ErrorCode, Fault, Span};
 use net_expr::{Env, Keys, Scope, index_of, reject_tree};
 use net_lex::Token;
 use net_sets::Tuple;
-use net_tree::{Braces, Expr, Link, Operands, Part, Reducer, Sign, span_of};
+use net_tree::{Braces, Expr, LinkedOperand, Operands, Part, Reducer, Sign, span_of};
 use std::alloc::Global;
 
 /// The context of an expression: the arcs, the declarations that are visible, and the dummies.
@@ -217,7 +217,7 @@ fn chained<'s>(
     alloc: Global,
     among: &FormEnv<'_, '_, 's>,
     whole: &Expr<'s>,
-    links: &[Link<'s>],
+    links: &[LinkedOperand<'s>],
     first: Option<Affine>,
 ) -> Result<Option<Affine>, Fault>
     ensures { Refines (objectives.chained among.now.arcs.now (trees.span_of (tree whole.now)) among.now.env.now among.now.scope.now
@@ -236,7 +236,7 @@ fn joined<'s>(
     alloc: Global,
     among: &FormEnv<'_, '_, 's>,
     whole: &Expr<'s>,
-    link: &Link<'s>,
+    link: &LinkedOperand<'s>,
     term: Option<Affine>,
 ) -> Result<Option<Affine>, Fault>
     ensures { Refines (and_then (objectives.objective among.now.arcs.now among.now.env.now among.now.scope.now (tree link.now.operand))
@@ -334,7 +334,7 @@ pub fn key_of<'s>(
     scope: &Scope<'s>,
     whole: &Expr<'s>,
     first: &Expr<'s>,
-    more: &[Link<'s>],
+    more: &[LinkedOperand<'s>],
 ) -> Result<Tuple<'s>, Fault>
     ensures { Refines (objectives.key_of env.now scope.now (trees.span_of (tree whole.now)) (tree first.now) (links_of more.now)) result }
 {

@@ -7,7 +7,7 @@ use Rattle.std.proofs.lemmas.Bool.{false≢true}
 use Rattle.std.proofs.lemmas.Cmp.{nat_list_eq_equiv}
 use Rattle.net_data.specs.declared.statement.Given.{Given}
 use Rattle.net_data.specs.declared.statement.NamedSet.{NamedSet}
-use Rattle.net_data.specs.Rows.{Row}
+use Rattle.net_data.specs.Rows.{DataRow}
 use Rattle.net_sets.specs.Operations.{union, product}
 use Rattle.net_sets.specs.Sets.{Tuple, same_member, same_tuple, has, at_key}
 use Rattle.net_sets.specs.Texts.{same_text}
@@ -72,10 +72,10 @@ unfolding role_of marks keys
 fits w n h = for_some (λ m. AllByRecursion (Fits (env_of w []) m) (at_least_0 ∷ []) × IsOfKind (at_least_0 ∷ []) m) (Number n) (((number (pos 0), (pos 0, n0, refl), subst (λ b. IsResult op.AtLeast (number n) (number (pos 0)) (Truth b)) h (results.at_least n (pos 0))), tt), tt)
 
 -- a row of a list, and a row of the columns
-abbrev entry : (t v : List ℕ) → Row
+abbrev entry : (t v : List ℕ) → DataRow
 entry t v = record { keys = word t ∷ []; value = numeral v }
 
-abbrev entry_at : (t u v : List ℕ) → Row
+abbrev entry_at : (t u v : List ℕ) → DataRow
 entry_at t u v = record { keys = word t ∷ word u ∷ []; value = numeral v }
 
 abbrev world_of_supply : World

@@ -14,7 +14,7 @@ use Rattle.net_data.specs.declared.statement.Statement.{Statement}
 use Rattle.net_data.specs.declared.statement.Statement.TheVariants as statements
 use Rattle.net_data.specs.declared.statement.Transposed.{Transposed}
 use Rattle.net_data.specs.Commas.{uncommaed}
-use Rattle.net_data.specs.Rows.{Row, points, row_of, groups_from, groups, table_keys, row_across, given_rows, rows, key_rows, inside_len, first_item, begins_tuple, more_items, alone_len, first_row, more_rows, set_rows_from, set_rows}
+use Rattle.net_data.specs.Rows.{DataRow, points, row_of, groups_from, groups, table_keys, row_across, given_rows, rows, key_rows, inside_len, first_item, begins_tuple, more_items, alone_len, first_row, more_rows, set_rows_from, set_rows}
 use Rattle.net_data.specs.Tests.{is_mark}
 use Rattle.net_sets.specs.declared.member.Member.{Member}
 use Rattle.net_sets.specs.Sets.{Tuple}
@@ -61,10 +61,10 @@ module _ (P : List ℕ → Type 0) where
   groups_hold size (suc n) (t ∷ ts) h = (all_take (TokenHolds P) size (t ∷ ts) h, groups_hold size n (drop size (t ∷ ts)) (all_drop (TokenHolds P) size (t ∷ ts) h))
 
   -- the keys and the value of a row hold P
-  abbrev pub RowHolds : Row → Type 0
+  abbrev pub RowHolds : DataRow → Type 0
   RowHolds r = TokensHold P r.keys × TokenHolds P r.value
 
-  abbrev pub RowsHold : List Row → Type 0
+  abbrev pub RowsHold : List DataRow → Type 0
   RowsHold rs = AllByRecursion RowHolds rs
 
   row_holds : (keys : List Token) (o : Option Token) → TokensHold P keys → OfSome (TokenHolds P) o → RowsHold (row_of keys o)
@@ -134,7 +134,7 @@ module _ (P : List ℕ → Type 0) where
   data_rows_hold size n (s ∷ ss) h = all_append RowHolds (rows_of size n s) (data_rows size n ss) (rows_of_hold size n s h.0) (data_rows_hold size n ss h.1)
 
   -- the keys of a row are the values of its tokens
-  pub row_key_holds : (r : Row) (key : Tuple) → RowHolds r → AreDataValues r.keys key → TupleHolds P key
+  pub row_key_holds : (r : DataRow) (key : Tuple) → RowHolds r → AreDataValues r.keys key → TupleHolds P key
   row_key_holds r key h z = data_values_hold r.keys key h.0 z
 
   -- ---- the rows of a set

@@ -13,13 +13,13 @@ use Rattle.net_data.specs.declared.statement.Statement.TheVariants as statements
 use Rattle.net_data.specs.declared.statement.Transposed.{Transposed}
 use Rattle.net_data.specs.declared.statement.Single.{Single}
 use Rattle.net_data.specs.declared.statement.Tables.{Tables}
-use Rattle.net_data.specs.Commas.{Place, before, place_after, skips, bare}
+use Rattle.net_data.specs.Commas.{TokenPlace, before, place_after, skips, bare}
 use Rattle.net_data.specs.Meaning.{Mean}
 use Rattle.net_data.specs.Printing as printing
 use Rattle.net_data.specs.Printing.{put_default, put_given, put_transposed, put_set, put_single, put_all}
 use Rattle.net_data.specs.Tests.{is_comma}
-use Rattle.net_tree.specs.declared.operator.Words.{Words as Operator}
-use Rattle.net_tree.specs.declared.operator.Words.TheVariants as words
+use Rattle.net_tree.specs.declared.operator.OperatorWords.{OperatorWords as Operator}
+use Rattle.net_tree.specs.declared.operator.OperatorWords.TheVariants as words
 use Rattle.net_tree.specs.Erasure.{expression, expressions, operands, clause, braces, indexing, body, phrase, condition, declaration, declarations}
 use Rattle.net_tree.specs.Print.{put_operator, put_optional, put, put_links, put_part, put_braces, put_indexing, put_body, put_phrases, put_condition, put_declaration, print}
 use Rattle.net_tree.specs.Tree.{Tree, Links, Part, Braces, leaf, indexed, parens, tuple, negated, braced, signed, reduced, chain, choice, net, none, link, absent, part, empty, filled, Body, plain, valued, priced, Phrase, Condition, unsaid, one, between, Declaration, set, param, check, node, arc, objective}
@@ -137,7 +137,7 @@ module _ (P : List ℕ → Type 0) (Q : Token → Type 0) (f : (t : Token) → Q
 
   -- ---- data statements
 
-  bare_holds : (p : Place) (ts : List Token) → All ts → All (bare p ts)
+  bare_holds : (p : TokenPlace) (ts : List Token) → All ts → All (bare p ts)
   bare_holds p [] h = tt
   bare_holds p (t ∷ ts) h = go (skips p && is_comma t) (bare_holds p ts h.1) (bare_holds (place_after p t) ts h.1)
     where

@@ -13,7 +13,7 @@ use Rattle.net_data.specs.declared.statement.DefaultValue.{DefaultValue}
 use Rattle.net_data.specs.declared.statement.NamedSet.{NamedSet}
 use Rattle.net_data.specs.declared.statement.Statement.{Statement}
 use Rattle.net_data.specs.declared.statement.Statement.TheVariants as statements
-use Rattle.net_data.specs.Rows.{Row, groups, rows, set_rows, key_rows}
+use Rattle.net_data.specs.Rows.{DataRow, groups, rows, set_rows, key_rows}
 use Rattle.net_sets.specs.declared.member.Member.{Member}
 use Rattle.net_sets.specs.declared.member.Member.TheVariants as member
 use Rattle.net_sets.specs.Operations.{union, is_within}
@@ -66,12 +66,12 @@ abbrev pub AreDataValues : List Token → Tuple → Type 0
 AreDataValues ts key = AllZip IsDataValue ts key
 
 -- the rows of a parameter in each column of a heading that names it
-abbrev pub rows_at : ℕ → ℕ → Statement → Name → List Token → List Row
+abbrev pub rows_at : ℕ → ℕ → Statement → Name → List Token → List DataRow
 rows_at size column s n [] = []
 rows_at size column s n (t ∷ ts) = (if bytes_eq t.text n then rows size column s else []) ++ rows_at size (column + 1) s n ts
 
 -- the rows that a statement has for a parameter, if it has this number of subscripts
-abbrev pub rows_of : ℕ → Name → Statement → List Row
+abbrev pub rows_of : ℕ → Name → Statement → List DataRow
 rows_of size n (statements.Set s) = []
 rows_of size n (statements.List l) = rows_at size 0 (statements.List l) n (l.name ∷ [])
 rows_of size n (statements.Table t) = rows_at size 0 (statements.Table t) n (t.name ∷ [])
@@ -159,7 +159,7 @@ pub record IsSet (w : World) (ss : List Statement) (n : Name) (ps : List Phrase)
 -- ---- parameters
 
 -- the rows of the data for a parameter
-abbrev pub data_rows : ℕ → Name → List Statement → List Row
+abbrev pub data_rows : ℕ → Name → List Statement → List DataRow
 data_rows size n ss = flat_map (rows_of size n) ss
 
 -- the defaults of the data for a parameter
@@ -168,12 +168,12 @@ data_defaults n ss = filter_map (default_in n) ss
 
 -- the data have no row for the key
 abbrev pub HasNoRow : ℕ → Name → List Statement → Tuple → Type 0
-HasNoRow size n ss key = AllByRecursion (λ (r : Row). AreDataValues r.keys key → ⊥) (data_rows size n ss)
+HasNoRow size n ss key = AllByRecursion (λ (r : DataRow). AreDataValues r.keys key → ⊥) (data_rows size n ss)
 
 -- the value of a parameter at a key, or None if it has no value there. It comes from the first of these sources: the data's row for this key,
 -- the expression after `:=`, the data's default, the expression after `default`
 pub data IsParameterValue (ss : List Statement) (n : Name) (ps : List Phrase) (size : ℕ) (k : Key) : Option Member → Type 0 where
-  row : (r : Row) (m : Member) → Contains (data_rows size n ss) r → AreDataValues r.keys k.key → IsDataValue r.value m → IsParameterValue ss n ps size k (Some m)
+  row : (r : DataRow) (m : Member) → Contains (data_rows size n ss) r → AreDataValues r.keys k.key → IsDataValue r.value m → IsParameterValue ss n ps size k (Some m)
   assigned : (x : Expression) (m : Member) → HasNoRow size n ss k.key → phrase_value is_becomes ps ≡ Some x → IsValue k.env x (One m) → IsParameterValue ss n ps size k (Some m)
   data_default : (t : Token) (m : Member) → HasNoRow size n ss k.key → phrase_value is_becomes ps ≡ None → Contains (data_defaults n ss) t → IsDataValue t m → IsParameterValue ss n ps size k (Some m)
   default : (x : Expression) (m : Member) → HasNoRow size n ss k.key → phrase_value is_becomes ps ≡ None → data_defaults n ss ≡ [] → phrase_value is_default ps ≡ Some x → IsValue k.env x (One m)
@@ -234,7 +234,7 @@ pub record IsParameter (w : World) (ss : List Statement) (n : Name) (b : Option 
   -- each row of the data is whole and for one of the keys, and no key has two rows
   pub whole : AllByRecursion (HasWholeRows size n) ss
   pub subscripts : List Tuple
-  pub read : AllZip (λ (r : Row) key. AreDataValues r.keys key) (data_rows size n ss) subscripts
+  pub read : AllZip (λ (r : DataRow) key. AreDataValues r.keys key) (data_rows size n ss) subscripts
   pub inside : AllByRecursion (λ key. IsTrue (has (keys_of keys) key)) subscripts
   pub once : IsDistinct same_tuple subscripts
   -- a parameter with `:=` has no data, and the data have at most one default

@@ -1,9 +1,9 @@
 -- The tokens of a model are parsed, or have a first error: the parser of the definitions reads to the end and never runs out of memory.
 use Rattle.std.specs.Prelude.{◌≡◌, ◌≤◌, ℕ, zero, suc, false, List, [], ◌∷◌, length, Option, None, Some, Ok, Err}
 use Rattle.std.proofs.Common.{refl, ap, ◌∙◌, arith}
-use Rattle.net_resolve.specs.Names.{names_fault}
-use Rattle.net_resolve.specs.Reported as names
-use Rattle.net_resolve.specs.Reported.{diagnostic_of}
+use Rattle.net_names.specs.Names.{names_fault}
+use Rattle.net_names.specs.Reported as names
+use Rattle.net_names.specs.Reported.{diagnostic_of}
 use Rattle.net_tree.specs.Tree.{Declaration}
 use Rattle.net_model.specs.declared.model_parser.ParseError.TheVariants as stops
 use Rattle.net_model.specs.Reading.{Tokens, Read}

@@ -2,7 +2,7 @@
 use Rattle.std.proofs.Common.{◌≡◌, ℕ, List, [], ◌∷◌, None, Ok, Err, inl, inr, refl, codes, arith}
 use Rattle.net_lex.specs.declared.token.Kind.TheVariants.{Name, Key, Num, Mark}
 use Rattle.net_lex.specs.declared.token.Token.{Token}
-use Rattle.net_tree.specs.declared.operator.Words.TheVariants.{One}
+use Rattle.net_tree.specs.declared.operator.OperatorWords.TheVariants.{One}
 use Rattle.net_tree.specs.Role.{role_of, keys, marks}
 use Rattle.net_tree.specs.Tree.{Tree, leaf, reduced, chain, net, none, link, absent, filled, valued, Phrase, one, Declaration, check, node}
 use Rattle.net_tree.specs.WellFormed.{IsWellFormed}

@@ -3,7 +3,7 @@ use Rattle.std.specs.Prelude.{◌≡◌, ◌≤◌, ◌<◌, ◌⊎◌, ℕ, suc
 use Rattle.std.proofs.Common.{refl, subst, arith}
 use Rattle.std.proofs.lemmas.Bool.Decides.{nat_tests}
 use Rattle.net_lex.specs.declared.token.Token.{Token}
-use Rattle.net_tree.specs.declared.operator.Words.TheVariants.{One, Two}
+use Rattle.net_tree.specs.declared.operator.OperatorWords.TheVariants.{One, Two}
 use Rattle.net_tree.specs.Erasure.{expression, expressions, operands, clause, braces, indexing}
 use Rattle.net_tree.specs.Precedence.{of_reduction, of_product, of_sum, of_union, of_relation, of_or, of_if}
 use Rattle.net_tree.specs.Print.{put, put_links, put_part, put_braces, put_indexing}

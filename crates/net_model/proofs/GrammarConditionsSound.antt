@@ -6,8 +6,8 @@ use Rattle.net_lex.specs.declared.token.Token.{Token}
 use Rattle.net_lex.specs.Productions.{mark}
 use Rattle.net_tree.specs.declared.operator.BinOp.{BinOp}
 use Rattle.net_tree.specs.declared.operator.BinOp.TheVariants as op
-use Rattle.net_tree.specs.declared.operator.Words.{Words}
-use Rattle.net_tree.specs.declared.operator.Words.TheVariants.{One, Two}
+use Rattle.net_tree.specs.declared.operator.OperatorWords.{OperatorWords}
+use Rattle.net_tree.specs.declared.operator.OperatorWords.TheVariants.{One, Two}
 use Rattle.net_tree.specs.declared.role.Role.{Role}
 use Rattle.net_tree.specs.declared.role.Role.TheVariants as roles
 use Rattle.net_tree.specs.Erasure.{expression, operands, condition}
@@ -87,7 +87,7 @@ record AreTermsOf (os : forms.Operands) (ts rest : List Token) : Type 0 where
   pub level : trees.AreTerms links
   pub same : operands links ≡ os
 
-terms-link : (w : Words) (o : BinOp) (x : forms.Expression) (os : forms.Operands) (ts m1 m2 rest : List Token) → put_operator w m1 ≡ ts → IsOperator w → operation w ≡ o
+terms-link : (w : OperatorWords) (o : BinOp) (x : forms.Expression) (os : forms.Operands) (ts m1 m2 rest : List Token) → put_operator w m1 ≡ ts → IsOperator w → operation w ≡ o
     → joins of_product 0 (role_of (head_of w)) ≡ true → IsTermOf trees.IsFurtherTerm x m1 m2 → AreTermsOf os m2 rest → AreTermsOf (forms.apply o x os) ts rest
 terms-link (One t) o x os ts m1 m2 rest text level same joint sx sl =
     record { links = link (One t) sx.tree sl.links; text = cc (text, sx.text, sl.text); level = (sum-sign t joint, sx.level, sl.level); same = cc (same, sx.same, sl.same) }

@@ -8,8 +8,8 @@ use Rattle.net_lex.specs.declared.token.Token.{Token}
 use Rattle.net_lex.specs.Productions.{literal}
 use Rattle.net_tree.specs.declared.operator.BinOp.{BinOp}
 use Rattle.net_tree.specs.declared.operator.BinOp.TheVariants as op
-use Rattle.net_tree.specs.declared.operator.Words.{Words}
-use Rattle.net_tree.specs.declared.operator.Words.TheVariants.{One, Two}
+use Rattle.net_tree.specs.declared.operator.OperatorWords.{OperatorWords}
+use Rattle.net_tree.specs.declared.operator.OperatorWords.TheVariants.{One, Two}
 use Rattle.net_tree.specs.declared.role.Relation.TheVariants as relations
 use Rattle.net_tree.specs.declared.role.Role.{Role}
 use Rattle.net_tree.specs.declared.role.Role.TheVariants as roles
@@ -196,7 +196,7 @@ two-joined n k t u rest j is membership =
           ),
         ) h
 
-pub operators-complete : (n k : ℕ) (w : Words) (rest : List Token) → 0 < n → joins n k (role_of (head_of w)) ≡ true → trees.IsOperator w → IsOperator k n (operation w) (put_operator w rest) rest
+pub operators-complete : (n k : ℕ) (w : OperatorWords) (rest : List Token) → 0 < n → joins n k (role_of (head_of w)) ≡ true → trees.IsOperator w → IsOperator k n (operation w) (put_operator w rest) rest
 operators-complete n k (One t) rest some j other =
     go (token-spelled is_joint t (refl, refl, refl, refl) (joins-joint n k (role_of t) some j other))
   where

@@ -10,7 +10,7 @@ use Rattle.net_tree.specs.Print.{put, put_links, put_part, put_braces, put_index
 use Rattle.net_tree.specs.Role.{marks, role_of, is_not}
 use Rattle.net_tree.specs.Syntax as forms
 use Rattle.net_tree.specs.Tree.{Tree, Links, Part, Braces, leaf, indexed, parens, tuple, negated, braced, signed, reduced, chain, choice, net, none, link, absent, part, empty, filled}
-use Rattle.net_tree.specs.declared.operator.Words.TheVariants.{One}
+use Rattle.net_tree.specs.declared.operator.OperatorWords.TheVariants.{One}
 use Rattle.net_tree.specs.WellFormed.{precedence, is_value, IsWellFormed, AreWellFormed, AreBraces}
 use Rattle.net_tree.specs.WellFormed as trees
 use Rattle.net_tree.specs.Declarations as declarations

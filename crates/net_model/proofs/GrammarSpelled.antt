@@ -11,8 +11,8 @@ use Rattle.net_tree.specs.declared.operator.BinOp.{BinOp}
 use Rattle.net_tree.specs.declared.operator.BinOp.TheVariants as op
 use Rattle.net_tree.specs.declared.operator.Reduction.{Reduction}
 use Rattle.net_tree.specs.declared.operator.Reduction.TheVariants as reductions
-use Rattle.net_tree.specs.declared.operator.Words.{Words}
-use Rattle.net_tree.specs.declared.operator.Words.TheVariants.{One, Two}
+use Rattle.net_tree.specs.declared.operator.OperatorWords.{OperatorWords}
+use Rattle.net_tree.specs.declared.operator.OperatorWords.TheVariants.{One, Two}
 use Rattle.net_tree.specs.declared.role.Role.{Role}
 use Rattle.net_tree.specs.Operations.{operation, operations, operation_in, denied, is_minus, reduction, is_outflow}
 use Rattle.net_tree.specs.Precedence.{of_operands, of_or}
@@ -119,7 +119,7 @@ reducer-sound reductions.Max ts rest (t, h, e) = record { token = t; text = e; r
 
 -- the words of an operator
 pub record Spelled (o : BinOp) (n : ℕ) (ts rest : List Token) : Type 0 where
-  pub words : Words
+  pub words : OperatorWords
   pub text : put_operator words rest ≡ ts
   pub level : trees.IsOperator words
   pub same : operation words ≡ o

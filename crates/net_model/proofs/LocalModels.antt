@@ -2,7 +2,7 @@
 use Rattle.std.specs.Prelude.{◌≡◌, ◌≤◌, ◌<◌, ℕ, zero, suc, Bool, true, false, cond, [], ◌∷◌, length, Option, None, Some, Ok}
 use Rattle.std.proofs.Common.{refl, sym, ap, ◌∙◌, arith}
 use Rattle.net_lex.specs.declared.token.Token.{Token}
-use Rattle.net_tree.specs.declared.operator.Words.{Words as Operator}
+use Rattle.net_tree.specs.declared.operator.OperatorWords.{OperatorWords as Operator}
 use Rattle.net_tree.specs.declared.role.Declares.{Declares}
 use Rattle.net_tree.specs.declared.role.Declares.TheVariants as declares
 use Rattle.net_tree.specs.declared.role.Role.{Role}

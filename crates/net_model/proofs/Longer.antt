@@ -2,8 +2,8 @@
 use Rattle.std.specs.Prelude.{◌≤◌, ◌<◌, List, [], ◌∷◌, length, Option, None, Some}
 use Rattle.std.proofs.Common.{arith}
 use Rattle.net_lex.specs.declared.token.Token.{Token}
-use Rattle.net_tree.specs.declared.operator.Words.{Words as Operator}
-use Rattle.net_tree.specs.declared.operator.Words.TheVariants.{One, Two}
+use Rattle.net_tree.specs.declared.operator.OperatorWords.{OperatorWords as Operator}
+use Rattle.net_tree.specs.declared.operator.OperatorWords.TheVariants.{One, Two}
 use Rattle.net_tree.specs.Tree.{Tree, Links, Part, Braces, leaf, indexed, parens, tuple, negated, braced, signed, reduced, chain, choice, net, none, link, absent, part, empty, filled, Body, plain, valued, priced, Phrase, Condition, unsaid, one, between, Declaration, set, param, check, node, arc, objective}
 use Rattle.net_tree.specs.Print.{put, put_links, put_part, put_braces, put_operator, put_optional, put_indexing, put_body, put_phrases, put_condition, put_declaration}
 

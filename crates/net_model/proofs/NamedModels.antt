@@ -2,9 +2,9 @@
 use Rattle.std.specs.Prelude.{◌≡◌, List, [], Option, None, Some, Result, Ok, Err}
 use Rattle.std.proofs.Common.{refl, ap, ◌∙◌, subst}
 use Rattle.net_tree.specs.Tree.{Declaration}
-use Rattle.net_resolve.specs.Names.{names_fault, IsWellNamed}
-use Rattle.net_resolve.specs.Reported as names
-use Rattle.net_resolve.specs.Reported.{ReportsOf}
+use Rattle.net_names.specs.Names.{names_fault, IsWellNamed}
+use Rattle.net_names.specs.Reported as names
+use Rattle.net_names.specs.Reported.{ReportsOf}
 use Rattle.net_base.specs.declared.diagnostic.Fault.{Fault}
 use Rattle.net_base.specs.declared.diagnostic.Fault.TheVariants as faults
 use Rattle.net_model.specs.Declarations.{model_at, nesting_limit}

@@ -1,8 +1,8 @@
 -- Reading links one after the other.
 use Rattle.std.specs.Prelude.{◌≡◌, ◌≤◌, ◌+◌, ◌-◌, ℕ, zero, suc, Bool, true, false, cond, List, [], ◌∷◌, ◌++◌, length, Ok, Err}
 use Rattle.std.proofs.Common.{refl, sym, ap, ◌∙◌, arith, length-append}
-use Rattle.net_tree.specs.declared.operator.Words.{Words as Operator}
-use Rattle.net_tree.specs.declared.expr.Link.{Link}
+use Rattle.net_tree.specs.declared.operator.OperatorWords.{OperatorWords as Operator}
+use Rattle.net_tree.specs.declared.expr.LinkedOperand.{LinkedOperand}
 use Rattle.net_tree.specs.declared.role.Role.{Role}
 use Rattle.net_tree.specs.Tree.{Tree, Links, none, link}
 use Rattle.net_tree.specs.WellFormed.{joins}
@@ -71,18 +71,18 @@ with_links-twice : (f g : Links) (w : Read Links) → with_links f (with_links g
 with_links-twice f g (Ok l) = ap (λ k. read_as k l.1) (joined-assoc f g l.0)
 with_links-twice f g (Err s) = refl
 
-links_of-append : (ls : List Link) (l : Link) (o : Operator) (x : Tree) → link_of l ≡ (o, x) → links_of (ls ++ l ∷ []) ≡ joined (links_of ls) (link o x none)
+links_of-append : (ls : List LinkedOperand) (l : LinkedOperand) (o : Operator) (x : Tree) → link_of l ≡ (o, x) → links_of (ls ++ l ∷ []) ≡ joined (links_of ls) (link o x none)
 links_of-append [] l o x e = ap (λ (q : Operator × Tree). link q.0 q.1 none) e
 links_of-append (m ∷ ls) l o x e = ap (link (link_of m).0 (link_of m).1) (links_of-append ls l o x e)
 
 -- the loop's end
-pub all_read : (found : List Link) (turns j k : ℕ) (p : Reader) (ts : Tokens) (all : Read Links) → next_is (joins j k) ts ≡ false
+pub all_read : (found : List LinkedOperand) (turns j k : ℕ) (p : Reader) (ts : Tokens) (all : Read Links) → next_is (joins j k) ts ≡ false
     → with_links (links_of found) (links turns j k p ts) ≡ all → all ≡ Ok (links_of found, ts)
 all_read found turns j k p ts all h e =
     sym e ∙ ap (with_links (links_of found)) (links-over turns j k p ts h) ∙ ap (λ k. read_as k ts) (joined-none (links_of found))
 
 -- the loop's turn
-pub one_read : (found more : List Link) (l : Link) (whole j k : ℕ) (p : Reader) (ts : Tokens) (o : Operator) (x : Tree) (a r : Tokens) (all : Read Links)
+pub one_read : (found more : List LinkedOperand) (l : LinkedOperand) (whole j k : ℕ) (p : Reader) (ts : Tokens) (o : Operator) (x : Tree) (a r : Tokens) (all : Read Links)
     → k ≡ length found → length found + length ts ≤ whole → next_is (joins j k) ts ≡ true → operator_at ts ≡ Ok (o, a) → p a ≡ Ok (x, r)
     → link_of l ≡ (o, x) → more ≡ found ++ l ∷ []
     → with_links (links_of found) (links (whole - length found) j (length found) p ts) ≡ all
@@ -109,7 +109,7 @@ fails stops.OutOfMemory part whole h onward = tt
 fails (stops.Rejected n a) part whole h onward = onward (stops.Rejected n a) h
 fails (stops.TooDeep n) part whole h onward = onward (stops.TooDeep n) h
 
-pub no_operator : (found : List Link) (whole j k : ℕ) (p : Reader) (ts : Tokens) (all : Read Links) (s : ParseError)
+pub no_operator : (found : List LinkedOperand) (whole j k : ℕ) (p : Reader) (ts : Tokens) (all : Read Links) (s : ParseError)
     → k ≡ length found → length found + length ts ≤ whole → next_is (joins j k) ts ≡ true
     → with_links (links_of found) (links (whole - length found) j (length found) p ts) ≡ all → Fails s (operator_at ts) → Fails s all
 no_operator found whole j k p ts all s same room h before stopped =
@@ -119,7 +119,7 @@ no_operator found whole j k p ts all s same room h before stopped =
     let joins_here : next_is (joins j (length found)) ts ≡ true = sym (ap (λ n. next_is (joins j n) ts) same) ∙ h in
     sym before ∙ ap (with_links (links_of found)) (links-no_operator (whole - length found) j (length found) p ts t some joins_here e))
 
-pub no_operand : (found : List Link) (whole j k : ℕ) (p : Reader) (ts : Tokens) (o : Operator) (a : Tokens) (all : Read Links) (s : ParseError)
+pub no_operand : (found : List LinkedOperand) (whole j k : ℕ) (p : Reader) (ts : Tokens) (o : Operator) (a : Tokens) (all : Read Links) (s : ParseError)
     → k ≡ length found → length found + length ts ≤ whole → next_is (joins j k) ts ≡ true → operator_at ts ≡ Ok (o, a)
     → with_links (links_of found) (links (whole - length found) j (length found) p ts) ≡ all → Fails s (p a) → Fails s all
 no_operand found whole j k p ts o a all s same room h e before stopped =

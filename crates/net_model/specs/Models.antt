@@ -5,9 +5,9 @@ use Rattle.net_tree.specs.declared.declaration.Model.{Model}
 use Rattle.net_tree.specs.Tree.{Declaration}
 use Rattle.net_tree.specs.View as view
 use Rattle.net_base.specs.declared.error_code.ErrorCode.{ErrorCode}
-use Rattle.net_resolve.specs.Reported as names
-use Rattle.net_resolve.specs.Reported.{diagnostic_of}
-use Rattle.net_resolve.specs.Names.{names_fault}
+use Rattle.net_names.specs.Reported as names
+use Rattle.net_names.specs.Reported.{diagnostic_of}
+use Rattle.net_names.specs.Names.{names_fault}
 use Rattle.net_base.specs.declared.diagnostic.Diagnostic.{Diagnostic}
 use Rattle.net_base.specs.declared.diagnostic.Fault.{Fault}
 use Rattle.net_base.specs.declared.diagnostic.Fault.TheVariants as faults

@@ -13,7 +13,7 @@ use crate::choices::introduced;
 use crate::expected::Expected;
 use crate::model_parser::{Awaiting, ParseError};
 use crate::stored::{Carried, Stored, boxed};
-use crate::token_cursor::{Cursor, expect};
+use crate::token_cursor::{TokenCursor, expect};
 use net_base::Boxed;
 use net_lex::Token;
 use net_tree::{Braces, Expr, Operands, Part, Reducer, precedence};
@@ -24,7 +24,7 @@ use std::alloc::Global;
 pub(crate) fn braces_of<'t, 's>(
     alloc: Global,
     depth: u8,
-    tokens: &mut Cursor<'t, 's>,
+    tokens: &mut TokenCursor<'t, 's>,
 ) -> Result<Stored<Braces<'s>>, ParseError>
     ensures value { Gives braces_of result tokens.new (grammar.braces (nested depth) tokens.old) }
     ensures shorter { IfOk result (λ x. length tokens.new < length tokens.old) }
@@ -45,7 +45,7 @@ pub(crate) fn braces_inside<'t, 's>(
     alloc: Global,
     depth: u8,
     opening: Token<'s>,
-    tokens: &mut Cursor<'t, 's>,
+    tokens: &mut TokenCursor<'t, 's>,
 ) -> Result<Stored<Braces<'s>>, ParseError>
     ensures value { Gives braces_of result tokens.new (grammar.braces_at (inner_of (nested depth)) opening.entry tokens.old) }
     ensures shorter { IfOk result (λ x. length tokens.new < length tokens.old) }
@@ -64,7 +64,7 @@ fn hollow_inside<'t, 's>(
     alloc: Global,
     depth: u8,
     opening: Token<'s>,
-    tokens: &mut Cursor<'t, 's>,
+    tokens: &mut TokenCursor<'t, 's>,
 ) -> Result<Stored<Braces<'s>>, ParseError>
     ensures value { Gives braces_of result tokens.new (grammar.empty_braces_at (inner_of (nested depth)) opening.entry tokens.old) }
     ensures shorter { IfOk result (λ x. length tokens.new < length tokens.old) }
@@ -81,7 +81,7 @@ fn items_inside<'t, 's>(
     alloc: Global,
     depth: u8,
     opening: Token<'s>,
-    tokens: &mut Cursor<'t, 's>,
+    tokens: &mut TokenCursor<'t, 's>,
 ) -> Result<Stored<Braces<'s>>, ParseError>
     ensures value { Gives braces_of result tokens.new (grammar.items_at (inner_of (nested depth)) opening.entry tokens.old) }
     ensures shorter { IfOk result (λ x. length tokens.new < length tokens.old) }
@@ -113,7 +113,7 @@ fn items_inside<'t, 's>(
 fn filter_of<'t, 's>(
     alloc: Global,
     depth: u8,
-    tokens: &mut Cursor<'t, 's>,
+    tokens: &mut TokenCursor<'t, 's>,
 ) -> Result<Carried<Option<Boxed<Part<'s>>>>, ParseError>
     ensures value { Gives option_part result tokens.new (grammar.filter_at (inner_of (nested depth)) tokens.old) }
     ensures shorter { IfOk result (λ x. length tokens.new ≤ length tokens.old) }
@@ -135,7 +135,7 @@ pub(crate) fn reduced_inside<'t, 's>(
     alloc: Global,
     depth: u8,
     word: Token<'s>,
-    tokens: &mut Cursor<'t, 's>,
+    tokens: &mut TokenCursor<'t, 's>,
 ) -> Result<Stored<Expr<'s>>, ParseError>
     ensures value { Gives tree result tokens.new (grammar.reduction_at (inner_of (nested depth)) word.entry tokens.old) }
     ensures shorter { IfOk result (λ x. length tokens.new < length tokens.old) }
@@ -164,7 +164,7 @@ fn reduced<'s>(
 fn body_inside<'t, 's>(
     alloc: Global,
     depth: u8,
-    tokens: &mut Cursor<'t, 's>,
+    tokens: &mut TokenCursor<'t, 's>,
 ) -> Result<Stored<Expr<'s>>, ParseError>
     ensures value { Gives tree result tokens.new (grammar.climb of_product (unary (nested depth)) tokens.old) }
     ensures shorter { IfOk result (λ x. length tokens.new < length tokens.old) }

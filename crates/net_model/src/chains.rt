@@ -12,9 +12,9 @@ ghost use Rattle.net_model.specs.declared.model_parser.ParseError.TheVariants.{O
 use crate::expressions::unary_of;
 use crate::model_parser::ParseError;
 use crate::stored::{Carried, Stored, boxed, push};
-use crate::token_cursor::{Cursor, operator_at};
+use crate::token_cursor::{TokenCursor, operator_at};
 use net_base::Items;
-use net_tree::{Expr, Link, Operands, Operator, precedence};
+use net_tree::{Expr, LinkedOperand, Operands, Operator, precedence};
 use std::alloc::Global;
 
 /// Parses a tree of at most this precedence, up to an `or`.
@@ -23,7 +23,7 @@ pub(crate) fn climb_to<'t, 's>(
     alloc: Global,
     depth: u8,
     max_precedence: u8,
-    tokens: &mut Cursor<'t, 's>,
+    tokens: &mut TokenCursor<'t, 's>,
 ) -> Result<Stored<Expr<'s>>, ParseError>
     ensures value { Gives tree result tokens.new (grammar.climb max_precedence (unary (nested depth)) tokens.old) }
     ensures shorter { IfOk result (λ x. length tokens.new < length tokens.old) }
@@ -42,7 +42,7 @@ fn chain_of<'t, 's>(
     alloc: Global,
     depth: u8,
     max_precedence: u8,
-    tokens: &mut Cursor<'t, 's>,
+    tokens: &mut TokenCursor<'t, 's>,
 ) -> Result<Stored<Expr<'s>>, ParseError>
     ensures value { Gives tree result tokens.new (grammar.chain_at max_precedence (grammar.climb max_precedence (unary (nested depth))) tokens.old) }
     ensures shorter { IfOk result (λ x. length tokens.new < length tokens.old) }
@@ -58,8 +58,8 @@ fn chain_links<'t, 's>(
     alloc: Global,
     depth: u8,
     max_precedence: u8,
-    tokens: &mut Cursor<'t, 's>,
-) -> Result<Carried<Items<Link<'s>>>, ParseError>
+    tokens: &mut TokenCursor<'t, 's>,
+) -> Result<Carried<Items<LinkedOperand<'s>>>, ParseError>
     ensures value { Gives links_of result tokens.new (grammar.all_links max_precedence (grammar.climb max_precedence (unary (nested depth))) tokens.old) }
     ensures shorter { IfOk result (λ x. length tokens.new ≤ length tokens.old) }
 {
@@ -88,8 +88,8 @@ pub(crate) fn links_from<'t, 's>(
     depth: u8,
     joining: u8,
     max_precedence: u8,
-    tokens: &mut Cursor<'t, 's>,
-) -> Result<Carried<Items<Link<'s>>>, ParseError>
+    tokens: &mut TokenCursor<'t, 's>,
+) -> Result<Carried<Items<LinkedOperand<'s>>>, ParseError>
     ensures value { Gives links_of result tokens.new (grammar.all_links joining (grammar.climb max_precedence (unary (nested depth))) tokens.old) }
     ensures shorter { IfOk result (λ x. length tokens.new ≤ length tokens.old) }
 {
@@ -123,17 +123,17 @@ pub(crate) fn linked<'s>(
     alloc: Global,
     operator: Carried<Operator<'s>>,
     operand: Stored<Expr<'s>>,
-) -> Result<Stored<Link<'s>>, ParseError>
+) -> Result<Stored<LinkedOperand<'s>>, ParseError>
     ensures value { IfOk result (λ l. link_of l ≡ (operator.entry, tree operand.entry)) }
     ensures memory { IfErr result (λ e. e ≡ OutOfMemory) }
 {
     let operator = operator.into_inner();
     let operand = operand.into_inner();
-    Stored::new(alloc, Link { operator, operand })
+    Stored::new(alloc, LinkedOperand { operator, operand })
 }
 
 /// Returns whether there are no links.
-pub(crate) fn is_none(links: &Items<Link<'_>>) -> bool
+pub(crate) fn is_none(links: &Items<LinkedOperand<'_>>) -> bool
     ensures { result ≡ is_none (links_of links.now) }
 {
     match links.as_slice() {
@@ -148,7 +148,7 @@ pub(crate) fn chained<'s>(
     alloc: Global,
     max_precedence: u8,
     first: Stored<Expr<'s>>,
-    more: Carried<Items<Link<'s>>>,
+    more: Carried<Items<LinkedOperand<'s>>>,
 ) -> Result<Stored<Expr<'s>>, ParseError>
     ensures value { IfOk result (λ x. tree x ≡ chained max_precedence (tree first.entry) (links_of more.entry)) }
     ensures memory { IfErr result (λ e. e ≡ OutOfMemory) }

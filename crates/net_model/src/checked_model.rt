@@ -2,7 +2,7 @@
 
 ghost use Rattle.std.specs.Prelude.{◌≡◌};
 
-use net_resolve::Hints;
+use net_names::Hints;
 use std::marker::Model;
 
 /// A model whose names are checked, with hints for its evaluation. Contracts see only the model.

@@ -12,7 +12,7 @@ use crate::chains::climb_to;
 use crate::expected::Expected;
 use crate::model_parser::{Awaiting, ParseError};
 use crate::stored::{Carried, Stored, boxed};
-use crate::token_cursor::{Cursor, expect};
+use crate::token_cursor::{TokenCursor, expect};
 use net_base::Boxed;
 use net_lex::Token;
 use net_tree::{Expr, Part, precedence};
@@ -25,7 +25,7 @@ pub(crate) fn wide_of<'t, 's>(
     alloc: Global,
     depth: u8,
     max_precedence: u8,
-    tokens: &mut Cursor<'t, 's>,
+    tokens: &mut TokenCursor<'t, 's>,
 ) -> Result<Stored<Expr<'s>>, ParseError>
     ensures value { Gives tree result tokens.new (grammar.wide (nested depth) max_precedence tokens.old) }
     ensures shorter { IfOk result (λ x. length tokens.new < length tokens.old) }
@@ -42,7 +42,7 @@ pub(crate) fn wide_of<'t, 's>(
 fn if_of<'t, 's>(
     alloc: Global,
     depth: u8,
-    tokens: &mut Cursor<'t, 's>,
+    tokens: &mut TokenCursor<'t, 's>,
 ) -> Result<Stored<Expr<'s>>, ParseError>
     ensures value { Gives tree result tokens.new (grammar.if_at (nested depth) tokens.old) }
     ensures shorter { IfOk result (λ x. length tokens.new < length tokens.old) }
@@ -64,7 +64,7 @@ pub(crate) fn introduced<'t, 's>(
     depth: u8,
     max_precedence: u8,
     mark: Token<'s>,
-    tokens: &mut Cursor<'t, 's>,
+    tokens: &mut TokenCursor<'t, 's>,
 ) -> Result<Stored<Part<'s>>, ParseError>
     ensures value { Gives (λ p. (part_of p).1) result tokens.new (grammar.climb max_precedence (unary (nested depth)) tokens.old) }
     ensures mark { IfOk result (λ p. (part_of p).0 ≡ mark.entry) }
@@ -81,7 +81,7 @@ fn choice_inside<'t, 's>(
     alloc: Global,
     depth: u8,
     word: Token<'s>,
-    tokens: &mut Cursor<'t, 's>,
+    tokens: &mut TokenCursor<'t, 's>,
 ) -> Result<Stored<Expr<'s>>, ParseError>
     ensures value { Gives tree result tokens.new (grammar.conditional_at (inner_of (nested depth)) word.entry tokens.old) }
     ensures shorter { IfOk result (λ x. length tokens.new < length tokens.old) }
@@ -104,7 +104,7 @@ fn choice_inside<'t, 's>(
 fn otherwise_of<'t, 's>(
     alloc: Global,
     depth: u8,
-    tokens: &mut Cursor<'t, 's>,
+    tokens: &mut TokenCursor<'t, 's>,
 ) -> Result<Carried<Option<Boxed<Part<'s>>>>, ParseError>
     ensures value { Gives option_part result tokens.new (grammar.part_at sorts.Else ((inner_of (nested depth)).wide of_union) tokens.old) }
     ensures shorter { IfOk result (λ x. length tokens.new ≤ length tokens.old) }

@@ -15,17 +15,17 @@ use crate::chains::{chained, climb_to, linked};
 use crate::expected::{Expected, is_sort};
 use crate::model_parser::{Awaiting, ParseError};
 use crate::stored::{Carried, Stored, boxed, push};
-use crate::token_cursor::{Cursor, expect, operator_at};
+use crate::token_cursor::{TokenCursor, expect, operator_at};
 use net_base::Items;
 use net_lex::Token;
-use net_tree::{Expr, Link, NetCond, NetWord, Relation, Role, Sign, Terminal, precedence};
+use net_tree::{Expr, LinkedOperand, NetCond, NetWord, Relation, Role, Sign, Terminal, precedence};
 use std::alloc::Global;
 
 /// Parses `net_in` or `net_out`.
 #[tactic(auto, using(net_tree::proofs::Views::views), unfolding(crate::specs::Conditions::net_at))]
 fn net_at<'t, 's>(
     alloc: Global,
-    tokens: &mut Cursor<'t, 's>,
+    tokens: &mut TokenCursor<'t, 's>,
 ) -> Result<Stored<Expr<'s>>, ParseError>
     ensures value { Gives tree result tokens.new (grammar.net_at tokens.old) }
     ensures shorter { IfOk result (λ x. length tokens.new < length tokens.old) }
@@ -38,7 +38,7 @@ fn net_at<'t, 's>(
 /// Parses a net term, after which no other is allowed.
 fn only_net_at<'t, 's>(
     alloc: Global,
-    tokens: &mut Cursor<'t, 's>,
+    tokens: &mut TokenCursor<'t, 's>,
 ) -> Result<(Stored<Expr<'s>>, bool), ParseError>
     ensures value { Gives (λ x. (tree x.0, x.1)) result tokens.new (grammar.only_net_at tokens.old) }
     ensures shorter { IfOk result (λ x. length tokens.new < length tokens.old) }
@@ -50,7 +50,7 @@ fn only_net_at<'t, 's>(
 #[tactic(auto, using(net_tree::proofs::Views::views), unfolding(crate::specs::Conditions::signed_net_at))]
 fn signed_net_at<'t, 's>(
     alloc: Global,
-    tokens: &mut Cursor<'t, 's>,
+    tokens: &mut TokenCursor<'t, 's>,
 ) -> Result<Stored<Expr<'s>>, ParseError>
     ensures value { Gives tree result tokens.new (grammar.signed_net_at tokens.old) }
     ensures shorter { IfOk result (λ x. length tokens.new < length tokens.old) }
@@ -67,7 +67,7 @@ fn term_at<'t, 's>(
     alloc: Global,
     depth: u8,
     free: bool,
-    tokens: &mut Cursor<'t, 's>,
+    tokens: &mut TokenCursor<'t, 's>,
 ) -> Result<(Stored<Expr<'s>>, bool), ParseError>
     ensures value { Gives (λ x. (tree x.0, x.1)) result tokens.new (grammar.term_at (nested depth) free tokens.old) }
     ensures shorter { IfOk result (λ x. length tokens.new < length tokens.old) }
@@ -85,7 +85,7 @@ fn first_term_at<'t, 's>(
     alloc: Global,
     depth: u8,
     free: bool,
-    tokens: &mut Cursor<'t, 's>,
+    tokens: &mut TokenCursor<'t, 's>,
 ) -> Result<(Stored<Expr<'s>>, bool), ParseError>
     ensures value { Gives (λ x. (tree x.0, x.1)) result tokens.new (grammar.first_term_at (nested depth) free tokens.old) }
     ensures shorter { IfOk result (λ x. length tokens.new < length tokens.old) }
@@ -103,8 +103,8 @@ fn further_term_at<'t, 's>(
     alloc: Global,
     depth: u8,
     free: bool,
-    tokens: &mut Cursor<'t, 's>,
-) -> Result<(Stored<Link<'s>>, bool), ParseError>
+    tokens: &mut TokenCursor<'t, 's>,
+) -> Result<(Stored<LinkedOperand<'s>>, bool), ParseError>
     ensures value { Gives (λ x. (link_of x.0, x.1)) result tokens.new (grammar.further_term_at (nested depth) free tokens.old) }
     ensures shorter { IfOk result (λ x. length tokens.new < length tokens.old) }
 {
@@ -119,8 +119,8 @@ fn further_terms<'t, 's>(
     alloc: Global,
     depth: u8,
     first: bool,
-    tokens: &mut Cursor<'t, 's>,
-) -> Result<(Carried<Items<Link<'s>>>, bool), ParseError>
+    tokens: &mut TokenCursor<'t, 's>,
+) -> Result<(Carried<Items<LinkedOperand<'s>>>, bool), ParseError>
     ensures value { Gives (λ x. (map link_of x.0, x.1)) result tokens.new (grammar.further_terms (nested depth) first tokens.old) }
     ensures shorter { IfOk result (λ x. length tokens.new ≤ length tokens.old) }
 {
@@ -140,7 +140,7 @@ fn sum_at<'t, 's>(
     alloc: Global,
     depth: u8,
     free: bool,
-    tokens: &mut Cursor<'t, 's>,
+    tokens: &mut TokenCursor<'t, 's>,
 ) -> Result<(Stored<Expr<'s>>, bool), ParseError>
     ensures value { Gives (λ x. (tree x.0, x.1)) result tokens.new (grammar.sum_at (nested depth) free tokens.old) }
     ensures shorter { IfOk result (λ x. length tokens.new < length tokens.old) }
@@ -162,7 +162,7 @@ fn chains(first: Role, second: Role) -> bool
 }
 
 #[tactic(auto, using(crate::proofs::Roles::roles))]
-fn chain_next(bound: Role, tokens: &Cursor<'_, '_>) -> bool
+fn chain_next(bound: Role, tokens: &TokenCursor<'_, '_>) -> bool
     ensures { result ≡ grammar.chain_next bound tokens.now }
 {
     match tokens.role() {
@@ -181,7 +181,7 @@ struct Begun<'s> {
 
 /// Consumes a relation that can bound a net inflow. Returns an error if another token is next.
 #[tactic(auto, unfolding(crate::specs::Reading::expect))]
-fn bound_at<'t, 's>(tokens: &mut Cursor<'t, 's>) -> Result<Terminal<'s>, ParseError>
+fn bound_at<'t, 's>(tokens: &mut TokenCursor<'t, 's>) -> Result<Terminal<'s>, ParseError>
     ensures value { Gives (λ t. t) result tokens.new (expect sorts.Bound awaiting.Other tokens.old) }
     ensures shorter { IfOk result (λ x. length tokens.new < length tokens.old) }
     // Allocates no memory, so it never returns `OutOfMemory`.
@@ -214,7 +214,7 @@ fn between_at<'t, 's>(
     depth: u8,
     begun: Begun<'s>,
     middle: Stored<Expr<'s>>,
-    tokens: &mut Cursor<'t, 's>,
+    tokens: &mut TokenCursor<'t, 's>,
 ) -> Result<Stored<NetCond<'s>>, ParseError>
     ensures value { Gives condition_of result tokens.new (expect sorts.Bound awaiting.Other tokens.old ▷ λ q. climb of_sum (unary (nested depth)) q.1 ▷ λ z.
         read_as (between begun.entry.colon (tree begun.entry.left) begun.entry.bound (tree middle.entry) q.0 z.0) z.1) }
@@ -241,7 +241,7 @@ fn high_at<'t, 's>(
     depth: u8,
     begun: Begun<'s>,
     middle: Stored<Expr<'s>>,
-    tokens: &mut Cursor<'t, 's>,
+    tokens: &mut TokenCursor<'t, 's>,
 ) -> Result<Stored<NetCond<'s>>, ParseError>
     ensures value { Gives condition_of result tokens.new (grammar.high_at (nested depth) begun.entry.colon (tree begun.entry.left) begun.entry.bound
         (tree middle.entry) tokens.old) }
@@ -259,7 +259,7 @@ fn middle_at<'t, 's>(
     alloc: Global,
     depth: u8,
     begun: Begun<'s>,
-    tokens: &mut Cursor<'t, 's>,
+    tokens: &mut TokenCursor<'t, 's>,
 ) -> Result<Stored<NetCond<'s>>, ParseError>
     ensures value { Gives condition_of result tokens.new (grammar.middle_at (nested depth) begun.entry.colon (tree begun.entry.left)
         begun.entry.bound tokens.old) }
@@ -279,7 +279,7 @@ fn bounded_at<'t, 's>(
     depth: u8,
     begun: Begun<'s>,
     free: bool,
-    tokens: &mut Cursor<'t, 's>,
+    tokens: &mut TokenCursor<'t, 's>,
 ) -> Result<Stored<NetCond<'s>>, ParseError>
     ensures value { Gives condition_of result tokens.new (grammar.bounded_at (nested depth) begun.entry.colon (tree begun.entry.left) free
         begun.entry.bound tokens.old) }
@@ -297,7 +297,7 @@ fn bounded_at<'t, 's>(
 fn said_at<'t, 's>(
     alloc: Global,
     depth: u8,
-    tokens: &mut Cursor<'t, 's>,
+    tokens: &mut TokenCursor<'t, 's>,
 ) -> Result<Stored<NetCond<'s>>, ParseError>
     ensures value { Gives condition_of result tokens.new (grammar.said_at (nested depth) tokens.old) }
     ensures shorter { IfOk result (λ x. length tokens.new ≤ length tokens.old) }
@@ -314,7 +314,7 @@ fn said_at<'t, 's>(
 pub(crate) fn condition_at<'t, 's>(
     alloc: Global,
     depth: u8,
-    tokens: &mut Cursor<'t, 's>,
+    tokens: &mut TokenCursor<'t, 's>,
 ) -> Result<Stored<NetCond<'s>>, ParseError>
     ensures value { Gives condition_of result tokens.new (grammar.condition_at (nested depth) tokens.old) }
     ensures shorter { IfOk result (λ x. length tokens.new ≤ length tokens.old) }

@@ -21,7 +21,7 @@ use crate::expected::Expected;
 use crate::model_parser::{Awaiting, ParseError};
 use crate::phrases::{Owner, phrases, phrases_end};
 use crate::stored::{Stored, push};
-use crate::token_cursor::{Cursor, expect};
+use crate::token_cursor::{TokenCursor, expect};
 use net_base::Items;
 use net_lex::Token;
 use net_tree::{Braces, Decl, Declares, Part, Phrase, Role, precedence};
@@ -32,7 +32,7 @@ use std::alloc::Global;
 fn indexing_at<'t, 's>(
     alloc: Global,
     depth: u8,
-    tokens: &mut Cursor<'t, 's>,
+    tokens: &mut TokenCursor<'t, 's>,
 ) -> Result<Stored<Option<Braces<'s>>>, ParseError>
     ensures value { Gives indexing_of result tokens.new (grammar.indexing_at (nested depth) tokens.old) }
     ensures shorter { IfOk result (λ x. length tokens.new ≤ length tokens.old) }
@@ -50,7 +50,7 @@ fn phrased<'t, 's>(
     alloc: Global,
     depth: u8,
     owner: Owner,
-    tokens: &mut Cursor<'t, 's>,
+    tokens: &mut TokenCursor<'t, 's>,
 ) -> Result<Stored<(Items<Phrase<'s>>, Token<'s>)>, ParseError>
     ensures value { (made : List tree.Phrase → Token → Declaration)
         → Gives (λ p. made (map phrase_of p.0) p.1) result tokens.new
@@ -67,7 +67,7 @@ fn detailed<'t, 's>(
     alloc: Global,
     depth: u8,
     owner: Owner,
-    tokens: &mut Cursor<'t, 's>,
+    tokens: &mut TokenCursor<'t, 's>,
 ) -> Result<Stored<(Token<'s>, Option<Braces<'s>>, Items<Phrase<'s>>, Token<'s>)>, ParseError>
     ensures value { (made : Token → Option tree.Braces → List tree.Phrase → Token → Declaration)
         → Gives (λ p. made p.0 (indexing_of p.1) (map phrase_of p.2) p.3) result tokens.new
@@ -86,7 +86,7 @@ fn set_at<'t, 's>(
     alloc: Global,
     depth: u8,
     word: Token<'s>,
-    tokens: &mut Cursor<'t, 's>,
+    tokens: &mut TokenCursor<'t, 's>,
 ) -> Result<Stored<Decl<'s>>, ParseError>
     ensures value { Gives declaration_of result tokens.new (grammar.set_at (nested depth) word.entry tokens.old) }
     ensures shorter { IfOk result (λ x. length tokens.new ≤ length tokens.old) }
@@ -101,7 +101,7 @@ fn param_at<'t, 's>(
     alloc: Global,
     depth: u8,
     word: Token<'s>,
-    tokens: &mut Cursor<'t, 's>,
+    tokens: &mut TokenCursor<'t, 's>,
 ) -> Result<Stored<Decl<'s>>, ParseError>
     ensures value { Gives declaration_of result tokens.new (grammar.param_at (nested depth) word.entry tokens.old) }
     ensures shorter { IfOk result (λ x. length tokens.new ≤ length tokens.old) }
@@ -115,7 +115,7 @@ fn arc_at<'t, 's>(
     alloc: Global,
     depth: u8,
     word: Token<'s>,
-    tokens: &mut Cursor<'t, 's>,
+    tokens: &mut TokenCursor<'t, 's>,
 ) -> Result<Stored<Decl<'s>>, ParseError>
     ensures value { Gives declaration_of result tokens.new (grammar.arc_at (nested depth) word.entry tokens.old) }
     ensures shorter { IfOk result (λ x. length tokens.new ≤ length tokens.old) }
@@ -129,7 +129,7 @@ fn check_at<'t, 's>(
     alloc: Global,
     depth: u8,
     word: Token<'s>,
-    tokens: &mut Cursor<'t, 's>,
+    tokens: &mut TokenCursor<'t, 's>,
 ) -> Result<Stored<Decl<'s>>, ParseError>
     ensures value { Gives declaration_of result tokens.new (grammar.check_at (nested depth) word.entry tokens.old) }
     ensures shorter { IfOk result (λ x. length tokens.new ≤ length tokens.old) }
@@ -153,7 +153,7 @@ fn node_at<'t, 's>(
     alloc: Global,
     depth: u8,
     word: Token<'s>,
-    tokens: &mut Cursor<'t, 's>,
+    tokens: &mut TokenCursor<'t, 's>,
 ) -> Result<Stored<Decl<'s>>, ParseError>
     ensures value { Gives declaration_of result tokens.new (grammar.node_at (nested depth) word.entry tokens.old) }
     ensures shorter { IfOk result (λ x. length tokens.new ≤ length tokens.old) }
@@ -177,7 +177,7 @@ fn node_at<'t, 's>(
 fn value_part<'t, 's>(
     alloc: Global,
     depth: u8,
-    tokens: &mut Cursor<'t, 's>,
+    tokens: &mut TokenCursor<'t, 's>,
 ) -> Result<Stored<Option<Part<'s>>>, ParseError>
     ensures value { Gives option_part result tokens.new (part_at sorts.Colon (wide (nested depth) of_union) tokens.old) }
     ensures shorter { IfOk result (λ x. length tokens.new ≤ length tokens.old) }
@@ -207,7 +207,7 @@ fn objective_at<'t, 's>(
     alloc: Global,
     depth: u8,
     word: Token<'s>,
-    tokens: &mut Cursor<'t, 's>,
+    tokens: &mut TokenCursor<'t, 's>,
 ) -> Result<Stored<Decl<'s>>, ParseError>
     ensures value { Gives declaration_of result tokens.new (grammar.objective_at (nested depth) word.entry tokens.old) }
     ensures shorter { IfOk result (λ x. length tokens.new ≤ length tokens.old) }
@@ -225,7 +225,7 @@ fn declared_at<'t, 's>(
     depth: u8,
     kind: Declares,
     word: Token<'s>,
-    tokens: &mut Cursor<'t, 's>,
+    tokens: &mut TokenCursor<'t, 's>,
 ) -> Result<Stored<Decl<'s>>, ParseError>
     ensures value { Gives declaration_of result tokens.new (grammar.declared_at (nested depth) kind word.entry tokens.old) }
     ensures shorter { IfOk result (λ x. length tokens.new ≤ length tokens.old) }
@@ -245,7 +245,7 @@ fn declared_at<'t, 's>(
 fn declaration_at<'t, 's>(
     alloc: Global,
     depth: u8,
-    tokens: &mut Cursor<'t, 's>,
+    tokens: &mut TokenCursor<'t, 's>,
 ) -> Result<Stored<Decl<'s>>, ParseError>
     ensures value { Gives declaration_of result tokens.new (grammar.declaration_at (nested depth) tokens.old) }
     ensures shorter { IfOk result (λ x. length tokens.new < length tokens.old) }
@@ -264,7 +264,7 @@ fn declaration_at<'t, 's>(
 pub(crate) fn declarations<'t, 's>(
     alloc: Global,
     depth: u8,
-    tokens: &mut Cursor<'t, 's>,
+    tokens: &mut TokenCursor<'t, 's>,
 ) -> Result<Items<Decl<'s>>, ParseError>
     ensures value { Gives (λ d. (map declaration_of d, tt)) result tokens.new (grammar.model_at depth tokens.old) }
     ensures whole { IfOk result (λ d. tokens.new ≡ []) }

@@ -17,10 +17,10 @@ use crate::choices::wide_of;
 use crate::expected::Expected;
 use crate::model_parser::{Awaiting, ParseError};
 use crate::stored::{Carried, Stored, boxed};
-use crate::token_cursor::{Cursor, expect};
+use crate::token_cursor::{TokenCursor, expect};
 use net_base::Items;
 use net_lex::Token;
-use net_tree::{Braces, Expr, Leaf, Link, Operands, Role, Sign, precedence};
+use net_tree::{Braces, Expr, Leaf, LinkedOperand, Operands, Role, Sign, precedence};
 use std::alloc::Global;
 
 /// Parses an atom, a signed operand or a reduction.
@@ -29,7 +29,7 @@ use std::alloc::Global;
 pub(crate) fn unary_of<'t, 's>(
     alloc: Global,
     depth: u8,
-    tokens: &mut Cursor<'t, 's>,
+    tokens: &mut TokenCursor<'t, 's>,
 ) -> Result<Stored<Expr<'s>>, ParseError>
     ensures value { Gives tree result tokens.new (unary (nested depth) tokens.old) }
     ensures shorter { IfOk result (λ x. length tokens.new < length tokens.old) }
@@ -87,7 +87,7 @@ pub(crate) fn named_of<'t, 's>(
     alloc: Global,
     depth: u8,
     name: Token<'s>,
-    tokens: &mut Cursor<'t, 's>,
+    tokens: &mut TokenCursor<'t, 's>,
 ) -> Result<Stored<Expr<'s>>, ParseError>
     ensures value { Gives tree result tokens.new (grammar.named_at (nested depth) name.entry tokens.old) }
     ensures shorter { IfOk result (λ x. length tokens.new ≤ length tokens.old) }
@@ -108,7 +108,7 @@ fn subscripts_inside<'t, 's>(
     alloc: Global,
     depth: u8,
     name: Token<'s>,
-    tokens: &mut Cursor<'t, 's>,
+    tokens: &mut TokenCursor<'t, 's>,
 ) -> Result<Stored<Expr<'s>>, ParseError>
     ensures value { Gives tree result tokens.new (grammar.subscripts_at (inner_of (nested depth)) name.entry tokens.old) }
     ensures shorter { IfOk result (λ x. length tokens.new ≤ length tokens.old) }
@@ -128,8 +128,8 @@ fn indexed<'t, 's>(
     name: Token<'s>,
     opening: Token<'s>,
     first: Stored<Expr<'s>>,
-    more: Carried<Items<Link<'s>>>,
-    tokens: &mut Cursor<'t, 's>,
+    more: Carried<Items<LinkedOperand<'s>>>,
+    tokens: &mut TokenCursor<'t, 's>,
 ) -> Result<Stored<Expr<'s>>, ParseError>
     ensures value { Gives tree result tokens.new (expect sorts.CloseSquare awaiting.Other tokens.old ▷ λ c. read_as
         (indexed name.entry opening.entry (tree first.entry) (links_of more.entry) c.0) c.1) }
@@ -150,7 +150,7 @@ fn parens_inside<'t, 's>(
     alloc: Global,
     depth: u8,
     opening: Token<'s>,
-    tokens: &mut Cursor<'t, 's>,
+    tokens: &mut TokenCursor<'t, 's>,
 ) -> Result<Stored<Expr<'s>>, ParseError>
     ensures value { Gives tree result tokens.new (grammar.parens_at (inner_of (nested depth)) opening.entry tokens.old) }
     ensures shorter { IfOk result (λ x. length tokens.new < length tokens.old) }
@@ -167,7 +167,7 @@ fn parens_from<'t, 's>(
     depth: u8,
     opening: Token<'s>,
     first: Stored<Expr<'s>>,
-    tokens: &mut Cursor<'t, 's>,
+    tokens: &mut TokenCursor<'t, 's>,
 ) -> Result<Stored<Expr<'s>>, ParseError>
     ensures value { Gives tree result tokens.new (grammar.parens_from (inner_of (nested depth)) opening.entry (tree first.entry) tokens.old) }
     ensures shorter { IfOk result (λ x. length tokens.new < length tokens.old) }
@@ -186,7 +186,7 @@ fn closed<'t, 's>(
     alloc: Global,
     opening: Token<'s>,
     inner: Stored<Expr<'s>>,
-    tokens: &mut Cursor<'t, 's>,
+    tokens: &mut TokenCursor<'t, 's>,
 ) -> Result<Stored<Expr<'s>>, ParseError>
     ensures value { Gives tree result tokens.new (grammar.closed opening.entry (tree inner.entry) tokens.old) }
     ensures shorter { IfOk result (λ x. length tokens.new < length tokens.old) }
@@ -203,8 +203,8 @@ fn listed<'t, 's>(
     alloc: Global,
     opening: Token<'s>,
     first: Stored<Expr<'s>>,
-    more: Carried<Items<Link<'s>>>,
-    tokens: &mut Cursor<'t, 's>,
+    more: Carried<Items<LinkedOperand<'s>>>,
+    tokens: &mut TokenCursor<'t, 's>,
 ) -> Result<Stored<Expr<'s>>, ParseError>
     ensures value { Gives tree result tokens.new (grammar.listed opening.entry (tree first.entry) (links_of more.entry) tokens.old) }
     ensures shorter { IfOk result (λ x. length tokens.new < length tokens.old) }
@@ -226,7 +226,7 @@ fn negated_of<'t, 's>(
     alloc: Global,
     depth: u8,
     word: Token<'s>,
-    tokens: &mut Cursor<'t, 's>,
+    tokens: &mut TokenCursor<'t, 's>,
 ) -> Result<Stored<Expr<'s>>, ParseError>
     ensures value { Gives tree result tokens.new (grammar.negated_at (nested depth) word.entry tokens.old) }
     ensures shorter { IfOk result (λ x. length tokens.new < length tokens.old) }
@@ -247,7 +247,7 @@ fn negated<'t, 's>(
     word: Token<'s>,
     opening: Token<'s>,
     inner: Stored<Expr<'s>>,
-    tokens: &mut Cursor<'t, 's>,
+    tokens: &mut TokenCursor<'t, 's>,
 ) -> Result<Stored<Expr<'s>>, ParseError>
     ensures value { Gives tree result tokens.new (expect sorts.Close awaiting.Other tokens.old ▷ λ c. read_as
         (negated word.entry opening.entry (tree inner.entry) c.0) c.1) }

@@ -19,10 +19,10 @@ ghost use Rattle.net_model.specs.declared.model_parser.ParseError.TheVariants.{T
 use crate::checked_model::CheckedModel;
 use crate::declarations::declarations;
 use crate::model_fault::reported;
-use crate::token_cursor::Cursor;
+use crate::token_cursor::TokenCursor;
 use net_base::Fault;
 use net_lex::Token;
-use net_resolve::check_names;
+use net_names::check_names;
 use net_sets::HashKey;
 use net_tree::Model;
 use std::alloc::{AllocError, AllocFailed, Global};
@@ -48,7 +48,7 @@ pub fn parse_declarations<'s>(alloc: Global, tokens: &[Token<'s>]) -> Result<Mod
     // within the limit) can continue, or at the end.
     ensures rejected { IfErr result (IsRejected tokens.now) }
 {
-    let mut cursor = Cursor::new(tokens);
+    let mut cursor = TokenCursor::new(tokens);
     match declarations(alloc, deepest(), &mut cursor) {
         Ok(declarations) => Ok(Model { declarations }),
         Err(stop) => Err(reported(alloc, stop, tokens)),

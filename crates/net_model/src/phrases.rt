@@ -14,7 +14,7 @@ use crate::expected::Expected;
 use crate::expressions::named_of;
 use crate::model_parser::{Awaiting, ParseError};
 use crate::stored::{Carried, Stored, push};
-use crate::token_cursor::{Cursor, expect};
+use crate::token_cursor::{TokenCursor, expect};
 use net_base::Items;
 use net_lex::Token;
 use net_tree::{Begins, Body, Expr, Leaf, Phrase, Relation, Role, Terminal, precedence};
@@ -144,7 +144,7 @@ fn awaited(owner: Owner, stood: Stood, role: Role) -> Awaiting
 
 /// Returns whether a phrase comes next, or the comma before one.
 #[tactic(auto, using(crate::proofs::Roles::roles))]
-fn phrase_next(owner: Owner, stood: Stood, tokens: &Cursor<'_, '_>) -> bool
+fn phrase_next(owner: Owner, stood: Stood, tokens: &TokenCursor<'_, '_>) -> bool
     ensures { result ≡ grammar.phrase_next owner stood tokens.now }
 {
     match tokens.role() {
@@ -167,7 +167,7 @@ fn body_of<'t, 's>(
     alloc: Global,
     depth: u8,
     slot: Slot,
-    tokens: &mut Cursor<'t, 's>,
+    tokens: &mut TokenCursor<'t, 's>,
 ) -> Result<Stored<Body<'s>>, ParseError>
     ensures value { Gives view.body_of result tokens.new (grammar.body_of (nested depth) slot tokens.old) }
     ensures shorter { IfOk result (λ x. length tokens.new ≤ length tokens.old) }
@@ -195,7 +195,7 @@ fn body_of<'t, 's>(
 
 /// Parses an optional comma before a phrase.
 #[tactic(auto, unfolding(crate::specs::Phrases::comma_at))]
-fn comma_at<'t, 's>(tokens: &mut Cursor<'t, 's>) -> Result<Option<Token<'s>>, ParseError>
+fn comma_at<'t, 's>(tokens: &mut TokenCursor<'t, 's>) -> Result<Option<Token<'s>>, ParseError>
     ensures value { Gives (λ c. c) result tokens.new (grammar.comma_at tokens.old) }
     ensures shorter { IfOk result (λ x. length tokens.new ≤ length tokens.old) }
     // Allocates no memory, so it never returns `OutOfMemory`.
@@ -229,7 +229,7 @@ fn worded<'t, 's>(
     owner: Owner,
     stood: Stood,
     comma: Option<Token<'s>>,
-    tokens: &mut Cursor<'t, 's>,
+    tokens: &mut TokenCursor<'t, 's>,
 ) -> Result<(Stored<Phrase<'s>>, Stood), ParseError>
     ensures value { Gives (λ p. (view.phrase_of p.0, p.1)) result tokens.new (grammar.worded (nested depth) owner stood comma.entry tokens.old) }
     ensures shorter { IfOk result (λ x. length tokens.new < length tokens.old) }
@@ -258,7 +258,7 @@ fn phrase_at<'t, 's>(
     depth: u8,
     owner: Owner,
     stood: Stood,
-    tokens: &mut Cursor<'t, 's>,
+    tokens: &mut TokenCursor<'t, 's>,
 ) -> Result<(Stored<Phrase<'s>>, Stood), ParseError>
     ensures value { Gives (λ p. (view.phrase_of p.0, p.1)) result tokens.new (grammar.phrase_at (nested depth) owner stood tokens.old) }
     ensures shorter { IfOk result (λ x. length tokens.new < length tokens.old) }
@@ -273,7 +273,7 @@ pub(crate) fn phrases<'t, 's>(
     alloc: Global,
     depth: u8,
     owner: Owner,
-    tokens: &mut Cursor<'t, 's>,
+    tokens: &mut TokenCursor<'t, 's>,
 ) -> Result<(Carried<Items<Phrase<'s>>>, Stood), ParseError>
     ensures value { Gives (λ p. (map view.phrase_of p.0, p.1)) result tokens.new (grammar.phrases (nested depth) owner tokens.old) }
     ensures shorter { IfOk result (λ x. length tokens.new ≤ length tokens.old) }
@@ -302,7 +302,7 @@ pub(crate) fn phrases<'t, 's>(
 pub(crate) fn phrases_end<'t, 's>(
     owner: Owner,
     stood: Stood,
-    tokens: &mut Cursor<'t, 's>,
+    tokens: &mut TokenCursor<'t, 's>,
 ) -> Result<Token<'s>, ParseError>
     ensures value { Gives (λ t. t) result tokens.new (grammar.phrases_end owner stood tokens.old) }
     ensures shorter { IfOk result (λ x. length tokens.new < length tokens.old) }

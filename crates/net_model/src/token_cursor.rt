@@ -20,13 +20,13 @@ use std::marker::Model;
 /// The tokens that are not yet consumed, with the role of the next one. The role is found when the
 /// cursor reaches the token.
 #[derive(Drop)]
-pub(crate) struct Cursor<'t, 's> {
+pub(crate) struct TokenCursor<'t, 's> {
     tokens: &'t [Token<'s>],
     at: usize,
     role: Option<Role>,
 }
 
-impl<'t, 's> Model for Cursor<'t, 's> {
+impl<'t, 's> Model for TokenCursor<'t, 's> {
     ghost use Rattle.std.specs.Prelude.{◌≡◌, ◌≤◌, List, drop, length};
     ghost use Rattle.net_lex.specs.declared.token.Token.{Token};
     ghost use Rattle.net_model.specs.Reading.{first_role};
@@ -38,20 +38,20 @@ impl<'t, 's> Model for Cursor<'t, 's> {
     ghost invariant = { λ c. (c.at ≤ length c.tokens.now) × (c.role ≡ first_role (drop c.at c.tokens.now)) };
 }
 
-impl<'t, 's> Cursor<'t, 's> {
-    pub(crate) fn new(tokens: &'t [Token<'s>]) -> Cursor<'t, 's>
+impl<'t, 's> TokenCursor<'t, 's> {
+    pub(crate) fn new(tokens: &'t [Token<'s>]) -> TokenCursor<'t, 's>
         ensures { result ≡ tokens.now }
     {
-        Cursor::starting_at(tokens, 0)
+        TokenCursor::starting_at(tokens, 0)
     }
 
     /// Returns a cursor at the token with this index, or at the end.
-    fn starting_at(tokens: &'t [Token<'s>], at: usize) -> Cursor<'t, 's>
+    fn starting_at(tokens: &'t [Token<'s>], at: usize) -> TokenCursor<'t, 's>
         requires { at ≤ length tokens.now }
         ensures { result ≡ drop at tokens.now }
     {
         let role = role_at(tokens, at);
-        Cursor { tokens, at, role }
+        TokenCursor { tokens, at, role }
     }
 
     /// Returns the number of remaining tokens.
@@ -93,7 +93,7 @@ impl<'t, 's> Cursor<'t, 's> {
         match self.role {
             Some(role) => {
                 let token = self.tokens[self.at].copied();
-                *self = Cursor::starting_at(self.tokens, self.at + 1);
+                *self = TokenCursor::starting_at(self.tokens, self.at + 1);
                 Some((role, token))
             }
             None => None,
@@ -117,7 +117,7 @@ impl<'t, 's> Cursor<'t, 's> {
         ensures { result ≡ signed_net_next self.now }
     {
         self.next_is(Expected::Sign)
-            && Cursor::starting_at(self.tokens, self.at + 1).next_is(Expected::Net)
+            && TokenCursor::starting_at(self.tokens, self.at + 1).next_is(Expected::Net)
     }
 
     /// Returns whether the next token joins operands of this precedence, after `count` links.
@@ -159,7 +159,7 @@ fn role_at(tokens: &[Token<'_>], at: usize) -> Option<Role>
 pub(crate) fn expect<'t, 's>(
     sort: Expected,
     awaiting: Awaiting,
-    tokens: &mut Cursor<'t, 's>,
+    tokens: &mut TokenCursor<'t, 's>,
 ) -> Result<Token<'s>, ParseError>
     ensures value { Gives (λ t. t) result tokens.new (expect sort awaiting tokens.old) }
     ensures shorter { IfOk result (λ x. length tokens.new < length tokens.old) }
@@ -177,7 +177,7 @@ pub(crate) fn expect<'t, 's>(
 #[tactic(auto, unfolding(crate::specs::Expressions::operator_at))]
 pub(crate) fn operator_at<'t, 's>(
     alloc: Global,
-    tokens: &mut Cursor<'t, 's>,
+    tokens: &mut TokenCursor<'t, 's>,
 ) -> Result<Carried<Operator<'s>>, ParseError>
     ensures value { Gives (λ o. o) result tokens.new (operator_at tokens.old) }
     ensures shorter { IfOk result (λ x. length tokens.new < length tokens.old) }

@@ -5,9 +5,9 @@ use Rattle.std.proofs.Common.{refl, ap, sym, ◌∙◌, arith}
 use Rattle.std.proofs.lemmas.Int.{ints}
 use Rattle.std.proofs.lemmas.Map.Keys.{IsDistinct-cons, IsDistinct-from_apart}
 use Rattle.net_sets.specs.declared.member.Member.TheVariants.{Number}
-use Rattle.net_sets.specs.Forms.{is_number, AreFormed}
+use Rattle.net_sets.specs.Forms.{AreShort}
 use Rattle.net_sets.specs.Ranges.{number_at}
-use Rattle.net_sets.specs.Runs.{run}
+use Rattle.net_sets.specs.Runs.{AreNumbers, run}
 use Rattle.net_sets.specs.Sets.{Tuple, has, same_tuple, place_of}
 use Rattle.net_sets.proofs.Sames.{tuple_decides, same_itself}
 use Rattle.net_sets.proofs.Listing.{one_more, new_number}
@@ -72,9 +72,13 @@ all_other : (f : ℤ) (n : ℕ) (x : ℤ) → Misses f n x → AllByRecursion (�
 all_other f zero x misses = tt
 all_other f (suc n) x misses = (other x f (misses_first f n x misses), all_other (f +ℤ pos 1) n x (misses_next f n x misses))
 
-pub run_formed : (f : ℤ) (n : ℕ) → AreFormed is_number 1 (run f n)
-run_formed f zero = tt
-run_formed f (suc n) = (refl, run_formed (f +ℤ pos 1) n)
+pub run_numbers : (f : ℤ) (n : ℕ) → AreNumbers (run f n)
+run_numbers f zero = tt
+run_numbers f (suc n) = (refl, run_numbers (f +ℤ pos 1) n)
+
+pub run_short : (f : ℤ) (n : ℕ) → AreShort 1 (run f n)
+run_short f zero = tt
+run_short f (suc n) = (omega arith, run_short (f +ℤ pos 1) n)
 
 pub run_distinct : (f : ℤ) (n : ℕ) → IsDistinct same_tuple (run f n)
 run_distinct f zero = IsDistinct-from_apart same_tuple [] (λ i j d before there. absurd (omega arith))

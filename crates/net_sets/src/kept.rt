@@ -1,16 +1,13 @@
-//! Distinct tuples by the number and the kind of their members.
+//! Distinct tuples by the number of their members.
 
-ghost use Rattle.std.specs.Prelude.{◌≡◌, nat_lt, if◌then◌else◌, ◌∷◌, [], not, length, IfOk, OnOk, OnErr};
+ghost use Rattle.std.specs.Prelude.{◌≡◌, ◌∷◌, [], not, length, IfOk, OnOk, OnErr};
 ghost use Rattle.std.specs.List.{IsDistinct, items_where_true, list_all};
-ghost use Rattle.net_sets.specs.declared.member.Member.TheVariants.{Number};
 ghost use Rattle.net_sets.specs.Sets.{added, has, same_tuple};
 ghost use Rattle.net_sets.specs.TupleStores.{AreKept, tuples_in};
 
 use crate::key::HashKey;
-use crate::member::Member;
-use crate::number_run::{NumberRun, number_of};
-use crate::short_tuple::{One, Two};
-use crate::text::Text;
+use crate::number_run::NumberRun;
+use crate::short_tuple::ShortTuple;
 use crate::tuple::Tuple;
 use indexmap::IndexSet;
 use std::alloc::{AllocError, Global};
@@ -21,29 +18,19 @@ pub(crate) enum Kept<'s> {
     Nothing,
     /// Consecutive numbers.
     Run(NumberRun),
-    Numbers(IndexSet<One<i64>, HashKey>),
-    Names(IndexSet<One<Text<'s>>, HashKey>),
-    /// Numbers and names.
-    Singles(IndexSet<One<Member<'s>>, HashKey>),
-    NumberPairs(IndexSet<Two<i64>, HashKey>),
-    NamePairs(IndexSet<Two<Text<'s>>, HashKey>),
-    /// Pairs of numbers and names.
-    Pairs(IndexSet<Two<Member<'s>>, HashKey>),
+    Singles(IndexSet<ShortTuple<'s, 1>, HashKey>),
+    Pairs(IndexSet<ShortTuple<'s, 2>, HashKey>),
     /// Tuples of any length.
     Tuples(IndexSet<Tuple<'s>, HashKey>),
 }
 
-/// To the prover, a `drop` of its own is one call; a derived one is nine cases at each drop of a set.
+/// To the prover, a `drop` of its own is one call; a derived one is five cases at each drop of a set.
 impl<'s> Drop for Kept<'s> {
     fn drop(self) {
         match self {
             Kept::Nothing => {}
             Kept::Run(_run) => {}
-            Kept::Numbers(_set) => {}
-            Kept::Names(_set) => {}
             Kept::Singles(_set) => {}
-            Kept::NumberPairs(_set) => {}
-            Kept::NamePairs(_set) => {}
             Kept::Pairs(_set) => {}
             Kept::Tuples(_set) => {}
         }
@@ -102,30 +89,7 @@ pub(crate) fn add<'s>(
     Ok(set.insert(tuple)?)
 }
 
-/// Returns the number of members of each tuple if there is one at the position, else 0.
-pub(crate) fn width_below(position: usize, count: usize, width: usize) -> usize
-    ensures { result ≡ if nat_lt position count then width else 0 }
-{
-    if position < count { width } else { 0 }
-}
-
 impl<'s> Kept<'s> {
-    /// Stores a number.
-    fn of_number(
-        alloc: Global,
-        key: HashKey,
-        room: usize,
-        number: i64,
-    ) -> Result<Kept<'s>, AllocError>
-        ensures value { IfOk result (λ kept. tuples_in kept ≡ (Number number ∷ []) ∷ []) }
-        ensures shape { IfOk result AreKept }
-    {
-        match NumberRun::of(number) {
-            Some(run) => Ok(Kept::Run(run)),
-            None => Ok(Kept::Numbers(set_of(alloc, key, room, One::of_member(number))?)),
-        }
-    }
-
     /// Stores one tuple, with memory for `room` tuples of its form.
     pub(crate) fn of_first(
         alloc: Global,
@@ -136,19 +100,13 @@ impl<'s> Kept<'s> {
         ensures value { IfOk result (λ kept. tuples_in kept ≡ first.entry ∷ []) }
         ensures shape { IfOk result AreKept }
     {
-        if let Some(number) = number_of(&first) {
-            return Kept::of_number(alloc, key, room, number);
+        if let Some(run) = NumberRun::of(&first) {
+            return Ok(Kept::Run(run));
         }
-        if let Some(name) = One::<Text<'s>>::of(&first) {
-            return Ok(Kept::Names(set_of(alloc, key, room, name)?));
+        if let Some(single) = ShortTuple::of(&first) {
+            return Ok(Kept::Singles(set_of(alloc, key, room, single)?));
         }
-        if let Some(numbers) = Two::<i64>::of(&first) {
-            return Ok(Kept::NumberPairs(set_of(alloc, key, room, numbers)?));
-        }
-        if let Some(names) = Two::<Text<'s>>::of(&first) {
-            return Ok(Kept::NamePairs(set_of(alloc, key, room, names)?));
-        }
-        if let Some(pair) = Two::<Member<'s>>::of(&first) {
+        if let Some(pair) = ShortTuple::of(&first) {
             return Ok(Kept::Pairs(set_of(alloc, key, room, pair)?));
         }
         Ok(Kept::Tuples(set_of(alloc, key, room, first)?))

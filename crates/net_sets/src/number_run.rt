@@ -1,14 +1,14 @@
 //! Consecutive numbers, which take no memory each.
 
-ghost use Rattle.std.specs.Prelude.{◌≡◌, ◌++◌, ◌∷◌, [], None, Some, true, false, get_or, length, not, slice_get, IfSome, MatchOption};
+ghost use Rattle.std.specs.Prelude.{◌≡◌, ◌≤◌, ◌++◌, ◌∷◌, [], None, Some, true, false, get_or, length, not, slice_get, IfSome, MatchOption};
 ghost use Rattle.std.specs.List.{IsDistinct};
 ghost use Rattle.net_sets.specs.declared.member.Member.TheVariants.{Number};
-ghost use Rattle.net_sets.specs.Forms.{AreFormed, has_form, is_number};
+ghost use Rattle.net_sets.specs.Forms.{AreShort};
+ghost use Rattle.net_sets.specs.Runs.{AreNumbers, is_number};
 ghost use Rattle.net_sets.specs.Sets.{added, has, place_of, same_tuple};
 ghost use Rattle.net_sets.specs.TupleSets.{is_at};
 
 use crate::member::Member;
-use crate::short_tuple::One;
 use crate::tuple::Tuple;
 use std::marker::Model;
 
@@ -17,7 +17,7 @@ const NUMBER_LIMIT: u64 = net_lex::VALUE_LIMIT;
 
 /// Returns the number that a tuple consists of; `None` if it is not one number.
 pub(crate) fn number_of(tuple: &Tuple<'_>) -> Option<i64>
-    ensures { MatchOption result (has_form is_number 1 tuple.now ≡ false) (λ n. tuple.now ≡ Number n ∷ []) }
+    ensures { MatchOption result (is_number tuple.now ≡ false) (λ n. tuple.now ≡ Number n ∷ []) }
 {
     match tuple.as_slice() {
         [member] => match member {
@@ -48,10 +48,11 @@ impl Model for NumberRun {
 }
 
 impl NumberRun {
-    /// Starts a run with a number; returns `None` for a number that is beyond the limit.
-    pub(crate) fn of(number: i64) -> Option<NumberRun>
-        ensures { IfSome result (λ run. run ≡ (Number number ∷ []) ∷ []) }
+    /// Starts a run with the number that a tuple consists of; returns `None` if it is not one number, or one beyond the limit.
+    pub(crate) fn of(tuple: &Tuple<'_>) -> Option<NumberRun>
+        ensures { IfSome result (λ run. run ≡ tuple.now ∷ []) }
     {
+        let number = number_of(tuple)?;
         if number.unsigned_abs() > NUMBER_LIMIT {
             return None;
         }
@@ -65,7 +66,8 @@ impl NumberRun {
     pub(crate) fn len(&self) -> usize
         ensures value { result ≡ length self.now }
         ensures distinct { IsDistinct same_tuple self.now }
-        ensures numbers { AreFormed is_number 1 self.now }
+        ensures short { AreShort 1 self.now }
+        ensures numbers { AreNumbers self.now }
     {
         let _first = self.first;
         self.count
@@ -88,7 +90,18 @@ impl NumberRun {
     {
         match self.number(position) {
             None => None,
-            Some(number) => Some(One::of_member(number).tuple()),
+            Some(number) => Some(Tuple::single(Member::Number(number))),
+        }
+    }
+
+    /// Returns the number of members of the tuple at a position, counted from 0: 1, or 0 if there is none.
+    pub(crate) fn width_at(&self, position: usize) -> usize
+        ensures value { result ≡ length (get_or self.now position []) }
+        ensures fits { result ≤ 1 }
+    {
+        match self.number(position) {
+            None => 0,
+            Some(_) => 1,
         }
     }
 
@@ -98,7 +111,13 @@ impl NumberRun {
     {
         match self.number(position) {
             None => None,
-            Some(number) => One::of_member(number).member(component),
+            Some(number) => {
+                if component == 0 {
+                    Some(Member::Number(number))
+                } else {
+                    None
+                }
+            }
         }
     }
 
@@ -108,7 +127,10 @@ impl NumberRun {
     {
         match self.number(position) {
             None => false,
-            Some(number) => One::of_member(number).consists_of(members),
+            Some(number) => match members {
+                [member] => *member == Member::Number(number),
+                _ => false,
+            },
         }
     }
 
@@ -158,7 +180,7 @@ impl NumberRun {
         ensures some { IfSome result (λ _. self.new ≡ added self.old tuple.now) }
         ensures none { result ≡ None → self.new ≡ self.old }
         ensures distinct { IfSome result (λ _. IsDistinct same_tuple self.new) }
-        ensures numbers { IfSome result (λ _. AreFormed is_number 1 self.new) }
+        ensures short { IfSome result (λ _. AreShort 1 self.new) }
     {
         let number = number_of(tuple)?;
         if self.position(number).is_some() {

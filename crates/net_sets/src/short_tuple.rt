@@ -1,218 +1,182 @@
-//! Tuples of one and of two members, which take no memory for more.
+//! Tuples of at most `N` members, which take no memory for more, and sets of them.
 
-ghost use Rattle.std.specs.Prelude.{◌≡◌, ◌∷◌, [], true, false, slice_get, MatchOption};
-ghost use Rattle.net_sets.specs.Forms.{has_form};
-ghost use Rattle.net_sets.specs.Sets.{same_tuple};
+ghost use Rattle.std.specs.Prelude.{◌≡◌, ◌<◌, ◌≤◌, [], get_or, length, not, slice_get, IfOk, IfSome, MatchOption, OnErr, OnOk};
+ghost use Rattle.std.specs.List.{IsDistinct};
+ghost use Rattle.net_sets.specs.Forms.{AreShort};
+ghost use Rattle.net_sets.specs.Limits.{arity_limit};
+ghost use Rattle.net_sets.specs.Sets.{added, has, place_of, same_tuple};
+ghost use Rattle.net_sets.specs.TupleSets.{is_at};
 
+use crate::key::HashKey;
 use crate::member::Member;
-use crate::member_form::{MemberForm, MemberStorage};
-use crate::tuple::Tuple;
+use crate::tuple::{Tuple, are_same};
+use arrayvec::ArrayVec;
+use indexmap::IndexSet;
+use std::alloc::AllocError;
 use std::hash::{Hash, Hasher};
 use std::marker::Model;
 
-/// A tuple of one member, which contracts see as the list of it.
-#[derive(Drop)]
-pub(crate) struct One<C: MemberStorage> {
-    stored: C,
+/// At most `N` members, which contracts see as a list.
+#[derive(PartialEq, Eq, Drop)]
+pub(crate) struct ShortTuple<'s, const N: usize> {
+    members: ArrayVec<Member<'s>, N>,
 }
 
-impl<C: MemberStorage> Model for One<C> {
-    ghost use Rattle.std.specs.Prelude.{List, [], ◌∷◌};
+impl<'s, const N: usize> Model for ShortTuple<'s, N> {
+    ghost use Rattle.std.specs.Prelude.{List};
     ghost use Rattle.net_sets.specs.declared.member.Member.{Member};
 
     ghost Value = { List Member };
 
-    ghost view = { λ t. C.seen t.stored ∷ [] };
+    ghost view = { λ t. t.members.items };
+
+    ghost inverse = { λ xs. record { members = record { items = xs } } };
 }
 
-impl<C: MemberStorage> One<C> {
-    /// Copies a tuple of one member; returns `None` if it does not have this form.
-    pub(crate) fn of<'s>(tuple: &Tuple<'s>) -> Option<One<C>>
-    where
-        C: MemberForm<'s>,
-        ensures { MatchOption result (has_form C.fits 1 tuple.now ≡ false) (λ one. (one ≡ tuple.now) × (has_form C.fits 1 tuple.now ≡ true)) }
+impl<'s, const N: usize> ShortTuple<'s, N> {
+    /// Copies a tuple; returns `None` if it has more than `N` members.
+    pub(crate) fn of(tuple: &Tuple<'s>) -> Option<ShortTuple<'s, N>>
+        ensures { MatchOption result (N < length tuple.now) (λ short. (short ≡ tuple.now) × (length tuple.now ≤ N)) }
     {
-        match tuple.as_slice() {
-            [member] => match C::of(member) {
-                None => None,
-                Some(stored) => Some(One::of_member(stored)),
-            },
-            _ => None,
+        if tuple.len() > N {
+            return None;
         }
+        let mut members = ArrayVec::new();
+        for member in tuple.as_slice() {
+            members.push(member.copied());
+        }
+        Some(ShortTuple { members })
     }
 
-    /// Creates the tuple of a stored member.
-    pub(crate) fn of_member(stored: C) -> One<C>
-        ensures { result ≡ C.seen stored ∷ [] }
+    /// Returns the members in order.
+    pub(crate) fn as_slice(&self) -> &[Member<'s>]
+        ensures members { result.now ≡ self.now }
+        ensures fits { length result.now ≤ N }
     {
-        One { stored }
+        self.members.as_slice()
     }
 
-    /// Returns a copy as a tuple.
-    pub(crate) fn tuple<'s>(&self) -> Tuple<'s>
-    where
-        C: MemberForm<'s>,
-        ensures { result ≡ self.now }
-    {
-        Tuple::single(self.stored.member())
-    }
-
-    /// Returns the member at a component, counted from 0.
-    pub(crate) fn member<'s>(&self, component: usize) -> Option<Member<'s>>
-    where
-        C: MemberForm<'s>,
+    /// Returns a copy of the member at a component, counted from 0.
+    pub(crate) fn member(&self, component: usize) -> Option<Member<'s>>
         ensures { result ≡ slice_get self.now component }
     {
-        if component == 0 {
-            Some(self.stored.member())
-        } else {
-            None
-        }
-    }
-
-    /// Returns whether the tuple has these members.
-    pub(crate) fn consists_of<'s>(&self, members: &[Member<'s>]) -> bool
-    where
-        C: MemberForm<'s>,
-        ensures { result ≡ same_tuple members.now self.now }
-    {
-        match members {
-            [member] => *member == self.stored.member(),
-            _ => false,
+        match self.as_slice().get(component) {
+            None => None,
+            Some(member) => Some(member.copied()),
         }
     }
 }
 
-impl<C: MemberStorage> PartialEq for One<C> {
-    ghost use Rattle.net_sets.specs.Sets.{same_tuple};
-    ghost use Rattle.net_sets.specs.EqualTuples.{same_partly};
-
-    ghost eq = { same_tuple };
-
-    ghost laws = { same_partly };
-
-    fn eq(&self, other: &One<C>) -> bool {
-        self.stored.is_same(&other.stored)
-    }
-}
-
-impl<C: MemberStorage> Eq for One<C> {
-    ghost use Rattle.net_sets.specs.EqualTuples.{same_equiv};
-
-    ghost laws = { same_equiv };
-}
-
-impl<C: MemberStorage> Hash for One<C> {
+impl<'s, const N: usize> Hash for ShortTuple<'s, N> {
+    ghost use Rattle.std.proofs.Common.{refl};
     ghost use Rattle.net_sets.specs.Hashes.{tuple_writes};
-    ghost use Rattle.net_sets.specs.EqualHashes.{same_tuple_writes};
+    ghost use Rattle.net_sets.specs.EqualHashes.{equal_member_writes, equal_tuple_writes, equal_numbers, equal_texts};
 
     ghost hash_input = { tuple_writes };
 
-    ghost respects_eq = { same_tuple_writes };
+    ghost respects_eq = { equal_tuple_writes _ (equal_member_writes _ equal_numbers equal_texts (λ a b. refl) (λ a b. refl)) };
 
     fn hash<H: Hasher>(&self, state: &mut H) {
-        self.stored.write_to(state);
+        Hash::hash_slice(self.as_slice(), state);
     }
 }
 
-/// A tuple of two members, which contracts see as their list.
-#[derive(Drop)]
-pub(crate) struct Two<C: MemberStorage> {
-    first: C,
-    second: C,
-}
-
-impl<C: MemberStorage> Model for Two<C> {
-    ghost use Rattle.std.specs.Prelude.{List, [], ◌∷◌};
-    ghost use Rattle.net_sets.specs.declared.member.Member.{Member};
-
-    ghost Value = { List Member };
-
-    ghost view = { λ t. C.seen t.first ∷ C.seen t.second ∷ [] };
-}
-
-impl<C: MemberStorage> Two<C> {
-    /// Copies a tuple of two members; returns `None` if it does not have this form.
-    pub(crate) fn of<'s>(tuple: &Tuple<'s>) -> Option<Two<C>>
-    where
-        C: MemberForm<'s>,
-        ensures { MatchOption result (has_form C.fits 2 tuple.now ≡ false) (λ two. (two ≡ tuple.now) × (has_form C.fits 2 tuple.now ≡ true)) }
-    {
-        match tuple.as_slice() {
-            [first, second] => match (C::of(first), C::of(second)) {
-                (Some(first), Some(second)) => Some(Two { first, second }),
-                _ => None,
-            },
-            _ => None,
-        }
-    }
-
-    /// Returns a copy as a tuple.
-    pub(crate) fn tuple<'s>(&self) -> Tuple<'s>
-    where
-        C: MemberForm<'s>,
-        ensures { result ≡ self.now }
-    {
-        let mut tuple = Tuple::single(self.first.member());
-        tuple.add(self.second.member());
-        tuple
-    }
-
-    /// Returns the member at a component, counted from 0.
-    pub(crate) fn member<'s>(&self, component: usize) -> Option<Member<'s>>
-    where
-        C: MemberForm<'s>,
-        ensures { result ≡ slice_get self.now component }
-    {
-        match component {
-            0 => Some(self.first.member()),
-            1 => Some(self.second.member()),
-            _ => None,
-        }
-    }
-
-    /// Returns whether the tuple has these members.
-    pub(crate) fn consists_of<'s>(&self, members: &[Member<'s>]) -> bool
-    where
-        C: MemberForm<'s>,
-        ensures { result ≡ same_tuple members.now self.now }
-    {
-        match members {
-            [first, second] => *first == self.first.member() && *second == self.second.member(),
-            _ => false,
-        }
+/// Returns the tuple at a position, counted from 0.
+pub(crate) fn tuple_in<'s, const N: usize>(
+    set: &IndexSet<ShortTuple<'s, N>, HashKey>,
+    position: usize,
+) -> Option<Tuple<'s>>
+    requires { N ≤ arity_limit }
+    ensures { result ≡ slice_get set.now.keys position }
+{
+    match set.get_index(position) {
+        None => None,
+        Some(short) => Some(Tuple::of_members(short.as_slice())),
     }
 }
 
-impl<C: MemberStorage> PartialEq for Two<C> {
-    ghost use Rattle.net_sets.specs.Sets.{same_tuple};
-    ghost use Rattle.net_sets.specs.EqualTuples.{same_partly};
-
-    ghost eq = { same_tuple };
-
-    ghost laws = { same_partly };
-
-    fn eq(&self, other: &Two<C>) -> bool {
-        self.first.is_same(&other.first) && self.second.is_same(&other.second)
+/// Returns the number of members of the tuple at a position, counted from 0; 0 if there is none.
+pub(crate) fn width_in<'s, const N: usize>(
+    set: &IndexSet<ShortTuple<'s, N>, HashKey>,
+    position: usize,
+) -> usize
+    ensures value { result ≡ length (get_or set.now.keys position []) }
+    ensures fits { result ≤ N }
+{
+    match set.get_index(position) {
+        None => 0,
+        Some(short) => short.as_slice().len(),
     }
 }
 
-impl<C: MemberStorage> Eq for Two<C> {
-    ghost use Rattle.net_sets.specs.EqualTuples.{same_equiv};
-
-    ghost laws = { same_equiv };
+/// Returns the member at a component of the tuple at a position, both counted from 0.
+pub(crate) fn member_in<'s, const N: usize>(
+    set: &IndexSet<ShortTuple<'s, N>, HashKey>,
+    position: usize,
+    component: usize,
+) -> Option<Member<'s>>
+    ensures { result ≡ slice_get (get_or set.now.keys position []) component }
+{
+    match set.get_index(position) {
+        None => None,
+        Some(short) => short.member(component),
+    }
 }
 
-impl<C: MemberStorage> Hash for Two<C> {
-    ghost use Rattle.net_sets.specs.Hashes.{tuple_writes};
-    ghost use Rattle.net_sets.specs.EqualHashes.{same_tuple_writes};
+/// Returns whether the tuple of these members is at `position`.
+pub(crate) fn is_in<'s, const N: usize>(
+    set: &IndexSet<ShortTuple<'s, N>, HashKey>,
+    position: usize,
+    members: &[Member<'s>],
+) -> bool
+    ensures { result ≡ is_at set.now.keys position members.now }
+{
+    match set.get_index(position) {
+        None => false,
+        Some(short) => are_same(members, short.as_slice()),
+    }
+}
 
-    ghost hash_input = { tuple_writes };
+/// Returns the position of a tuple, counted from 0.
+pub(crate) fn position_in<'s, const N: usize>(
+    set: &IndexSet<ShortTuple<'s, N>, HashKey>,
+    tuple: &Tuple<'s>,
+) -> Option<usize>
+    requires { AreShort N set.now.keys }
+    ensures { result ≡ place_of set.now.keys tuple.now }
+{
+    match ShortTuple::of(tuple) {
+        None => None,
+        Some(short) => set.get_index_of(&short),
+    }
+}
 
-    ghost respects_eq = { same_tuple_writes };
+/// Appends a tuple unless it is there, and returns whether it was new.
+pub(crate) fn add_short<'s, const N: usize>(
+    set: &mut IndexSet<ShortTuple<'s, N>, HashKey>,
+    short: ShortTuple<'s, N>,
+) -> Result<bool, AllocError>
+    ensures new { IfOk result (λ is_new. is_new ≡ not (has set.old.keys short.entry)) }
+    ensures ok { OnOk result (set.new.keys ≡ added set.old.keys short.entry) }
+    ensures err { OnErr result (set.new.keys ≡ set.old.keys) }
+    ensures distinct { IsDistinct same_tuple set.new.keys }
+{
+    Ok(set.insert(short)?)
+}
 
-    fn hash<H: Hasher>(&self, state: &mut H) {
-        self.first.write_to(state);
-        self.second.write_to(state);
+/// Appends a tuple unless it is there, and returns whether it was new; returns `None` if it has more than `N` members.
+pub(crate) fn insert_in<'s, const N: usize>(
+    set: &mut IndexSet<ShortTuple<'s, N>, HashKey>,
+    tuple: &Tuple<'s>,
+) -> Result<Option<bool>, AllocError>
+    ensures new { IfOk result (λ known. IfSome known (λ is_new. is_new ≡ not (has set.old.keys tuple.now))) }
+    ensures ok { IfOk result (λ known. MatchOption known (set.new.keys ≡ set.old.keys) (λ _. set.new.keys ≡ added set.old.keys tuple.now)) }
+    ensures err { OnErr result (set.new.keys ≡ set.old.keys) }
+    ensures short { AreShort N set.old.keys → AreShort N set.new.keys }
+    ensures distinct { IfOk result (λ known. IfSome known (λ _. IsDistinct same_tuple set.new.keys)) }
+{
+    match ShortTuple::of(tuple) {
+        None => Ok(None),
+        Some(short) => Ok(Some(add_short(set, short)?)),
     }
 }

@@ -1,9 +1,8 @@
-//! Storage of distinct tuples: consecutive numbers by the first one and their count; single members and pairs without room for more,
-//! and without tags if all members are of one kind.
+//! Storage of distinct tuples: consecutive numbers by the first one and their count, single members and pairs without room for more.
 
 ghost use Rattle.std.specs.Prelude.{◌≡◌, ◌≤◌, [], ◌∷◌, not, get_or, length, slice_get, IfOk, IfSome, MatchOption, OnOk, OnErr};
 ghost use Rattle.std.specs.List.{IsDistinct, items_where_true};
-ghost use Rattle.net_sets.specs.Forms.{AreFormed, is_number};
+ghost use Rattle.net_sets.specs.Forms.{AreShort};
 ghost use Rattle.net_sets.specs.Limits.{arity_limit};
 ghost use Rattle.net_sets.specs.Sets.{added, has, place_of, same_tuple};
 ghost use Rattle.net_sets.specs.TupleSets.{is_at};
@@ -11,13 +10,10 @@ ghost use Rattle.net_sets.specs.TupleStores.{IsStore, tuples_in};
 
 mod widened;
 
-use crate::kept::{Kept, add, are_all_true, keep_at, width_below};
+use crate::kept::{Kept, add, are_all_true, keep_at};
 use crate::key::HashKey;
 use crate::member::Member;
-use crate::short_sets::{
-    insert_one, insert_two, is_one_at, is_two_at, member_of_one, member_of_two, one_at,
-    position_of_one, position_of_two, two_at,
-};
+use crate::short_tuple::{insert_in, is_in, member_in, position_in, tuple_in, width_in};
 use crate::tuple::Tuple;
 use std::alloc::{AllocError, Global};
 use std::marker::Model;
@@ -70,11 +66,7 @@ impl<'s> TupleStore<'s> {
         match &self.kept {
             Kept::Nothing => 0,
             Kept::Run(run) => run.len(),
-            Kept::Numbers(set) => set.len(),
-            Kept::Names(set) => set.len(),
             Kept::Singles(set) => set.len(),
-            Kept::NumberPairs(set) => set.len(),
-            Kept::NamePairs(set) => set.len(),
             Kept::Pairs(set) => set.len(),
             Kept::Tuples(set) => set.len(),
         }
@@ -87,12 +79,8 @@ impl<'s> TupleStore<'s> {
         match &self.kept {
             Kept::Nothing => None,
             Kept::Run(run) => run.tuple(position),
-            Kept::Numbers(set) => one_at(set, position),
-            Kept::Names(set) => one_at(set, position),
-            Kept::Singles(set) => one_at(set, position),
-            Kept::NumberPairs(set) => two_at(set, position),
-            Kept::NamePairs(set) => two_at(set, position),
-            Kept::Pairs(set) => two_at(set, position),
+            Kept::Singles(set) => tuple_in(set, position),
+            Kept::Pairs(set) => tuple_in(set, position),
             Kept::Tuples(set) => match set.get_index(position) {
                 None => None,
                 Some(tuple) => Some(tuple.copied()),
@@ -117,13 +105,9 @@ impl<'s> TupleStore<'s> {
     {
         match &self.kept {
             Kept::Nothing => 0,
-            Kept::Run(run) => width_below(position, run.len(), 1),
-            Kept::Numbers(set) => width_below(position, set.len(), 1),
-            Kept::Names(set) => width_below(position, set.len(), 1),
-            Kept::Singles(set) => width_below(position, set.len(), 1),
-            Kept::NumberPairs(set) => width_below(position, set.len(), 2),
-            Kept::NamePairs(set) => width_below(position, set.len(), 2),
-            Kept::Pairs(set) => width_below(position, set.len(), 2),
+            Kept::Run(run) => run.width_at(position),
+            Kept::Singles(set) => width_in(set, position),
+            Kept::Pairs(set) => width_in(set, position),
             Kept::Tuples(set) => match set.get_index(position) {
                 None => 0,
                 Some(tuple) => tuple.len(),
@@ -138,12 +122,8 @@ impl<'s> TupleStore<'s> {
         match &self.kept {
             Kept::Nothing => None,
             Kept::Run(run) => run.member_at(position, component),
-            Kept::Numbers(set) => member_of_one(set, position, component),
-            Kept::Names(set) => member_of_one(set, position, component),
-            Kept::Singles(set) => member_of_one(set, position, component),
-            Kept::NumberPairs(set) => member_of_two(set, position, component),
-            Kept::NamePairs(set) => member_of_two(set, position, component),
-            Kept::Pairs(set) => member_of_two(set, position, component),
+            Kept::Singles(set) => member_in(set, position, component),
+            Kept::Pairs(set) => member_in(set, position, component),
             Kept::Tuples(set) => match set.get_index(position) {
                 None => None,
                 Some(tuple) => tuple.member(component),
@@ -158,12 +138,8 @@ impl<'s> TupleStore<'s> {
         match &self.kept {
             Kept::Nothing => false,
             Kept::Run(run) => run.is_at(position, members),
-            Kept::Numbers(set) => is_one_at(set, position, members),
-            Kept::Names(set) => is_one_at(set, position, members),
-            Kept::Singles(set) => is_one_at(set, position, members),
-            Kept::NumberPairs(set) => is_two_at(set, position, members),
-            Kept::NamePairs(set) => is_two_at(set, position, members),
-            Kept::Pairs(set) => is_two_at(set, position, members),
+            Kept::Singles(set) => is_in(set, position, members),
+            Kept::Pairs(set) => is_in(set, position, members),
             Kept::Tuples(set) => match set.get_index(position) {
                 None => false,
                 Some(tuple) => tuple.consists_of(members),
@@ -178,12 +154,8 @@ impl<'s> TupleStore<'s> {
         match &self.kept {
             Kept::Nothing => None,
             Kept::Run(run) => run.position_of(tuple),
-            Kept::Numbers(set) => position_of_one(set, tuple),
-            Kept::Names(set) => position_of_one(set, tuple),
-            Kept::Singles(set) => position_of_one(set, tuple),
-            Kept::NumberPairs(set) => position_of_two(set, tuple),
-            Kept::NamePairs(set) => position_of_two(set, tuple),
-            Kept::Pairs(set) => position_of_two(set, tuple),
+            Kept::Singles(set) => position_in(set, tuple),
+            Kept::Pairs(set) => position_in(set, tuple),
             Kept::Tuples(set) => set.get_index_of(tuple),
         }
     }
@@ -215,12 +187,8 @@ impl<'s> TupleStore<'s> {
         match &mut self.kept {
             Kept::Nothing | Kept::Tuples(_) => Ok(None),
             Kept::Run(run) => Ok(run.insert(tuple)),
-            Kept::Numbers(set) => insert_one(set, tuple),
-            Kept::Names(set) => insert_one(set, tuple),
-            Kept::Singles(set) => insert_one(set, tuple),
-            Kept::NumberPairs(set) => insert_two(set, tuple),
-            Kept::NamePairs(set) => insert_two(set, tuple),
-            Kept::Pairs(set) => insert_two(set, tuple),
+            Kept::Singles(set) => insert_in(set, tuple),
+            Kept::Pairs(set) => insert_in(set, tuple),
         }
     }
 
@@ -233,32 +201,15 @@ impl<'s> TupleStore<'s> {
         self.kept = kept;
     }
 
-    /// Appends a tuple unless it is there, after copying all numbers into a hash table, and returns whether it was new. Returns `None` if
-    /// one of them is not a number.
-    fn insert_as_number(&mut self, tuple: &Tuple<'s>) -> Result<Option<bool>, AllocError>
-        ensures new { IfOk result (λ known. IfSome known (λ is_new. is_new ≡ not (has self.old tuple.now))) }
-        ensures ok { IfOk result (λ known. MatchOption known (self.new ≡ self.old) (λ _. self.new ≡ added self.old tuple.now)) }
-        ensures err { OnErr result (self.new ≡ self.old) }
-        ensures distinct { IfOk result (λ known. IfSome known (λ _. IsDistinct same_tuple self.new)) }
-    {
-        match self.with_one::<i64>(tuple)? {
-            None => Ok(None),
-            Some((set, is_new)) => {
-                self.put(Kept::Numbers(set));
-                Ok(Some(is_new))
-            }
-        }
-    }
-
-    /// Appends a tuple unless it is there, after copying all members into a hash table, and returns whether it was new. Returns `None`
-    /// if one of the tuples does not have one member.
+    /// Appends a tuple unless it is there, after copying all tuples into a hash table for single members, and returns whether it was
+    /// new. Returns `None` if one of them has more members.
     fn insert_as_single(&mut self, tuple: &Tuple<'s>) -> Result<Option<bool>, AllocError>
         ensures new { IfOk result (λ known. IfSome known (λ is_new. is_new ≡ not (has self.old tuple.now))) }
         ensures ok { IfOk result (λ known. MatchOption known (self.new ≡ self.old) (λ _. self.new ≡ added self.old tuple.now)) }
         ensures err { OnErr result (self.new ≡ self.old) }
         ensures distinct { IfOk result (λ known. IfSome known (λ _. IsDistinct same_tuple self.new)) }
     {
-        match self.with_one::<Member<'s>>(tuple)? {
+        match self.with_short(tuple)? {
             None => Ok(None),
             Some((set, is_new)) => {
                 self.put(Kept::Singles(set));
@@ -267,15 +218,15 @@ impl<'s> TupleStore<'s> {
         }
     }
 
-    /// Appends a tuple unless it is there, after copying all pairs into a hash table, and returns whether it was new. Returns `None` if
-    /// one of the tuples is not a pair.
+    /// Appends a tuple unless it is there, after copying all tuples into a hash table for pairs, and returns whether it was new.
+    /// Returns `None` if one of them has more members.
     fn insert_as_pair(&mut self, tuple: &Tuple<'s>) -> Result<Option<bool>, AllocError>
         ensures new { IfOk result (λ known. IfSome known (λ is_new. is_new ≡ not (has self.old tuple.now))) }
         ensures ok { IfOk result (λ known. MatchOption known (self.new ≡ self.old) (λ _. self.new ≡ added self.old tuple.now)) }
         ensures err { OnErr result (self.new ≡ self.old) }
         ensures distinct { IfOk result (λ known. IfSome known (λ _. IsDistinct same_tuple self.new)) }
     {
-        match self.with_two::<Member<'s>>(tuple)? {
+        match self.with_short(tuple)? {
             None => Ok(None),
             Some((set, is_new)) => {
                 self.put(Kept::Pairs(set));
@@ -321,9 +272,6 @@ impl<'s> TupleStore<'s> {
             self.insert_first(tuple)?;
             return Ok(true);
         }
-        if let Some(is_new) = self.insert_as_number(&tuple)? {
-            return Ok(is_new);
-        }
         if let Some(is_new) = self.insert_as_single(&tuple)? {
             return Ok(is_new);
         }
@@ -342,11 +290,7 @@ impl<'s> TupleStore<'s> {
         match &mut self.kept {
             Kept::Nothing => {}
             Kept::Run(_) => return self.retain_run(answers),
-            Kept::Numbers(set) => keep_at(set, answers),
-            Kept::Names(set) => keep_at(set, answers),
             Kept::Singles(set) => keep_at(set, answers),
-            Kept::NumberPairs(set) => keep_at(set, answers),
-            Kept::NamePairs(set) => keep_at(set, answers),
             Kept::Pairs(set) => keep_at(set, answers),
             Kept::Tuples(set) => keep_at(set, answers),
         }
@@ -357,7 +301,7 @@ impl<'s> TupleStore<'s> {
     /// into a hash table.
     fn retain_run(&mut self, answers: &[bool]) -> Result<(), AllocError>
         requires size { length answers.now ≡ length self.old }
-        requires numbers { AreFormed is_number 1 self.old }
+        requires short { AreShort 1 self.old }
         ensures ok { OnOk result (self.new ≡ items_where_true answers.now self.old) }
         ensures err { OnErr result (self.new ≡ self.old) }
     {
@@ -365,9 +309,9 @@ impl<'s> TupleStore<'s> {
             return Ok(());
         }
         let _distinct = self.len();
-        if let Some(mut set) = self.ones()? {
+        if let Some(mut set) = self.shorts()? {
             keep_at(&mut set, answers);
-            self.put(Kept::Numbers(set));
+            self.put(Kept::Singles(set));
         }
         Ok(())
     }
@@ -378,11 +322,7 @@ impl<'s> TupleStore<'s> {
     {
         match &mut self.kept {
             Kept::Nothing | Kept::Run(_) => {}
-            Kept::Numbers(set) => set.shrink_to_fit(),
-            Kept::Names(set) => set.shrink_to_fit(),
             Kept::Singles(set) => set.shrink_to_fit(),
-            Kept::NumberPairs(set) => set.shrink_to_fit(),
-            Kept::NamePairs(set) => set.shrink_to_fit(),
             Kept::Pairs(set) => set.shrink_to_fit(),
             Kept::Tuples(set) => set.shrink_to_fit(),
         }

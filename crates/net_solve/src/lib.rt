@@ -34,3 +34,4 @@ pub use net_guess::{Guess, find_guess};
 pub use primal_dual::settle;
 pub use scaling::{Scaling, ScalingRun};
 pub use solver::{Plain, Solver};
+pub use std::alloc::AllocError as OutOfMemory;

@@ -2,18 +2,19 @@
 
 ghost use Rattle.std.specs.Prelude.{[]};
 ghost use Rattle.net_tree.specs.View as view;
-ghost use Rattle.net_eval.specs.Binding.{AreNew};
+ghost use Rattle.net_bind.specs.Binding.{AreNew};
 
+use crate::bound::world_shown;
 use crate::instances::network_shown;
 use crate::steps::line_of;
 use crate::values::{index_shown, members_shown, truth_shown, value_shown};
 use net_base::Excerpt;
+use net_bind::{Member, Scope, World, bind, well_named_are_new};
 use net_data::{Tables, parse_data};
 use net_driver::well_named;
-use net_eval::{Member, Scope, World, bind, well_named_are_new};
 use net_lex::{Token, Words, lex_data, lex_model};
 use net_model::{CheckedModel, free_model, parse_declarations, parse_model};
-use net_resolve::Hints;
+use net_names::Hints;
 use net_sets::HashKey;
 use net_tree::{Braces, Decl, Expr, Model};
 use std::alloc::{AllocError, Global};
@@ -37,6 +38,17 @@ pub struct Question<'s> {
     pub call: Call,
     pub dummy: Option<i64>,
     pub check: &'s str,
+}
+
+/// What is shown of a model and its data.
+#[derive(Clone, Copy)]
+pub enum Shown<'s> {
+    /// The answer to a question about their world.
+    Answer(Question<'s>),
+    /// The world: what `bind` answers.
+    World,
+    /// The network.
+    Network,
 }
 
 fn scope_of<'s>(alloc: Global, dummy: Option<i64>) -> Result<Scope<'s>, AllocError> {
@@ -132,10 +144,10 @@ fn answered<'s>(
     }
 }
 
-/// What is asked of the world of a model and its tables: a question, or with none the network of the model.
+/// What is shown of a model and its tables.
 fn of_tables<'s>(
     alloc: Global,
-    question: Option<Question<'s>>,
+    shown: Shown<'s>,
     model: &Model<'s>,
     hints: &Hints<'s>,
     tables: &Tables<'_, 's>,
@@ -143,9 +155,10 @@ fn of_tables<'s>(
     requires { AreNew [] (view.model model.now) }
 {
     match bind(alloc, model, hints, tables) {
-        Ok(world) => match question {
-            Some(question) => answered(alloc, question, &world),
-            None => network_shown(alloc, model, &world),
+        Ok(world) => match shown {
+            Shown::Answer(question) => answered(alloc, question, &world),
+            Shown::World => world_shown(alloc, model, &world),
+            Shown::Network => network_shown(alloc, model, &world),
         },
         Err(fault) => line_of(alloc, &fault),
     }
@@ -153,35 +166,35 @@ fn of_tables<'s>(
 
 fn of_data_tokens<'s>(
     alloc: Global,
-    question: Option<Question<'s>>,
+    shown: Shown<'s>,
     model: &CheckedModel<'s>,
     tokens: &Words<'_, 's>,
 ) -> Result<String, AllocError>
     requires { AreNew [] (view.model model.now) }
 {
     match parse_data(alloc, tokens) {
-        Ok(tables) => of_tables(alloc, question, model.model(), model.hints(), &tables),
+        Ok(tables) => of_tables(alloc, shown, model.model(), model.hints(), &tables),
         Err(fault) => line_of(alloc, &fault),
     }
 }
 
 fn of_model<'s>(
     alloc: Global,
-    question: Option<Question<'s>>,
+    shown: Shown<'s>,
     model: &CheckedModel<'s>,
     data: &'s str,
 ) -> Result<String, AllocError>
     requires { AreNew [] (view.model model.now) }
 {
     match lex_data(alloc, data.as_bytes()) {
-        Ok(tokens) => of_data_tokens(alloc, question, model, &tokens.words()),
+        Ok(tokens) => of_data_tokens(alloc, shown, model, &tokens.words()),
         Err(fault) => line_of(alloc, &fault),
     }
 }
 
 fn of_model_tokens<'s>(
     alloc: Global,
-    question: Option<Question<'s>>,
+    shown: Shown<'s>,
     tokens: &[Token<'s>],
     data: &'s str,
 ) -> Result<String, AllocError> {
@@ -189,23 +202,23 @@ fn of_model_tokens<'s>(
         Ok(model) => {
             well_named();
             well_named_are_new();
-            let shown = of_model(alloc, question, &model, data);
+            let text = of_model(alloc, shown, &model, data);
             free_model(model.into_model());
-            shown
+            text
         }
         Err(fault) => line_of(alloc, &fault),
     }
 }
 
-/// What is asked of the world of a model with its data, or the first error of the two.
-pub fn asked<'s>(
+/// What is shown of a model with its data, or the first error of the two.
+pub fn shown_of<'s>(
     alloc: Global,
-    question: Option<Question<'s>>,
+    shown: Shown<'s>,
     model: &'s str,
     data: &'s str,
 ) -> Result<String, AllocError> {
     match lex_model(alloc, model.as_bytes()) {
-        Ok(tokens) => of_model_tokens(alloc, question, tokens.as_slice(), data),
+        Ok(tokens) => of_model_tokens(alloc, shown, tokens.as_slice(), data),
         Err(fault) => line_of(alloc, &fault),
     }
 }

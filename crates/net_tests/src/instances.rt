@@ -2,7 +2,7 @@
 
 use crate::steps::line_of;
 use crate::values::tuple_shown;
-use net_eval::World;
+use net_bind::World;
 use net_inst::{Declared, DeclaredRows, NameList, Named, instantiate};
 use net_normal::{InstArc, Instance, NodeRange, Sense};
 use net_tree::Model;

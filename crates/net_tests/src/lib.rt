@@ -7,6 +7,8 @@
 #[cfg(test)]
 mod asking;
 #[cfg(test)]
+mod bound;
+#[cfg(test)]
 mod calls;
 #[cfg(test)]
 mod choice_cases;

@@ -3,14 +3,15 @@
 use crate::comparison::expect;
 use crate::steps::line_of;
 use net_base::Excerpt;
-use net_eval::{Keys, Member, Scope, Tuple, World, holds, index_of, members, value};
+use net_bind::{Keys, Member, Scope, Tuple, World, holds, index_of, members, value};
 use net_expr::{Row, push_member};
 use net_lex::whole_of;
 use net_tree::{Braces, Expr};
 use std::alloc::{AllocError, Global};
 use std::test::Fail;
 
-fn member_shown(alloc: Global, member: &Member<'_>) -> Result<String, AllocError> {
+/// A member as text.
+pub fn member_shown(alloc: Global, member: &Member<'_>) -> Result<String, AllocError> {
     let mut out = String::new(alloc);
     push_member(alloc, &mut out, member)?;
     Ok(out)

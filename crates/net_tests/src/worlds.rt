@@ -1,6 +1,6 @@
 //! Models that are bound to data: the values of expressions in their worlds, and their networks.
 
-use crate::asking::{Call, Question, asked};
+use crate::asking::{Call, Question, Shown, shown_of};
 use crate::comparison::expect;
 use std::test::Fail;
 
@@ -108,7 +108,63 @@ fn expressions_have_values(rt: HostRuntime) -> Result<(), Fail> {
         };
         expect(
             check,
-            asked(rt.alloc(), Some(question), MODEL, DATA),
+            shown_of(rt.alloc(), Shown::Answer(question), MODEL, DATA),
+            wanted,
+        )?;
+    }
+    Ok(())
+}
+
+/// Models and data, with all sets and parameters of their world, or the first error.
+const WORLDS: &[(&str, &str, &str)] = &[
+    (
+        "set S; set L dimen 2; param c {L}; param d {i in S} default 2 * i; param rate;
+param r {i in S, j in 1..2} := 10 * i + j;",
+        "set S := 3 1 2; param : L : c := a 1 5 b 2 . a 2 7; param d := 1 9; param rate := 4;",
+        "S of 1: 3; 1; 2; L of 2: 'a' 1; 'b' 2; 'a' 2; \
+c by Some(2): 'a' 1 = 5; 'b' 2 = none; 'a' 2 = 7; d by Some(1): 3 = 6; 1 = 9; 2 = 4; rate by None: = 4; \
+r by Some(2): 3 1 = 31; 3 2 = 32; 1 1 = 11; 1 2 = 12; 2 1 = 21; 2 2 = 22; ",
+    ),
+    (
+        "set A; set B; param m {A, B}; param n {B} default 0;",
+        "set A := x y; set B := 1 2; param m default 8 (tr) : x y := 1 5 . 2 6 7; param n := 2 3; param n := 1 4;",
+        "A of 1: 'x'; 'y'; B of 1: 1; 2; \
+m by Some(2): 'x' 1 = 5; 'x' 2 = 6; 'y' 1 = 8; 'y' 2 = 7; n by Some(1): 1 = 4; 2 = 3; ",
+    ),
+    (
+        "set C; param home {C} symbolic; set E dimen 3; set U := C union {'Rome', 7}; param lone;",
+        "param : C : home := 'New York' Bern Rome 7; set E := ;",
+        "C of 1: 'New York'; 'Rome'; home by Some(1): 'New York' = 'Bern'; 'Rome' = 7; E of 3: \
+U of 1: 'New York'; 'Rome'; 7; lone by None: = none; ",
+    ),
+    (
+        "set S; check: 1 in S; param p {S} >= 0;",
+        "set S := 2; param p := 2 -1;",
+        "E34 Restriction in the model, bytes 37..38: p[2]",
+    ),
+    (
+        "set S; set T;",
+        "set T := 1 1;",
+        "E32 NoValue in the model, bytes 4..5: S",
+    ),
+    (
+        "set S; set T;",
+        "set S := 2; set T := 1 1;",
+        "E31 DoubleValue in the data, bytes 23..24: T",
+    ),
+    (
+        "set S; param p {S};",
+        "set S := 2; param p := 2 5 3 6 2 7;",
+        "E33 OutsideSet in the data, bytes 27..28: p[3]",
+    ),
+];
+
+#[test]
+fn models_have_worlds(rt: HostRuntime) -> Result<(), Fail> {
+    for (model, data, wanted) in WORLDS {
+        expect(
+            model,
+            shown_of(rt.alloc(), Shown::World, model, data),
             wanted,
         )?;
     }
@@ -151,7 +207,11 @@ maximize Gain: 2 * X - Y + 7;",
 #[test]
 fn models_have_networks(rt: HostRuntime) -> Result<(), Fail> {
     for (model, data, wanted) in NETWORKS {
-        expect(model, asked(rt.alloc(), None, model, data), wanted)?;
+        expect(
+            model,
+            shown_of(rt.alloc(), Shown::Network, model, data),
+            wanted,
+        )?;
     }
     Ok(())
 }

@@ -3,24 +3,24 @@ use Rattle.std.specs.Prelude.{◌+◌, ◌<◌, ◌≤◌, length, get_or, drop,
 use Rattle.std.proofs.Common.{sym, ap, ◌∙◌, add-one, arith}
 use Rattle.std.proofs.Math.Seq.{drop-cons}
 use Rattle.net_lex.specs.declared.token.Token.{Token}
-use Rattle.net_tree.specs.declared.operator.Words.{Words as Operator}
+use Rattle.net_tree.specs.declared.operator.OperatorWords.{OperatorWords as Operator}
 use Rattle.net_tree.specs.declared.expr.Expr.{Expr}
 use Rattle.net_tree.specs.declared.expr.Expr.TheVariants as e
-use Rattle.net_tree.specs.declared.expr.Link.{Link, out-Link}
+use Rattle.net_tree.specs.declared.expr.LinkedOperand.{LinkedOperand, out-LinkedOperand}
 use Rattle.net_tree.specs.declared.expr.Operands.{Operands, out-Operands}
 use Rattle.net_tree.specs.declared.expr.Part.{Part as Part_of_code, out-Part}
 use Rattle.net_tree.specs.declared.expr.Braces.{Braces as Braces_of_code}
 use Rattle.net_tree.specs.declared.expr.Braces.TheVariants as b
 use Rattle.net_tree.specs.declared.expr.Braces.TheOpen.{Expr-F, Braces-F}
-use Rattle.net_tree.specs.declared.expr.Braces.TheFolds.{fold-roll-Expr, fold-roll-Braces, fold_out-Link, fold_out-Part, fold_out-Operands}
+use Rattle.net_tree.specs.declared.expr.Braces.TheFolds.{fold-roll-Expr, fold-roll-Braces, fold_out-LinkedOperand, fold_out-Part, fold_out-Operands}
 use Rattle.net_tree.specs.declared.declaration.Phrase.{Phrase as Phrase_of_code}
 use Rattle.net_tree.specs.declared.declaration.Decl.{Decl}
 use Rattle.net_tree.specs.Tree.{Tree, Links, Braces, leaf, indexed, parens, tuple, negated, braced, signed, reduced, chain, choice, net, link, absent, part, empty, filled}
 use Rattle.net_tree.specs.View.{tree, link_of, operands_of, part_of, braces_of, links_of, option_part, phrase_of, declaration_of, expr_step, link_step, part_step, braces_step, operands_step}
 
-pub link_of-out : (l : Link) → link_of l ≡ ((out-Link l).operator, tree (out-Link l).operand)
+pub link_of-out : (l : LinkedOperand) → link_of l ≡ ((out-LinkedOperand l).operator, tree (out-LinkedOperand l).operand)
 unfolding tree link_of operands_of part_of braces_of
-link_of-out l = fold_out-Link Braces Tree (Operator × Tree) (Tree × Links) (Token × Tree) braces_step expr_step link_step operands_step part_step l
+link_of-out l = fold_out-LinkedOperand Braces Tree (Operator × Tree) (Tree × Links) (Token × Tree) braces_step expr_step link_step operands_step part_step l
 
 pub part_of-out : (p : Part_of_code) → part_of p ≡ ((out-Part p).mark, tree (out-Part p).value)
 unfolding tree link_of operands_of part_of braces_of
@@ -30,7 +30,7 @@ pub series_of-out : (s : Operands) → operands_of s ≡ (tree (out-Operands s).
 unfolding tree link_of operands_of part_of braces_of
 series_of-out s = fold_out-Operands Braces Tree (Operator × Tree) (Tree × Links) (Token × Tree) braces_step expr_step link_step operands_step part_step s
 
-pub links_of-cons : (l : Link) (ls : List Link) → links_of (l ∷ ls) ≡ link (out-Link l).operator (tree (out-Link l).operand) (links_of ls)
+pub links_of-cons : (l : LinkedOperand) (ls : List LinkedOperand) → links_of (l ∷ ls) ≡ link (out-LinkedOperand l).operator (tree (out-LinkedOperand l).operand) (links_of ls)
 links_of-cons l ls = ap (λ p. link p.0 p.1 (links_of ls)) (link_of-out l)
 
 pub option_part-some : (p : Part_of_code) → option_part (Some p) ≡ part (out-Part p).mark (tree (out-Part p).value)
@@ -127,13 +127,13 @@ drop_at : {A : Type 0} (ls : List A) (i : ℕ) (l : A) → i < length ls → l �
 drop_at ls i l h e = let a = drop-cons ls i l h in let b = add-one i in cc
 
 -- what is left of the links at one of them
-pub next_link : (ls : List Link) (i : ℕ) (l : Link) → i < length ls → l ≡ get_or ls i l → links_of (drop i ls) ≡ link (out-Link l).operator (tree (out-Link l).operand) (links_of (drop (i + 1) ls))
+pub next_link : (ls : List LinkedOperand) (i : ℕ) (l : LinkedOperand) → i < length ls → l ≡ get_or ls i l → links_of (drop i ls) ≡ link (out-LinkedOperand l).operator (tree (out-LinkedOperand l).operand) (links_of (drop (i + 1) ls))
 next_link ls i l h e = ap links_of (drop_at ls i l h e) ∙ links_of-cons l (drop (i + 1) ls)
 
 -- the first link and the others
-pub first_link : (ls : List Link) (l : Link) → 1 ≤ length ls → l ≡ get_or ls 0 l → links_of ls ≡ link (out-Link l).operator (tree (out-Link l).operand) (links_of (drop 1 ls))
+pub first_link : (ls : List LinkedOperand) (l : LinkedOperand) → 1 ≤ length ls → l ≡ get_or ls 0 l → links_of ls ≡ link (out-LinkedOperand l).operator (tree (out-LinkedOperand l).operand) (links_of (drop 1 ls))
 first_link [] l a e = absurd (omega arith)
-first_link (x ∷ ls) l a e = links_of-cons x ls ∙ ap (λ (k : Link). link (out-Link k).operator (tree (out-Link k).operand) (links_of ls)) (sym e)
+first_link (x ∷ ls) l a e = links_of-cons x ls ∙ ap (λ (k : LinkedOperand). link (out-LinkedOperand k).operator (tree (out-LinkedOperand k).operand) (links_of ls)) (sym e)
 
 -- what is left of the phrases and of the declarations at one of them
 pub next_phrase : (ps : List Phrase_of_code) (i : ℕ) (p : Phrase_of_code) → i < length ps → p ≡ get_or ps i p → map phrase_of (drop i ps) ≡ phrase_of p ∷ map phrase_of (drop (i + 1) ps)

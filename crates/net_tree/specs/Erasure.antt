@@ -1,6 +1,6 @@
 -- The abstract syntax of a syntax tree: the same expression or declaration without its punctuation, and with its operators decoded.
 use Rattle.std.specs.Prelude.{List, map, Option, None, Some}
-use Rattle.net_tree.specs.declared.operator.Words.TheVariants.{One}
+use Rattle.net_tree.specs.declared.operator.OperatorWords.TheVariants.{One}
 use Rattle.net_tree.specs.Operations.{operation, reduction, is_minus, has_minus, is_outflow, is_minimize}
 use Rattle.net_tree.specs.Role.{role_of}
 use Rattle.net_tree.specs.Syntax as forms

@@ -1,7 +1,7 @@
 -- Models in the specification: syntax trees that contain every token of the text.
 use Rattle.std.specs.Prelude.{ℕ, List, Option}
 use Rattle.net_lex.specs.declared.token.Token.{Token}
-use Rattle.net_tree.specs.declared.operator.Words.{Words as Operator}
+use Rattle.net_tree.specs.declared.operator.OperatorWords.{OperatorWords as Operator}
 
 mutual
   -- an expression; the comments give an example of each form

@@ -1,14 +1,14 @@
 -- The syntax trees of the code, as trees of the specification.
 use Rattle.std.specs.Prelude.{List, [], ◌∷◌, Option, None, Some, map}
 use Rattle.net_lex.specs.declared.token.Token.{Token}
-use Rattle.net_tree.specs.declared.operator.Words.{Words as Operator}
+use Rattle.net_tree.specs.declared.operator.OperatorWords.{OperatorWords as Operator}
 use Rattle.net_tree.specs.declared.expr.Expr.{Expr}
 use Rattle.net_tree.specs.declared.expr.Operands.{Operands}
-use Rattle.net_tree.specs.declared.expr.Link.{Link}
+use Rattle.net_tree.specs.declared.expr.LinkedOperand.{LinkedOperand}
 use Rattle.net_tree.specs.declared.expr.Part.{Part as Part_of_code}
 use Rattle.net_tree.specs.declared.expr.Braces.{Braces as Braces_of_code}
-use Rattle.net_tree.specs.declared.expr.Braces.TheOpen.{Expr-F, Link-F, Part-F, Braces-F, Operands-F}
-use Rattle.net_tree.specs.declared.expr.Braces.TheFolds.{fold-Expr, fold-Link, fold-Part, fold-Braces, fold-Operands}
+use Rattle.net_tree.specs.declared.expr.Braces.TheOpen.{Expr-F, LinkedOperand-F, Part-F, Braces-F, Operands-F}
+use Rattle.net_tree.specs.declared.expr.Braces.TheFolds.{fold-Expr, fold-LinkedOperand, fold-Part, fold-Braces, fold-Operands}
 use Rattle.net_tree.specs.declared.declaration.Body.{Body as Body_of_code}
 use Rattle.net_tree.specs.declared.declaration.Body.TheVariants as bodies
 use Rattle.net_tree.specs.declared.declaration.Phrase.{Phrase as Phrase_of_code}
@@ -45,7 +45,7 @@ expr_step (Expr-F.Net p) = net p.0 p.1
 abbrev pub operands_step : Operands-F Braces Tree (Operator × Tree) (Tree × Links) (Token × Tree) → Tree × Links
 operands_step s = (s.first, links_from s.more)
 
-abbrev pub link_step : Link-F Braces Tree (Operator × Tree) (Tree × Links) (Token × Tree) → Operator × Tree
+abbrev pub link_step : LinkedOperand-F Braces Tree (Operator × Tree) (Tree × Links) (Token × Tree) → Operator × Tree
 link_step l = (l.operator, l.operand)
 
 abbrev pub part_step : Part-F Braces Tree (Operator × Tree) (Tree × Links) (Token × Tree) → Token × Tree
@@ -59,8 +59,8 @@ braces_step (Braces-F.Filled o s p c) = filled o s.0 s.1 (part_or_absent p) c
 unfoldable pub tree : Expr → Tree
 tree = fold-Expr Braces Tree (Operator × Tree) (Tree × Links) (Token × Tree) braces_step expr_step link_step operands_step part_step
 
-unfoldable pub link_of : Link → Operator × Tree
-link_of = fold-Link Braces Tree (Operator × Tree) (Tree × Links) (Token × Tree) braces_step expr_step link_step operands_step part_step
+unfoldable pub link_of : LinkedOperand → Operator × Tree
+link_of = fold-LinkedOperand Braces Tree (Operator × Tree) (Tree × Links) (Token × Tree) braces_step expr_step link_step operands_step part_step
 
 unfoldable pub part_of : Part_of_code → Token × Tree
 part_of = fold-Part Braces Tree (Operator × Tree) (Tree × Links) (Token × Tree) braces_step expr_step link_step operands_step part_step
@@ -71,7 +71,7 @@ operands_of = fold-Operands Braces Tree (Operator × Tree) (Tree × Links) (Toke
 unfoldable pub braces_of : Braces_of_code → Braces
 braces_of = fold-Braces Braces Tree (Operator × Tree) (Tree × Links) (Token × Tree) braces_step expr_step link_step operands_step part_step
 
-abbrev pub links_of : List Link → Links
+abbrev pub links_of : List LinkedOperand → Links
 links_of ls = links_from (map link_of ls)
 
 abbrev pub option_part : Option Part_of_code → Part

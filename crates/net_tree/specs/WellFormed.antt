@@ -3,8 +3,8 @@
 -- `or`, `if`, net terms. Each position allows trees up to some precedence.
 use Rattle.std.specs.Prelude.{◌≡◌, ◌≤◌, ◌<◌, ℕ, suc, Bool, true, false, ◌&&◌, ◌||◌, nat_eq, nat_le, if◌then◌else◌, Option, None, Some}
 use Rattle.net_lex.specs.declared.token.Token.{Token}
-use Rattle.net_tree.specs.declared.operator.Words.{Words as Operator}
-use Rattle.net_tree.specs.declared.operator.Words.TheVariants.{One, Two}
+use Rattle.net_tree.specs.declared.operator.OperatorWords.{OperatorWords as Operator}
+use Rattle.net_tree.specs.declared.operator.OperatorWords.TheVariants.{One, Two}
 use Rattle.net_tree.specs.declared.role.Role.{Role}
 use Rattle.net_tree.specs.declared.role.Role.TheVariants as roles
 use Rattle.net_tree.specs.Precedence.{of_operands, of_one, of_comma, of_reduction, of_product, of_sum, of_union, of_relation, of_or, of_if, of_net_term}

@@ -41,13 +41,13 @@ pub enum Expr<'s> {
 #[cycle(tree)]
 pub struct Operands<'s> {
     pub first: Expr<'s>,
-    pub more: Items<Link<'s>>,
+    pub more: Items<LinkedOperand<'s>>,
 }
 
 /// An operator or a comma, and the expression after it.
 #[derive(Drop)]
 #[cycle(tree)]
-pub struct Link<'s> {
+pub struct LinkedOperand<'s> {
     pub operator: Operator<'s>,
     pub operand: Expr<'s>,
 }

@@ -7,7 +7,7 @@ ghost use Rattle.net_tree.specs.Operations as operations;
 ghost use Rattle.net_tree.specs.Tree.{leaf};
 ghost use Rattle.net_tree.specs.View.{tree, links_of};
 
-use crate::expr::{Expr, Link};
+use crate::expr::{Expr, LinkedOperand};
 use crate::operator::{BinOp, Operator};
 use crate::role::{Role, role_of};
 use net_lex::Token;
@@ -19,7 +19,7 @@ fn is_in(operator: &Operator<'_>) -> bool
 }
 
 /// Returns the right operand of a single `in`.
-fn after_in<'a, 's>(links: &'a [Link<'s>]) -> Option<&'a Expr<'s>>
+fn after_in<'a, 's>(links: &'a [LinkedOperand<'s>]) -> Option<&'a Expr<'s>>
     ensures { option_map (λ x. tree x.now) result ≡ items.after_in (links_of links.entry.now) }
 {
     match links {

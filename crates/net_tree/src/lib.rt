@@ -11,7 +11,7 @@ mod span;
 mod terminal;
 
 pub use declaration::{Body, Decl, Model, NetCond, Phrase, PhraseWord, phrase_value};
-pub use expr::{Braces, Expr, Link, Operands, Part};
+pub use expr::{Braces, Expr, LinkedOperand, Operands, Part};
 pub use item::{sides_of, single_name};
 pub use operator::{BinOp, Operator, Reducer, Reduction, Sign};
 pub use role::{Begins, Declares, Relation, Role, role_of};

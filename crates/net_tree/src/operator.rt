@@ -1,7 +1,7 @@
 //! Operators, signs and reductions. The parser makes them from their tokens.
 
 ghost use Rattle.std.specs.Prelude.{◌≡◌, map};
-ghost use Rattle.net_tree.specs.declared.operator.Words.TheVariants as words;
+ghost use Rattle.net_tree.specs.declared.operator.OperatorWords.TheVariants as words;
 ghost use Rattle.net_tree.specs.Operations as operations;
 
 use net_base::Boxed;
@@ -74,7 +74,7 @@ pub enum Reduction {
 
 /// The tokens of an operator.
 #[derive(Drop)]
-pub enum Words<'s> {
+pub enum OperatorWords<'s> {
     /// `+`, `and`, `in`; in a list `,`
     One(Token<'s>),
     /// `not in`, `not within`
@@ -84,7 +84,7 @@ pub enum Words<'s> {
 /// A binary operator, which contracts see as its tokens.
 #[derive(Drop)]
 pub struct Operator<'s> {
-    words: Words<'s>,
+    words: OperatorWords<'s>,
     op: BinOp,
 }
 
@@ -104,10 +104,10 @@ pub struct Reducer<'s> {
 
 impl<'s> Model for Operator<'s> {
     ghost use Rattle.std.specs.Prelude.{◌≡◌};
-    ghost use Rattle.net_tree.specs.declared.operator.Words.{Words};
+    ghost use Rattle.net_tree.specs.declared.operator.OperatorWords.{OperatorWords};
     ghost use Rattle.net_tree.specs.Operations.{operation};
 
-    ghost Value = { Words };
+    ghost Value = { OperatorWords };
 
     ghost view = { λ o. o.words };
 
@@ -206,7 +206,7 @@ impl<'s> Operator<'s> {
     {
         let op = spelled(&token);
         Operator {
-            words: Words::One(token),
+            words: OperatorWords::One(token),
             op,
         }
     }
@@ -218,7 +218,7 @@ impl<'s> Operator<'s> {
     {
         let op = denied(spelled(word.get()));
         Operator {
-            words: Words::Two(not, word),
+            words: OperatorWords::Two(not, word),
             op,
         }
     }

@@ -6,7 +6,7 @@ ghost use Rattle.net_tree.specs.View.{tree, braces_of, condition_of, links_of, o
 ghost use Rattle.net_tree.specs.Weights.{weight, weights, part_weight};
 
 use crate::declaration::NetCond;
-use crate::expr::{Braces, Expr, Link, Part};
+use crate::expr::{Braces, Expr, LinkedOperand, Part};
 use crate::operator::Sign;
 use crate::terminal::NetWord;
 use net_base::{Boxed, Span};
@@ -86,7 +86,7 @@ fn end_of(expr: &Expr<'_>) -> usize
 }
 
 /// Returns the last operand of a chain.
-fn last_of<'a, 's>(operand: &'a Expr<'s>, links: &'a [Link<'s>]) -> &'a Expr<'s>
+fn last_of<'a, 's>(operand: &'a Expr<'s>, links: &'a [LinkedOperand<'s>]) -> &'a Expr<'s>
     ensures last { spans.final (tree result.now) ≡ spans.final_of (spans.final (tree operand.entry.now)) (links_of links.entry.now) }
     ensures lighter { weight (tree result.now) ≤ weight (tree operand.entry.now) + weights (links_of links.entry.now) }
 {

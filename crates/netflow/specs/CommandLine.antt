@@ -44,7 +44,7 @@ check_app = with_rule (with_rule (new_app (codes "check")) (path_rule (codes "PR
 
 -- a subcommand is required; the program has a version, so `--version` and `-V` are available
 abbrev pub bare_app : App
-bare_app = record (new_app (codes "netflow")) { top = record (new_app (codes "netflow")).top { subcommand_required = true; has_version = true } }
+bare_app = record (new_app (codes "netflow")) { top = record (new_app (codes "netflow")).top { subcommand_required = true; arg_required_else_help = true; has_version = true } }
 
 abbrev pub netflow_app : App
 netflow_app = with_subcommand (with_subcommand (with_subcommand (with_subcommand bare_app solve_app.top) compile_app.top) min_app.top) check_app.top

@@ -78,10 +78,12 @@ Example:
   netflow check transport.min transport.sol
 
 Tools:
+  netflow-plan      a plan with decimals and several data files, or why none
   netflow-explain   what an error means, and how to fix it
   netflow-why       why there is no plan, and what one more unit costs
   netflow-report    a plan as a page for the browser
   netflow-sheet     data from spreadsheets, and plans for them
+  netflow-convert   models with variables, as nodes and arcs
 
 Documents: the folder docs (installed: share/doc/netflow), and man netflow";
 
@@ -216,7 +218,7 @@ fn bare_command<'a>(alloc: Global) -> Command<'a>
         .about(ABOUT)
         .after_help(STATUSES)
         .subcommand_required(true)
-        .arg_required_else_help(false)
+        .arg_required_else_help(true)
 }
 
 /// Adds a subcommand, unless memory ran out for either command.

@@ -1,12 +1,12 @@
 """The functions of NetworkX for minimum-cost flow, solved by netflow."""
 from __future__ import annotations
 
-import importlib
-import sys
-from typing import Any, Dict, Hashable, Iterator, Mapping, Protocol, Tuple, Type, Union, cast
+from fractions import Fraction
+from typing import Any, Dict, Hashable, Iterator, Mapping, Protocol, Tuple, Union
 
-from ..errors import DataError, Infeasible, NetflowError, Unbounded
-from .problem import Arc, GraphNumber, Numbers, Problem, finite
+from ..errors import Infeasible, Unbounded
+from .errors import graph_error, infeasible_graph
+from .problem import Arc, GraphNumber, Numbers, Problem, Result
 
 # The flow of each arc by its ends, in a multigraph by its ends and key.
 GraphFlows = Dict[Hashable, Dict[Hashable, Union[GraphNumber, Dict[Hashable, GraphNumber]]]]
@@ -33,6 +33,10 @@ class Graph(Protocol):
     def edges(self) -> Any:
         ...
 
+    @property
+    def adj(self) -> Any:
+        ...
+
 
 def network_simplex(
     G: Graph, demand: str = "demand", capacity: str = "capacity", weight: str = "weight", *, certify: bool = False
@@ -44,30 +48,23 @@ def network_simplex(
     exceptions too. With `certify` the answer is checked by `netflow check` first.
     """
     if not G.is_directed():
-        raise _error("UndirectedGraph", "min_cost_flow takes a directed graph")
+        raise graph_error("UndirectedGraph", "not implemented for undirected type: give a directed graph")
     number = Numbers()
     index = {node: here for here, node in enumerate(G)}
-    supplies = {
-        index[node]: -finite(number(amount, f"demand of {node!r}"), node)
-        for node, amount in G.nodes(data=demand, default=0)
-    }
-    edges: list[Edge] = (
-        list(G.edges(keys=True, data=True))
-        if G.is_multigraph()
-        else [(src, dst, None, data) for src, dst, data in G.edges(data=True)]
-    )
+    if not index:
+        raise graph_error("GraphError", "graph has no nodes")
+    supplies = {index[node]: -demand_of(number, node, amount) for node, amount in G.nodes(data=demand, default=0)}
+    edges = edges_of(G)
     arcs = [_arc_of(index, number, edge, capacity, weight) for edge in edges]
-    try:
-        if any(arc.capacity is not None and arc.capacity < 0 for arc in arcs):
-            raise Infeasible("an arc has a negative capacity", [], "under", [])
-        result = Problem(len(index), supplies, arcs).solve(certify)
-    except Infeasible as problem:
-        nodes = list(index)
-        raise _error(
-            "InfeasibleGraph", str(problem), [nodes[place] for place in problem.cut], problem.side, []
-        ) from None
-    except Unbounded as problem:
-        raise _error("UnboundedGraph", str(problem)) from None
+    total = -sum(supplies.values())
+    if total:
+        # The set of all nodes is a cut.
+        side = "under" if total > 0 else "over"
+        raise infeasible_graph(f"total node demand is not zero: it is {number.shown(total)}", list(index), side)
+    for (src, dst, _, _), arc in zip(edges, arcs):
+        if arc.capacity is not None and arc.capacity < 0:
+            raise infeasible_graph(f"edge {(src, dst)!r} has negative capacity")
+    result = solved(G, Problem(len(index), supplies, arcs, number.has_float), certify)
     flows: GraphFlows = {node: {} for node in G}
     for (src, dst, key, _), flow in zip(edges, result.flows):
         amount = number.shown(flow)
@@ -94,36 +91,35 @@ def min_cost_flow_cost(
     return network_simplex(G, demand, capacity, weight, certify=certify)[0]
 
 
+def edges_of(G: Graph) -> list[Edge]:
+    """Returns the edges with their keys, None if there are none, and their attributes."""
+    if G.is_multigraph():
+        return list(G.edges(keys=True, data=True))
+    return [(src, dst, None, data) for src, dst, data in G.edges(data=True)]
+
+
+def demand_of(number: Numbers, node: Hashable, amount: Any) -> Fraction:
+    result = number(amount, f"demand of {node!r}")
+    if result is None:
+        raise graph_error("GraphError", f"node {node!r} has infinite demand")
+    return result
+
+
+def solved(G: Graph, problem: Problem, certify: bool) -> Result:
+    """Returns the solution of a graph's problem; the exceptions name its nodes, and are NetworkX's too."""
+    try:
+        return problem.solve(certify)
+    except Infeasible as found:
+        nodes = list(G)
+        raise infeasible_graph(str(found), [nodes[place] for place in found.cut], found.side) from None
+    except Unbounded as found:
+        raise graph_error("UnboundedGraph", str(found)) from None
+
+
 def _arc_of(index: Mapping[Hashable, int], number: Numbers, edge: Edge, capacity: str, weight: str) -> Arc:
     src, dst, _, data = edge
     room = data.get(capacity)
     cost = number(data.get(weight, 0), f"weight of {src!r} to {dst!r}")
     if cost is None:
-        raise DataError(f"the weight of {src!r} to {dst!r} is infinite")
+        raise graph_error("GraphError", f"edge {(src, dst)!r} has infinite weight")
     return Arc(index[src], index[dst], None if room is None else number(room, f"capacity of {src!r} to {dst!r}"), cost)
-
-
-# The exceptions of this package that are NetworkX's too.
-EXCEPTIONS: Dict[str, Tuple[Type[NetflowError], str]] = {
-    "InfeasibleGraph": (Infeasible, "NetworkXUnfeasible"),
-    "UnboundedGraph": (Unbounded, "NetworkXUnbounded"),
-    "UndirectedGraph": (DataError, "NetworkXNotImplemented"),
-}
-
-
-def __getattr__(name: str) -> type[NetflowError]:
-    """Makes the class of an exception that is one of NetworkX too, once, so that pickle finds the class by its name."""
-    if name not in EXCEPTIONS:
-        raise AttributeError(f"module {__name__!r} has no attribute {name!r}")
-    base, other = EXCEPTIONS[name]
-    bases = (base, getattr(importlib.import_module("networkx"), other))
-    kind = type(name, bases, {"__module__": __name__, "__doc__": base.__doc__})
-    globals()[name] = kind
-    return kind
-
-
-def _error(name: str, *arguments: object) -> Exception:
-    """Returns an exception of this package, which is NetworkX's too if NetworkX is imported."""
-    module = sys.modules[__name__] if "networkx" in sys.modules else None
-    kind: Any = EXCEPTIONS[name][0] if module is None else getattr(module, name)
-    return cast(Exception, kind(*arguments))

@@ -1,125 +1,40 @@
-"""The class `SimpleMinCostFlow` of OR-Tools, solved by netflow."""
+"""The classes of OR-Tools for networks, solved by netflow: what they share. Nodes are numbers from 0."""
 from __future__ import annotations
 
-import enum
 from fractions import Fraction
-from typing import Iterable, Mapping, Sequence, SupportsFloat
+from typing import Any, Sequence
 
-from ..errors import DataError, Infeasible, Unbounded
+from ..errors import DataError
 from ..exact import as_fraction
-from .problem import Arc, GraphNumber, Numbers, Problem, Result, finite
+from .problem import Arc, Numbers
 
 
-class Status(enum.IntEnum):
-    """What `SimpleMinCostFlow.solve` returns."""
+class SimpleGraph:
+    """Arcs between nodes with numbers from 0. Without `decimals` amounts are whole, as in OR-Tools."""
 
-    NOT_SOLVED = 0
-    OPTIMAL = 1
-    FEASIBLE = 2
-    INFEASIBLE = 3
-    UNBALANCED = 4
-    BAD_RESULT = 5
-    BAD_COST_RANGE = 6
-    BAD_CAPACITY_RANGE = 7
-
-
-class SimpleMinCostFlow:
-    """A minimum-cost flow problem with the methods of OR-Tools' class of this name. Nodes are numbers from 0."""
-
-    NOT_SOLVED, OPTIMAL, FEASIBLE, INFEASIBLE = Status.NOT_SOLVED, Status.OPTIMAL, Status.FEASIBLE, Status.INFEASIBLE
-    UNBALANCED, BAD_RESULT, BAD_COST_RANGE = Status.UNBALANCED, Status.BAD_RESULT, Status.BAD_COST_RANGE
-    BAD_CAPACITY_RANGE = Status.BAD_CAPACITY_RANGE
-
-    def __init__(self, certify: bool = False) -> None:
-        self.certify, self._number = certify, Numbers()
+    def __init__(self, decimals: bool = False) -> None:
+        self.decimals, self._number = decimals, Numbers()
         self._arcs: list[Arc] = []
-        self._supplies: dict[int, Fraction] = {}
-        self._result: Result | None = None
-        self.cut: list[int] = []
 
-    def add_arc_with_capacity_and_unit_cost(
-        self, tail: int, head: int, capacity: SupportsFloat | None, unit_cost: SupportsFloat
-    ) -> int:
-        """Adds an arc and returns its index; a capacity of None has no limit."""
-        room = None if capacity is None else self._number(capacity, "capacity")
-        cost = self._number(unit_cost, "unit_cost")
-        if cost is None:
-            raise DataError("unit_cost is infinite")
-        self._arcs.append(Arc(_node(tail), _node(head), room, cost))
-        return len(self._arcs) - 1
+    def _amount(self, value: Any, what: str) -> Fraction | None:
+        """Returns an amount exactly, None for an infinite one; raises TypeError for one that is not allowed."""
+        result = self._number(value, what)
+        if result is not None and result.denominator > 1 and not self.decimals:
+            raise TypeError(
+                f"{what}: {value!r} is not whole, and amounts are integers; {type(self).__name__}(decimals=True) takes"
+                " decimals"
+            )
+        return result
 
-    def add_arcs_with_capacity_and_unit_cost(
-        self,
-        tails: Iterable[int],
-        heads: Iterable[int],
-        capacities: Iterable[SupportsFloat | None],
-        unit_costs: Iterable[SupportsFloat],
-    ) -> list[int]:
-        return [self.add_arc_with_capacity_and_unit_cost(*arc) for arc in zip(tails, heads, capacities, unit_costs)]
-
-    def set_node_supply(self, node: int, supply: SupportsFloat) -> None:
-        """Sets what a node gives; below 0, takes."""
-        self._supplies[_node(node)] = finite(self._number(supply, "supply"), node)
-
-    def set_nodes_supplies(self, nodes: Iterable[int], supplies: Iterable[SupportsFloat]) -> None:
-        for node, supply in zip(nodes, supplies):
-            self.set_node_supply(node, supply)
-
-    def solve(self) -> Status:
-        """Solves the problem; `cut` has the nodes that show that no flow is feasible."""
-        if sum(self._supplies.values()):
-            return Status.UNBALANCED
-        return self._solve(self._arcs, dict(self._supplies), self.num_nodes())
-
-    def solve_max_flow_with_min_cost(self) -> Status:
-        """Sends as much of the supplies as possible, at the least cost."""
-        source = self.num_nodes()
-        ends = [Arc(source, node, supply, Fraction(0)) for node, supply in self._supplies.items() if supply > 0]
-        ends += [Arc(node, source + 1, -supply, Fraction(0)) for node, supply in self._supplies.items() if supply < 0]
-        total = sum((abs(supply) for supply in self._supplies.values()), Fraction(0))
-        plain = [Arc(arc.src, arc.dst, arc.capacity, Fraction(0)) for arc in self._arcs]
-        back = Arc(source + 1, source, total, Fraction(-1))
-        most = -Fraction(Problem(source + 2, {}, [*plain, *ends, back]).solve(self.certify).cost)
-        return self._solve([*self._arcs, *ends, Arc(source + 1, source, most, Fraction(0), most)], {}, source + 2)
-
-    def _solve(self, arcs: Sequence[Arc], supplies: Mapping[int, Fraction], count: int) -> Status:
-        self._result, self.cut = None, []
-        if any(arc.capacity is not None and arc.capacity < 0 for arc in arcs):
-            return Status.BAD_CAPACITY_RANGE
-        try:
-            self._result = Problem(count, supplies, arcs).solve(self.certify)
-        except Infeasible as problem:
-            self.cut = problem.cut
-            return Status.INFEASIBLE
-        except Unbounded:
-            return Status.BAD_COST_RANGE
-        return Status.OPTIMAL
-
-    def _solved(self) -> Result:
-        if self._result is None:
-            raise DataError("there is no flow: solve() did not return OPTIMAL")
-        return self._result
-
-    def flow(self, arc: int) -> GraphNumber:
-        return self._number.shown(self._solved().flows[arc])
-
-    def flows(self, arcs: Iterable[int]) -> list[GraphNumber]:
-        return [self.flow(arc) for arc in arcs]
-
-    def optimal_cost(self) -> GraphNumber:
-        return self._number.shown(self._solved().cost)
-
-    def maximum_flow(self) -> GraphNumber:
-        """Returns what leaves the nodes that give."""
-        result = {node: Fraction(0) for node, supply in self._supplies.items() if supply > 0}
-        for arc, flow in zip(self._arcs, self._solved().flows):
-            for node, sign in ((arc.src, 1), (arc.dst, -1)):
-                if node in result:
-                    result[node] += sign * flow
-        return self._number.shown(sum(result.values(), Fraction(0)))
+    def _finite(self, value: Any, what: str) -> Fraction:
+        result = self._amount(value, what)
+        if result is None:
+            raise DataError(f"{what} is infinite")
+        return result
 
     def num_nodes(self) -> int:
-        return 1 + max([-1, *self._supplies, *(arc.src for arc in self._arcs), *(arc.dst for arc in self._arcs)])
+        """Returns the greatest number of a node, plus 1."""
+        return 1 + max([-1, *(arc.src for arc in self._arcs), *(arc.dst for arc in self._arcs)])
 
     def num_arcs(self) -> int:
         return len(self._arcs)
@@ -130,19 +45,17 @@ class SimpleMinCostFlow:
     def head(self, arc: int) -> int:
         return self._arcs[arc].dst
 
-    def capacity(self, arc: int) -> GraphNumber | None:
-        room = self._arcs[arc].capacity
-        return None if room is None else self._number.shown(room)
 
-    def unit_cost(self, arc: int) -> GraphNumber:
-        return self._number.shown(self._arcs[arc].cost)
-
-    def supply(self, node: int) -> GraphNumber:
-        return self._number.shown(self._supplies.get(node, Fraction(0)))
-
-
-def _node(value: object) -> int:
+def node_of(value: object) -> int:
     found = as_fraction(value)
     if found is None or found.denominator != 1 or found < 0:
         raise DataError(f"{value!r} is no node: nodes are numbers from 0")
     return int(found)
+
+
+def same_lengths(name: str, *columns: Sequence[Any]) -> list[tuple[Any, ...]]:
+    """Returns the rows of columns; raises ValueError if one is longer than another."""
+    lists = [list(column) for column in columns]
+    if len(set(map(len, lists))) > 1:
+        raise ValueError(f"{name}: the arrays have {', '.join(str(len(column)) for column in lists)} items")
+    return list(zip(*lists))

@@ -8,13 +8,14 @@ from __future__ import annotations
 import dataclasses
 import tempfile
 from fractions import Fraction
-from typing import Hashable, Mapping, Sequence, SupportsFloat, Union
+from typing import Mapping, Sequence, SupportsFloat, Union
 
 from ..errors import DataError, Infeasible, ProgramError, ScaleError, Unbounded
-from ..exact import LARGEST, as_fraction, common_factor, divided
+from ..exact import LARGEST, as_fraction, common_factor, decimal_text, divided, power_text, rounded_together
 from ..program import call, problem_text
 from ..reading.network import Network
 from ..types import Number
+from ..warning import warn
 
 # A number of a graph, which is read exactly; results are floats if one of the numbers was.
 GraphNumber = Union[int, float, Fraction]
@@ -47,8 +48,13 @@ class Result:
 class Problem:
     """A minimum-cost flow problem in exact numbers; supplies are by node index, demands negative."""
 
-    def __init__(self, count: int, supplies: Mapping[int, Fraction], arcs: Sequence[Arc]) -> None:
+    def __init__(
+        self, count: int, supplies: Mapping[int, Fraction], arcs: Sequence[Arc], has_float: bool = False
+    ) -> None:
         self.count, self.supplies, self.arcs = max(count, 1), supplies, list(arcs)
+        if has_float:
+            self.round_costs()
+            arcs = self.arcs
         amounts = [
             *supplies.values(),
             *(arc.lower for arc in arcs),
@@ -63,6 +69,22 @@ class Problem:
             + sum((arc.lower for arc in arcs), Fraction(0))
         )
 
+    def round_costs(self) -> None:
+        """Rounds costs that were floats with more digits than netflow takes, such as 0.1 + 0.2, and warns of that."""
+        costs = [arc.cost for arc in self.arcs]
+        largest, factor = max((abs(cost) for cost in costs), default=Fraction(0)), common_factor(costs)
+        if largest * factor <= LARGEST:
+            return
+        rounded = rounded_together(costs, costs)
+        fewer = [(cost, less) for cost, less in zip(costs, rounded) if cost != less]
+        if fewer:
+            (cost, less), others = fewer[0], len(fewer) - 1
+            warn(
+                f"the cost {decimal_text(cost)} has more digits than netflow takes and is rounded to"
+                f" {decimal_text(less)}" + (f" ({others} more costs)" if others else "")
+            )
+        self.arcs = [dataclasses.replace(arc, cost=cost) for arc, cost in zip(self.arcs, rounded)]
+
     def text(self) -> str:
         """Returns the problem in the DIMACS format; raises DataError or ScaleError past the program's
         limits."""
@@ -72,11 +94,10 @@ class Problem:
                 f" {ARCS}"
             )
         if self.bound * self.flow_factor > LARGEST_FLOW:
-            raise ScaleError(
-                f"capacities and supplies, times {self.flow_factor}, are past {LARGEST_FLOW}", None, self.flow_factor
-            )
+            amounts = [*self.supplies.values(), *(arc.capacity for arc in self.arcs if arc.capacity is not None)]
+            raise past_limit("capacities and supplies", self.flow_factor, LARGEST_FLOW, amounts)
         if any(abs(arc.cost * self.cost_factor) > LARGEST for arc in self.arcs):
-            raise ScaleError(f"costs, times {self.cost_factor}, are past {LARGEST}", None, self.cost_factor)
+            raise past_limit("costs", self.cost_factor, LARGEST, [arc.cost for arc in self.arcs])
         rows = [
             (
                 arc.src,
@@ -113,6 +134,13 @@ class Problem:
             rows = [(arc.src, arc.dst, 0, 1, int(arc.cost * self.cost_factor)) for arc in free]
             if not call(["min", "/dev/stdin"], problem_text(self.count, {}, rows)).text.startswith("s 0\n"):
                 raise Unbounded("a cycle of arcs without a limit has a negative cost")
+
+
+def past_limit(what: str, factor: int, limit: int, amounts: Sequence[Fraction]) -> ScaleError:
+    """Returns the error of amounts that are too large after scaling, with the amount that needs the factor."""
+    finest = max(amounts, key=lambda amount: amount.denominator)
+    guilty = f"; the factor comes from {decimal_text(finest)}: round it" if factor > 1 else ""
+    return ScaleError(f"{what}, times {power_text(factor)}, are past {power_text(limit)}{guilty}", None, factor)
 
 
 def require_certificate(problem: str, certificate: str) -> None:
@@ -171,9 +199,3 @@ class Numbers:
         if isinstance(value, Fraction):
             return int(value) if value.denominator == 1 else float(value) if self.has_float else value
         return value
-
-
-def finite(value: Fraction | None, node: Hashable) -> Fraction:
-    if value is None:
-        raise DataError(f"the demand of {node!r} is infinite")
-    return value

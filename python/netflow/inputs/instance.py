@@ -9,27 +9,24 @@ from fractions import Fraction
 from typing import Any, Mapping, Sequence
 
 from ..errors import DataError, ProgramError, ScaleError
-from ..exact import common_factor, parse_numeral
 from ..program import UNREADABLE_FILE, Answer, Session, call
 from ..reading.conditions import mark_open_sides
-from ..reading.data import DataText
 from ..reading.edits import EditedText
 from ..reading.headings import objective_of
-from ..reading.model import Decl, Shapes, Unparsed, parse
+from ..reading.model import Unparsed
 from ..reading.network import Network
 from ..reading.output import read_certificate, read_compiled, read_cut, read_cut_of_problem, read_plan, read_prices
-from ..types import Edit, Key, Value
+from ..types import Key, Value
 from .decimals import CERTAIN, GRAMMAR, is_decimal, next_error
-from .overrides import Overrides, tokens_with_numbers
-from .python_data import PythonData, declared_text
-from .scaling import BOUND, Factors, Scaler, scaled_value
-from .source import Input, texts_of, unreadable
+from .python_data import PythonData
+from .rewriting import Rewriting
+from .scaling import Factors
+from .source import Input, unreadable
 
 # The beginning of the data of a model with data in one file.
 SECTION = re.compile(
     r"#[^\n]*|/\*.*?\*/|'(?:[^'\n]|'')*'|\"(?:[^\"\n]|\"\")*\"|;(?:\s|#[^\n]*\n|/\*.*?\*/)*(?P<data>data\s*;)", re.S
 )
-MAYBE_DECIMAL = re.compile(r"[.eEdD]")
 PLACE = re.compile(r"(E\d\d \w+ (model|data)) (\d+):(\d+)(.*)", re.S)
 
 
@@ -59,16 +56,16 @@ class Instance:
         self.changed: PythonData | None = None
         self.session = Session([])
         self.is_ready = self.is_rewritten = False
-        self.parsed = 0  # how many data texts were parsed when a text could not be
-        self.words: list[str] = []  # the words of a command that asks the same
+        self.rewriting: Rewriting | None = None
 
     def __enter__(self) -> "Instance":
         return self
 
     def __exit__(self, _: Any, problem: Any, __: Any) -> None:
-        self.session.__exit__()
         if isinstance(problem, ProgramError):
-            problem.words = self.words
+            problem.instance = self  # which keeps its files, for the hints
+        else:
+            self.session.__exit__()
 
     def prepare(self) -> None:
         """Chooses the files that the program reads: those that were given, or rewritten ones."""
@@ -87,8 +84,8 @@ class Instance:
             if failed is None:
                 return
             is_parsed = isinstance(failed, ScaleError)
-            for self.parsed in range(len(self.data)) if is_parsed else [self.parsed]:
-                self.report_text(GRAMMAR if is_parsed else CERTAIN)
+            for number in range(len(self.data)) if is_parsed else [self.rewriting.parsed if self.rewriting else 0]:
+                self.report_text(number, GRAMMAR if is_parsed else CERTAIN)
             raise (
                 failed
                 if not isinstance(failed, Unparsed)
@@ -105,10 +102,10 @@ class Instance:
             name, data = self.model.name, "\n" * text.count("\n", 0, start) + " " * column + text[start:]
             self.model, self.data = Input(text=text[:start], name=name), [Input(text=data, name=name)]
 
-    def report_text(self, kinds: re.Pattern[str]) -> None:
-        """Raises the program's error for the model, or for the data text `parsed`, besides its decimals."""
-        above = sum(source.text().count("\n") + 1 for source in self.data[: self.parsed])
-        source = self.data[self.parsed] if self.parsed < len(self.data) else None
+    def report_text(self, number: int, kinds: re.Pattern[str]) -> None:
+        """Raises the program's error for the model, or for the data text of this number, besides its decimals."""
+        above = sum(source.text().count("\n") + 1 for source in self.data[:number])
+        source = self.data[number] if number < len(self.data) else None
         self.use_files(source)
         problem = next_error(self.session, kinds)
         if problem is None:
@@ -298,80 +295,23 @@ class Instance:
 
             require_bounded(net)
 
-    # Rewriting
-
     def rewrite(self) -> None:
-        """Writes the model and the data in whole numbers, with the changes, and one data text."""
-        self.is_rewritten, self.parsed = True, 0
-        model = self.model.text()
-        decls = parse(model)
-        shapes = Shapes(decls, model)
-        params = {decl.name: shapes.keys[decl.name] for decl in decls if decl.kind == "param"}
-        pieces: list[DataText] = []
-        for source in self.data:
-            pieces.append(DataText(source.text(), params, shapes.sets))
-            self.parsed += 1
-        # On the command line quotes say what is a text.
-        changes = PythonData(
-            self.changes, shapes.sets, params, None if self.origins else texts_of(model, pieces), shapes
+        """Gives the program the model and the data in whole numbers, with the changes, and one data text."""
+        self.is_rewritten = True
+        self.rewriting = rewriting = Rewriting(
+            self.model,
+            self.data,
+            self.changes,
+            objective=self.objective,
+            scale=self.scale,
+            add_bounds=self.add_bounds,
+            is_command=bool(self.origins),
         )
-        edits = [Overrides(pieces, changes).edits(piece) for piece in pieces]
-        needed = self.needed(pieces, changes, edits)
-        unknown = {name: factor for name, factor in needed.items() if name not in params}
-        for name, factor in self.scale.items():
-            if name not in params:
-                raise DataError(
-                    f"scale of {name}: the model declares no such parameter{declared_text(shapes, name, 'param')}"
-                )
-            needed[name] = factor
-        factors, model_edits = Scaler(decls, needed, self.objective, self.add_bounds).scale()
-        self.factors = factors
-        # Decimals of names that the model lacks are scaled too, so that the program reports the name.
-        scaled = {**unknown, **factors.parameters}
-        model_edits += [self.dropped(model, decl) for decl in decls if decl.name in self.changes and decl.phrase(":=")]
-        self.edited = {"model": [EditedText(model, model_edits)], "data": []}
-        for piece, made in zip(pieces, edits):
-            self.edited["data"].append(EditedText(piece.text, made + self.scaled_cells(piece, made, scaled)))
-        self.changed, self.changed_text = changes, changes.text(self.factors.parameters, self.add_bounds)
-        text = "\n".join([*(text.text for text in self.edited["data"]), self.changed_text])
-        self.session.files = [self.session.write(self.edited["model"][0].text), self.session.write(text)]
+        rewriting.run()
+        self.factors, self.edited = rewriting.factors, rewriting.edited
+        self.changed, self.changed_text = rewriting.changed, rewriting.changed_text
+        self.session.files = [self.session.write(text) for text in rewriting.texts()]
 
-    @staticmethod
-    def dropped(model: str, decl: Decl) -> Edit:
-        """The edit that takes a `:=` out of the model, since a change gives the value."""
-        phrase = next(phrase for phrase in decl.phrases if phrase.word == ":=")
-        before = model[: phrase.start].rstrip()
-        start = len(before) - 1 if before.endswith(",") else phrase.start
-        return (
-            start,
-            phrase.end,
-            re.sub(r"[^\n]", " ", model[start : phrase.end]) if "\n" in model[start : phrase.end] else "",
-        )
-
-    def needed(self, pieces: list[DataText], changes: PythonData, edits: list[list[Edit]]) -> dict[str, int]:
-        """The factor that makes the values of each parameter whole."""
-        values: dict[str, list[Fraction]] = {name: changes.numbers(name) for name in changes.params}
-        for piece, made in zip(pieces, edits):
-            gone = {start for start, _, _ in made}
-            for name, token in tokens_with_numbers(piece):
-                number = (
-                    parse_numeral(token.text) if token.start not in gone and MAYBE_DECIMAL.search(token.text) else None
-                )
-                if number is not None:
-                    values.setdefault(name, []).append(number)
-        return {name: common_factor(numbers) for name, numbers in values.items()}
-
-    def scaled_cells(self, piece: DataText, made: list[Edit], factors: dict[str, int]) -> list[Edit]:
-        gone, found = {start for start, _, _ in made}, []
-        for name, token in tokens_with_numbers(piece):
-            factor = factors.get(name, 1)
-            if token.start in gone or token.kind != "word":
-                continue
-            if token.text in ("Infinity", "-Infinity") and self.add_bounds:
-                found.append((token.start, token.end, token.text.replace("Infinity", str(BOUND))))
-                continue
-            if factor != 1 or name in self.scale:
-                number = parse_numeral(token.text)
-                if number is not None:
-                    found.append((token.start, token.end, str(scaled_value(name, number, factor))))
-        return found
+    def remark_lines(self) -> list[str]:
+        """Returns what a reader has to know of values from Python."""
+        return self.rewriting.remark_lines() if self.rewriting is not None else []

@@ -1,17 +1,18 @@
 """What later data replace in earlier ones, as edits of their texts."""
 from __future__ import annotations
 
-from ..reading.data import DataText, Token
+from ..reading.data import Cell, DataText
 from ..types import Edit
 from .python_data import PythonData
 
 
-def tokens_with_numbers(piece: DataText) -> list[tuple[str, Token]]:
-    result = []
+def numbered_cells(piece: DataText) -> list[tuple[Cell, bool]]:
+    """Returns the cells of a data text that can be numbers, and the defaults as cells, each with whether it is one."""
+    result: list[tuple[Cell, bool]] = []
     for statement in piece.statements:
-        result += [(cell.name, cell.token) for cell in statement.cells if cell.token.kind == "word"]
+        result += [(cell, False) for cell in statement.cells if cell.token.kind == "word"]
         if statement.default is not None:
-            result.append((statement.name, statement.default))
+            result.append((Cell(statement.name, (), statement.default), True))
     return result
 
 

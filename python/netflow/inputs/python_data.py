@@ -1,25 +1,21 @@
-"""Turns Python values into the sets and parameters of a model: dicts, lists of tuples, rows, and objects of pandas."""
+"""Turns Python values into the sets and parameters of a model."""
 from __future__ import annotations
 
+import dataclasses
 import difflib
 from fractions import Fraction
-from typing import Any, Iterable, List, Mapping, Sized, Tuple
+from typing import Any, Iterable, List, Mapping
 
 from ..errors import DataError
-from ..exact import as_fraction, parse_numeral
-from ..reading.data import KEY_NUMBER, member_text, set_statement
+from ..exact import decimal_text, rounded_together
+from ..reading.data import member_text, set_statement
 from ..reading.model import Shapes
 from ..reading.text import few
 from ..types import Key, Member, Value
+from .python_values import Leaf, key_text, leaves_of, members_of
 from .scaling import BOUND, scaled_value
 
-# A key and a value as Python gives them.
-Pair = Tuple[Tuple[Any, ...], Any]
-
-# The title that pandas gives to a column without one, as the first column of a grid in a file.
-UNNAMED = "Unnamed: 0"
 OPTIONS = ("objective", "scale", "bounds")
-FORMS = "give a dict by key, a list of tuples (key, .., value), a list of dicts, or a Series or DataFrame of pandas"
 
 
 class Layers(List[Any]):
@@ -35,10 +31,23 @@ def override(values: dict[str, Any], others: Mapping[str, Any]) -> None:
         )
 
 
+@dataclasses.dataclass
+class Remark:
+    """What a reader has to know of a value from Python: that NaN gave none, or that it was rounded (`value`)."""
+
+    name: str
+    key: Key
+    value: Fraction | None
+
+    def cell(self) -> str:
+        return f"{self.name}[{', '.join(map(repr, self.key))}]" if self.key else self.name
+
+
 class PythonData:
     """Sets and parameters by name; `sets` are lists of tuples, `params` dicts from keys to a Fraction or a text.
     `origins` has for each line of the text its content: a name, with the key of its value or the member, or None if
-    the line is a statement's first or last.
+    the line is a statement's first or last. `rounded` has the floats with too many digits, `nans` the keys at which NaN
+    gives no value.
 
     A part of a key that is a text in the form of a number becomes that number, unless a set has the text as a member:
     `texts` are those of the model and of data texts. With None every text stays one."""
@@ -58,18 +67,36 @@ class PythonData:
         }
         self.params: dict[str, dict[Key, Value]] = {}
         self.origins: list[tuple[str, Key | None]] = []
+        self.rounded: list[Remark] = []
+        self.nans: list[Remark] = []
         kept = None if texts is None else texts | {part for rows in self.sets.values() for row in rows for part in row}
         for name, given in layers.items():
             if name in keys:
-                self.params[name] = {
-                    key: leaf
-                    for value in given
-                    for key, leaf in rows_of(name, value, keys[name], kept, shapes.head(name)).items()
-                }
+                head = shapes.head(name)
+                self.fill(name, [pair for value in given for pair in leaves_of(name, value, keys[name], kept, head)])
             elif name not in sets:
                 raise DataError(
                     f"{name}: the model declares no such set or parameter{declared_text(shapes, name, 'set', 'param')}"
                 )
+
+    def fill(self, name: str, leaves: Iterable[tuple[Key, Leaf]]) -> None:
+        """Gives a parameter its values, of which later ones override earlier ones."""
+        rows: dict[Key, Value] = {}
+        computed: dict[Key, Fraction] = {}
+        for key, leaf in leaves:
+            if leaf.value is None:
+                self.nans += [Remark(name, key, None)] if leaf.is_nan else []
+                continue
+            rows[key] = leaf.value
+            if leaf.is_computed and isinstance(leaf.value, Fraction):
+                computed[key] = leaf.value
+            else:
+                computed.pop(key, None)
+        numbers = [number for number in rows.values() if isinstance(number, Fraction)]
+        for key, value in zip(computed, rounded_together(list(computed.values()), numbers)):
+            self.rounded.append(Remark(name, key, computed[key]))
+            rows[key] = value
+        self.params[name] = rows
 
     def numbers(self, name: str) -> list[Fraction]:
         return [number for number in self.params[name].values() if isinstance(number, Fraction)]
@@ -83,7 +110,7 @@ class PythonData:
         for name, rows in self.params.items():
             factor = factors.get(name, 1)
             lines = [
-                " ".join([*map(member_text, key), self.value_text(name, value, factor, add_bounds)])
+                " ".join([*map(member_text, key), value_text(name, value, factor, add_bounds)])
                 for key, value in rows.items()
             ]
             parts.append("\n".join([f"param {name} :=", *lines, ";"]) + "\n")
@@ -102,62 +129,30 @@ class PythonData:
             return f"{'the members' if name in self.sets else 'the value' if key == () else 'the values'} of {name}"
         return f"{'member' if name in self.sets else 'key'} {key_text(key)} of {name}"
 
-    def value_text(self, name: str, value: Value, factor: int, add_bounds: bool) -> str:
-        if isinstance(value, Fraction):
-            return str(scaled_value(name, value, factor))
-        if isinstance(value, float):
-            if not add_bounds:
-                raise DataError(
-                    f"{name}: {value} is no number of a model; bounds=True adds a bound that no plan reaches"
-                )
-            return str(BOUND if value > 0 else -BOUND)
-        return member_text(value)
-
-
-def members_of(name: str, value: Any, size: int) -> list[Key]:
-    """Returns the members of a set as tuples."""
-    if isinstance(value, str) or not hasattr(value, "__iter__"):
-        members = value.replace(",", " ").split() if isinstance(value, str) else [value]
-        raise DataError(
-            f"set {name}: {value!r} is {'a text' if isinstance(value, str) else 'no list'}; expected a list of members,"
-            f" such as {members!r}"
-        )
-    if is_frame(value):
-        if len(value.columns) != size:
-            raise DataError(
-                f"set {name}: the table has {parts(value.columns, 'column')}; expected {size}, one for each part of a"
-                " member"
+    def rounding_lines(self) -> list[str]:
+        """Returns a line for each parameter whose floats were rounded."""
+        lines: dict[str, str] = {}
+        for remark in self.rounded:
+            others = sum(other.name == remark.name for other in self.rounded) - 1
+            taken = self.params[remark.name][remark.key]
+            lines.setdefault(
+                remark.name,
+                f"{remark.cell()} = {decimal_text(remark.value or Fraction())} has more digits than netflow takes and"
+                f" is rounded to {decimal_text(taken) if isinstance(taken, Fraction) else taken}"
+                + (f" ({others} more of {remark.name})" if others else ""),
             )
-        value = value.itertuples(index=False, name=None)
-    result = [tuple(plain(part, f"set {name}") for part in (row if is_row(row) else (row,))) for row in value]
-    seen = set()
-    for member in result:
-        if len(member) != size:
-            raise DataError(f"set {name}: the member {key_text(member)} has {parts(member)}; expected {size}")
-        if member in seen:
-            raise DataError(f"set {name}: the member {key_text(member)} is given twice")
-        seen.add(member)
-    return result
+        return list(lines.values())
 
 
-def key_text(key: Key) -> str:
-    """Returns a key as Python writes it; one of one part without parentheses."""
-    return repr(key[0]) if len(key) == 1 else repr(key)
-
-
-def plain(member: Any, owner: str) -> Member:
-    """Returns a member as an int or a str; `owner` is the set or parameter that an error names."""
-    if isinstance(member, str) or (isinstance(member, int) and not isinstance(member, bool)):
-        return member
-    number = as_fraction(member)
-    if number is not None and number.denominator == 1 and not isinstance(member, bool):
-        return int(number)
-    raise DataError(f"{owner}: {member!r} is no member: a member is a whole number or a text, so use str(..)")
-
-
-def parts(row: Sized, what: str = "part") -> str:
-    """Returns how many parts there are, in words."""
-    return f"{len(row)} {what}{'s' * (len(row) != 1)}"
+def value_text(name: str, value: Value, factor: int, add_bounds: bool) -> str:
+    """Returns a value as the data text has it; a number times its factor."""
+    if isinstance(value, Fraction):
+        return str(scaled_value(name, value, factor))
+    if isinstance(value, float):
+        if not add_bounds:
+            raise DataError(f"{name}: {value} is no number of a model; bounds=True adds a bound that no plan reaches")
+        return str(BOUND if value > 0 else -BOUND)
+    return member_text(value)
 
 
 def declared_text(shapes: Shapes, name: str, *kinds: str) -> str:
@@ -176,146 +171,3 @@ def declared_text(shapes: Shapes, name: str, *kinds: str) -> str:
     if option:
         return f"; is the option {option[0]} meant?"
     return f"; it has {few(known, 8)}" if known else ""
-
-
-def rows_of(name: str, value: Any, size: int, texts: set[Member] | None, head: str) -> dict[Key, Value]:
-    """Returns the values of a parameter by key; a missing value (None, NaN) has no entry. `texts` are members that stay
-    texts; `head` is the name with the braces of its declaration."""
-    result: dict[Key, Value] = {}
-    seen = set()
-    for key, item in pairs_of(name, value, size):
-        key = tuple(key_part(plain(part, f"param {name}"), texts) for part in key)
-        if len(key) != size:
-            raise DataError(
-                f"param {name}: the key {key_text(key)} has {parts(key)}; expected {size}, one member for each index of"
-                f" {head}"
-                if size
-                else (
-                    f"param {name}: {name} has one value and no keys; expected a number or a text, not the key"
-                    f" {key_text(key)}"
-                )
-            )
-        if key in seen:
-            raise DataError(f"param {name}: the key {key_text(key)} is given twice")
-        seen.add(key)
-        made = value_of(name, item)
-        if made is not None:
-            result[key] = made
-    return result
-
-
-def key_part(part: Member, texts: set[Member] | None) -> Member:
-    """Returns a part of a key as a member: a text as its number, as a sheet has it, except one of `texts`, or if these
-    are None."""
-    is_number = texts is not None and isinstance(part, str) and part not in texts and KEY_NUMBER.fullmatch(part)
-    return int(part) if is_number else part
-
-
-def value_of(name: str, value: Any) -> Value | None:
-    """Returns a number as a Fraction, a text, an infinite float, or None for a missing value."""
-    if is_missing(value):
-        return None
-    if isinstance(value, str):
-        number = parse_numeral(value)
-        return value if number is None else number
-    number = as_fraction(value)
-    if number is not None:
-        return number
-    if isinstance(value, float) or hasattr(value, "__float__"):
-        return float(value)
-    raise DataError(
-        f"param {name}: {value!r} is no value; expected a number (int, float, Fraction or Decimal) or a text"
-    )
-
-
-def is_missing(value: Any) -> bool:
-    """Whether a value is None, NaN, or pandas' NA, whose comparisons have no truth value."""
-    try:
-        return value is None or bool(value != value)
-    except TypeError:
-        return True
-    except ValueError:
-        return False  # an array
-
-
-def is_frame(value: Any) -> bool:
-    """Whether a value is a DataFrame of pandas."""
-    return hasattr(value, "columns") and hasattr(value, "itertuples")
-
-
-def is_row(value: Any) -> bool:
-    """Whether a member is a tuple, a list, or a row of an array."""
-    return isinstance(value, (tuple, list)) or bool(getattr(value, "ndim", 0))
-
-
-def pairs_of(name: str, value: Any, size: int) -> Iterable[Pair]:
-    """Yields keys (tuples) and values."""
-    if is_frame(value):
-        return frame_pairs(name, value, size)
-    if size == 0 and hasattr(value, "items") and hasattr(value, "index") and len(value) == 1:
-        return [((), item) for item in value]  # a Series with one value
-    if hasattr(value, "items"):
-        return flat(value, size)
-    if size == 0:
-        return [((), value)]
-    if isinstance(value, str) or not hasattr(value, "__iter__"):
-        raise DataError(
-            f"param {name}: {value!r} has no keys; expected a key of {parts(range(size))} for each value: {FORMS}"
-        )
-    return row_pairs(name, value, size)
-
-
-def flat(value: Any, size: int) -> Iterable[Pair]:
-    """The entries of a dict, or of dicts in a dict."""
-    for key, item in value.items():
-        key = tuple(key) if isinstance(key, (tuple, list)) else (key,)
-        if hasattr(item, "items"):
-            yield from ((key + inner, leaf) for inner, leaf in flat(item, size - len(key)))
-        else:
-            yield key, item
-
-
-def frame_pairs(name: str, frame: Any, size: int) -> Iterable[Pair]:
-    """A pandas DataFrame: a column of values with the keys in the index or in other columns, or a grid of two keys."""
-    if list(frame.columns[:1]) == [UNNAMED]:
-        frame = frame.set_index(UNNAMED)
-    columns, index = list(frame.columns), frame.index
-    # The index has keys unless these only number the rows, as after a file is read or rows are chosen.
-    has_keys = index.nlevels > 1 or index.name is not None or index.dtype.kind not in "iu"
-    if name in columns:
-        if size and (index.nlevels >= size if has_keys else len(columns) <= size):
-            return flat(frame[name], size)
-        frame = frame.reset_index() if has_keys and size else frame
-        keys = [column for column in frame.columns if column != name][:size]
-        return [(row[:-1], row[-1]) for row in frame[[*keys, name]].itertuples(index=False, name=None)]
-    if len(columns) == 1:
-        return flat(frame[columns[0]], size)
-    if size == 2 and index.nlevels == 1 and (has_keys or all(isinstance(column, int) for column in columns)):
-        return [((row, column), item) for column in columns for row, item in frame[column].items()]
-    grid = ", or make the first key the index of a grid" if size == 2 else ""
-    raise DataError(f"param {name}: the table has no column {name!r}: give the column of its values this name{grid}")
-
-
-def row_pairs(name: str, rows: Iterable[Any], size: int) -> Iterable[Pair]:
-    for row in rows:
-        if hasattr(row, "items"):
-            keys = [value for title, value in row.items() if title != name]
-            if name not in row:
-                raise DataError(
-                    f"param {name}: the row {row!r} has no column {name!r}; expected the value in a column of this name"
-                )
-            if len(keys) < size:
-                raise DataError(
-                    f"param {name}: the row {row!r} has {parts(keys, 'column')} for the key; expected {size}"
-                )
-            yield tuple(keys[:size]), row[name]
-        else:
-            if isinstance(row, str) or not hasattr(row, "__iter__"):
-                raise DataError(
-                    f"param {name}: {row!r} in the list has no key; expected a key of {parts(range(size))} and a value:"
-                    f" {FORMS}"
-                )
-            row = tuple(row)
-            if len(row) != size + 1:
-                raise DataError(f"param {name}: {row!r} has {parts(row)}; expected {size + 1}, the key and the value")
-            yield row[:-1], row[-1]

@@ -12,7 +12,7 @@ import math
 from fractions import Fraction
 
 from ..errors import ScaleError
-from ..exact import LARGEST, common_factor, parse_numeral
+from ..exact import LARGEST, common_factor, decimal_text, parse_numeral, power_text
 from ..reading.model import Decl, Expr, Phrase
 from ..types import Edit
 
@@ -207,7 +207,11 @@ class Scaler:
             return
         scaled = value * target
         if abs(scaled) > LARGEST:
-            raise ScaleError(f"the number {expr.value} of the model, times {target}, is past {LARGEST}", None, target)
+            raise ScaleError(
+                f"the number {expr.value} of the model, times {power_text(target)}, is past {power_text(LARGEST)}",
+                None,
+                target,
+            )
         if target != 1 or value.denominator != 1 or "." in expr.value:
             self.edits.append((expr.start, expr.end, str(scaled)))
 
@@ -293,8 +297,10 @@ def is_infinite(expr: Expr) -> bool:
 def scaled_value(name: str, value: Fraction, factor: int) -> int:
     """Returns the value times the factor; raises ScaleError for one that is not whole or too large."""
     found = value * factor
+    said = f"param {name}: {decimal_text(value)} times {power_text(factor)}"
     if found.denominator != 1:
-        raise ScaleError(f"param {name}: {value} times {factor} is not whole", name, factor)
+        raise ScaleError(f"{said} is not whole", name, factor)
     if abs(found) > LARGEST:
-        raise ScaleError(f"param {name}: {value} times {factor} is past {LARGEST}: use a larger unit", name, factor)
+        more = ": use a larger unit" if factor == 1 else ""
+        raise ScaleError(f"{said} is past {power_text(LARGEST)}{more}", name, factor)
     return int(found)

@@ -204,9 +204,3 @@ def set_statement(name: str, members: Sequence[Key]) -> str:
         member_text(member[0]) if len(member) == 1 else f"({','.join(map(member_text, member))})" for member in members
     ]
     return "\n".join([f"set {name} :=", *rows, ";"]) + "\n"
-
-
-def param_statement(name: str, rows: Sequence[tuple[Key, str]]) -> str:
-    """Returns the statement of a parameter from pairs of a key and the text of a value."""
-    lines = [" ".join([*map(member_text, key), value]) for key, value in rows]
-    return "\n".join([f"param {name} :=", *lines, ";"]) + "\n"

@@ -101,16 +101,13 @@ def compared_texts(model: str, data: Iterable[str]) -> list[str]:
 COMMENT = re.compile(r"(?P<gap>\s*)(?:#+[ \t]*(?P<line>[^\n]*)|/\*+\s*(?P<block>.*?)\s*\**\*/)", re.S)
 # The end of a sentence: not that of an abbreviation such as `e.g.` or `St.`
 SENTENCE = re.compile(r"(?<=[^\W\d_]{3}[.!?])\s+(?![a-z0-9])|(?<=[\d)\"'%][.!?])\s+(?=[A-Z])")
-# The most letters of a title, and from how many on a line was wrapped.
-TITLE, WRAPPED = 100, 50
+# From how many letters on a line was wrapped.
+WRAPPED = 50
 
 
 def first_comment(text: str) -> str:
-    """Returns the first sentence of the comment that the model begins with; an empty text without one. A
-    sentence that is too long for a title is cut after a word."""
-    sentence = SENTENCE.split(paragraph(comment_lines(text)))[0].rstrip(".:")
-    cut = sentence[:TITLE]
-    return sentence if cut == sentence else (cut.rpartition(" ")[0] or cut).rstrip(",;:-(") + "\u2026"
+    """Returns the first sentence of the comment that the model begins with; an empty text without one."""
+    return SENTENCE.split(paragraph(comment_lines(text)))[0].rstrip(".:")
 
 
 def comment_lines(text: str) -> Iterator[str]:

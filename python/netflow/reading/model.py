@@ -102,14 +102,16 @@ def tokens_of(text: str) -> list[Token]:
 
 def parse(text: str) -> list[Decl]:
     """Returns the declarations of a model; raises Unparsed."""
-    parser = _Parser(text)
+    parser = ModelParser(text)
     result = []
     while parser.at < len(parser.tokens):
         result.append(parser.declaration())
     return result
 
 
-class _Parser:
+class ModelParser:
+    """Reads the tokens of a model by recursive descent."""
+
     def __init__(self, text: str) -> None:
         self.tokens, self.at, self.length = tokens_of(text), 0, len(text)
 

@@ -240,15 +240,19 @@ def read_prices(certificate: str, net: Network) -> None:
         arc.worth = sign * arc.price + worths[-1 if src is None else src] - worths[-1 if dst is None else dst]
 
 
-def written(net: Network) -> str:
-    """Returns the plan in netflow's form."""
+def written(net: Network, used_only: bool = False) -> str:
+    """Returns the plan in netflow's form; with `used_only` without the rows of arcs that carry nothing."""
     lines, declared = [f"{net.objective} = {net.value}"], net.declared()
     for name, is_table in net.declarations:
         arcs = declared.get(name, [])
         if is_table:
             lines += [
                 f"{name} :=",
-                *("".join(f"{shown(member)} " for member in arc.key) + str(arc.flow) for arc in arcs),
+                *(
+                    "".join(f"{shown(member)} " for member in arc.key) + str(arc.flow)
+                    for arc in arcs
+                    if arc.flow or not used_only
+                ),
                 ";",
             ]
         else:

@@ -8,6 +8,10 @@ from typing import Iterator, Sequence
 TOKEN = re.compile(r"#[^\n]*|/\*.*?\*/|'(?:[^'\n]|'')*'|\"(?:[^\"\n]|\"\")*\"|:=|[\w.+-]+|\S", re.S)
 
 
+# The most bytes of a file that netflow takes. The tools read one more, so that netflow rejects a longer file.
+MOST_BYTES = 16 * 2**20
+
+
 class Token:
     def __init__(self, text: str, row: int) -> None:
         self.text, self.row = text, row
@@ -42,7 +46,7 @@ def read(path: str | None) -> str:
         return ""
     try:
         with open(path, "rb") as file:
-            return decoded(file.read()) if os.path.isfile(path) else ""
+            return decoded(file.read(MOST_BYTES + 1)) if os.path.isfile(path) else ""
     except OSError:
         return ""
 

@@ -14,6 +14,7 @@ from ..exact import magnitude
 from ..reading.network import Arc, Network
 from ..types import Number
 from .layout import components
+from .names import spoken
 from .placement import LABELLED, STUB, Placement, Point, ends_of
 from .style import DRAWING_STYLE
 
@@ -26,8 +27,8 @@ WIDE = 1400
 # From this height on the components of a drawing with so few layers become pictures of their own, which a page sets
 # in rows.
 HIGH, FLAT = 700, 4
-# The room around a drawing.
-MARGIN = 12
+# The room around a drawing, and for the titles of periods.
+MARGIN, BAND = 12, 36
 
 
 def draw(
@@ -186,8 +187,8 @@ class Picture(Placement):
         width = 1.2 + thick * math.sqrt(float(flow / most)) if flow else 2.5 if kind == "across" else 1.2
         ends = " ".join(f"n{number}" for number in sorted({end for end in (arc.src, arc.dst) if end is not None}))
         said = (
-            f"{arc.text}: {self.net.end(arc.src)} to {self.net.end(arc.dst)}, {arc.flow} of {arc.lower} to"
-            f" {arc.most()}, price {arc.price}"
+            f"{spoken(arc.text)}: {spoken(self.net.end(arc.src))} to {spoken(self.net.end(arc.dst))}, {arc.flow} of"
+            f" {arc.lower} to {arc.most()}, price {arc.price}"
         )
         made = (
             f'<g class="arc {kind} {ends}"><title>{escape(said)}</title><path d="{path}" stroke-width="{width:.1f}"'
@@ -200,7 +201,9 @@ class Picture(Placement):
         x, y = self.text_place(arc, text, curves) if self.is_small else along(curves[len(curves) // 2], 0.5)
         half = self.text_width(text) / 2
         self.reach.append((x - half, y - 8, x + half, y + 8))
-        return made, f'<g class="arc number {ends}"><text x="{x:.0f}" y="{y + 4:.0f}">{text}</text></g>'
+        # The background keeps a line from being read as a part of a digit or a decimal point.
+        back = f'<rect x="{x - half:.0f}" y="{y - 8:.0f}" width="{2 * half:.0f}" height="16" rx="3"/>'
+        return made, f'<g class="arc number {ends}">{back}<text x="{x:.0f}" y="{y + 4:.0f}">{text}</text></g>'
 
     def node_svg(self, number: int) -> str:
         (x, y), wide, high, lines = (
@@ -217,7 +220,7 @@ class Picture(Placement):
             f'<text class="line{here}" x="{x:.0f}" y="{first + 15 * here:.0f}">{escape(line)}</text>'
             for here, line in enumerate(lines)
         )
-        said = f"{node.text}: {node.wish() or 'passes on what it gets'}"
+        said = f"{spoken(node.text)}: {node.wish() or 'passes on what it gets'}"
         rect = f'<rect x="{x - wide / 2:.0f}" y="{y - high / 2:.0f}" width="{wide:.0f}" height="{high:.0f}" rx="5"/>'
         return f'<g class="node {kind}" id="n{number}" tabindex="0"><title>{escape(said)}</title>{rect}{texts}</g>'
 
@@ -240,6 +243,28 @@ class Picture(Placement):
             return self.sheet_svg(most, defs)
         return "\n".join(part.sheet_svg(most, "" if here else defs) for here, part in enumerate(self.parts))
 
+    def bands_svg(self) -> list[str]:
+        """Returns the titles of the periods, before or above their layers, with a line between two of them."""
+        if not self.bands:
+            return []
+        ends = [0.0, 0.0, 0.0, 0.0]
+        for side, pick in enumerate((min, min, max, max)):
+            ends[side] = pick(box[side] for box in self.reach)
+        start, far = (ends[0], ends[2]) if self.is_down else (ends[1], ends[3])
+        made, edge = [], 0.0
+        for here, (title, first, last) in enumerate(self.bands):
+            inside = [number for number in self.nodes if first <= self.layer[number] <= last]
+            low = min(self.u[number] - self.half(number) for number in inside)
+            high = max(self.u[number] + self.half(number) for number in inside)
+            if here:
+                (x, y), (w, z) = self.xy((edge + low) / 2, start - BAND), self.xy((edge + low) / 2, far)
+                made.append(f'<path class="band" d="M{x:.0f},{y:.0f}L{w:.0f},{z:.0f}"/>')
+            x, y = self.xy((low + high) / 2, start - BAND / 2)
+            made.append(f'<text class="period" x="{x:.0f}" y="{y + 4:.0f}">{escape(title)}</text>')
+            self.reach.append((x - 16, y - 8, x + 16, y + 8))
+            edge = high
+        return made
+
     def sheet_svg(self, most: Number, defs: str) -> str:
         """Returns one picture, cut to its content; an arc that carries `most` has the thickest line."""
         self.boxes = [self.box(number) for number in self.nodes]
@@ -247,6 +272,7 @@ class Picture(Placement):
         drawn = sorted(self.arcs, key=lambda arc: (id(arc) in self.across, magnitude(arc.flow)))
         # Numbers are placed from the largest flow on; arcs are drawn from the smallest.
         arcs = {id(arc): self.arc_svg(arc, most) for arc in reversed(drawn)}
+        bands = self.bands_svg()
         left, top, right, low = (math.floor(pick(sides)) for pick, sides in zip((min, min, max, max), zip(*self.reach)))
         wide, high = right - left + 2 * MARGIN, low - top + 2 * MARGIN
         large = "" if self.is_small else 'class="large" '
@@ -258,6 +284,7 @@ class Picture(Placement):
             f'<svg xmlns="http://www.w3.org/2000/svg" role="img" aria-label="the network" {sheet}>{defs}'
             + "\n".join(
                 [
+                    *bands,
                     *(arcs[id(arc)][0] for arc in drawn),
                     *(arcs[id(arc)][1] for arc in drawn),
                     *map(self.node_svg, self.nodes),

@@ -9,12 +9,13 @@ from typing import Dict, Sequence
 
 from .. import __version__
 from ..analysis.changes import LeastChanges, is_left_out, left_out_text, single_title, total
-from ..analysis.gains import Place, better
+from ..analysis.gains import Gains, Place, better
 from ..analysis.reasons import Part, Reason
 from ..analysis.sensitivity import Marginal
 from ..exact import magnitude
 from ..reading.network import Arc, Network
 from ..types import Number
+from .names import in_words
 from .placement import grouped
 from .style import PAGE_STYLE, SCRIPT
 
@@ -23,8 +24,18 @@ HIDDEN_FROM = 5_000
 FOUND_FROM, TOTALS = 15, 200
 
 
+class Markup(str):
+    """A text that is HTML already."""
+
+
 def text(value: object) -> str:
-    return escape(str(value), quote=True)
+    """Returns a text for HTML, with names as planners read them."""
+    return escape(in_words(str(value)), quote=True)
+
+
+def anchor(name: str) -> str:
+    """Returns the id of the section of a declaration of arcs."""
+    return f"arcs-{text(name)}"
 
 
 def cell(value: object, kind: str) -> str:
@@ -33,7 +44,7 @@ def cell(value: object, kind: str) -> str:
         plain, shown = str(value), grouped(value)
         data = f' data-n="{float(value) if "/" in plain else plain}"' if shown != plain else ""
         return f'<td class="{kind}"{data}>{shown}</td>'
-    return f'<td class="{kind}">{text(value)}</td>'
+    return f'<td class="{kind}">{value if isinstance(value, Markup) else text(value)}</td>'
 
 
 class Cells(Dict[object, str]):
@@ -49,7 +60,11 @@ class Cells(Dict[object, str]):
 
 
 def table(head: Sequence[tuple[str, str]], rows: Sequence[tuple[str, Sequence[object]]], classes: str = "") -> str:
-    """Returns a table whose columns a click sorts; a column is (title, class), a row its own class and its cells."""
+    """Returns a table whose columns a click sorts; a column is (title, class), a row its own class and its cells. Empty
+    columns are left out."""
+    kept = [here for here in range(len(head)) if any(cells[here] != "" for _, cells in rows)]
+    if len(kept) < len(head):
+        head, rows = [head[here] for here in kept], [(kind, [cells[here] for here in kept]) for kind, cells in rows]
     titles = "".join(
         f'<th class="{kind}" scope="col"><button type="button">{text(title)}</button></th>' for title, kind in head
     )
@@ -63,7 +78,8 @@ def table(head: Sequence[tuple[str, str]], rows: Sequence[tuple[str, Sequence[ob
 
 
 def section(title: str, inner: str, name: str = "") -> str:
-    return f'<section{f" id={name}" if name else ""}><h2>{text(title)}</h2>\n{inner}\n</section>'
+    named = f' id="{name}"' if name else ""
+    return f"<section{named}><h2>{text(title)}</h2>\n{inner}\n</section>"
 
 
 def bullets(lines: Sequence[str]) -> str:
@@ -75,15 +91,15 @@ class Arcs:
     arcs that are shown first; a button shows the others."""
 
     def __init__(
-        self, net: Network, name: str, keys: list[str], arcs: list[Arc], lead: set[int], has_plan: bool
+        self, net: Network, name: str, keys: list[str], arcs: list[Arc], lead: set[int], gains: Gains | None
     ) -> None:
-        self.net, self.name, self.keys, self.arcs, self.lead, self.has_plan = net, name, keys, arcs, lead, has_plan
+        self.net, self.name, self.keys, self.arcs, self.lead = net, name, keys, arcs, lead
+        self.has_plan, self.is_exact = gains is not None, gains is not None and gains.is_exact
+        self.gains = {id(arc): amount for amount, arc in gains.felt} if gains is not None else {}
+        has_plan = self.has_plan
         self.has_least = any(arc.lower for arc in arcs)
-        self.has_worth = has_plan and any(arc.worth and self.gain(arc) for arc in arcs)
+        self.has_worth = has_plan and any(id(arc) in self.gains for arc in arcs)
         self.has_price = any(arc.price for arc in arcs)
-
-    def gain(self, arc: Arc) -> Number:
-        return max(0, -arc.worth if arc.is_full() else arc.worth if arc.is_lowest() else 0)
 
     def head(self) -> list[tuple[str, str]]:
         titles = [(key, "") for key in self.keys]
@@ -94,8 +110,8 @@ class Arcs:
             + ([("price", "number")] if self.has_price else [])
         )
         titles += [("flow × price", "number")] if self.has_plan and self.has_price else []
-        better = "saves" if self.net.sign > 0 else "brings"
-        return titles + ([(f"one unit past the bound {better} at most", "number wrap")] if self.has_worth else [])
+        title = f"one more {better(self.net)}{'' if self.is_exact else ' at most'}"
+        return titles + ([(title, "number")] if self.has_worth else [])
 
     def row(self, arc: Arc) -> tuple[str, list[object]]:
         cells: list[object] = [*arc.key, self.net.end(arc.src), self.net.end(arc.dst)] + (
@@ -107,7 +123,7 @@ class Arcs:
             + ([arc.price] if self.has_price else [])
         )
         cells += [arc.flow * arc.price] if self.has_plan and self.has_price else []
-        cells += [self.gain(arc) or ""] if self.has_worth else []
+        cells += [self.gains.get(id(arc), "")] if self.has_worth else []
         bound = "full" if self.has_plan and arc.is_tight() else "lowest" if self.has_plan and arc.is_lowest() else ""
         return f"{bound}{'' if id(arc) in self.lead else ' more'}".strip(), cells
 
@@ -174,9 +190,8 @@ class Arcs:
         made = table(self.head(), [self.row(arc) for arc in shown], "numbers") if shown else ""
         # If every row is hidden, the heading is too.
         made = made if hidden < len(self.arcs) else f'<div class="later">{made}</div>'
-        return section(
-            self.name, f"<p>{self.summary()} {note}</p>{self.finding(len(shown))}{made}{grid}{self.totals()}"
-        )
+        parts = f"<p>{self.summary()} {note}</p>{self.finding(len(shown))}{made}{grid}{self.totals()}"
+        return section(self.name, parts, anchor(self.name))
 
 
 def places_html(net: Network, marginal: Marginal | None = None) -> str:
@@ -284,12 +299,17 @@ def date() -> str:
     return day.strftime("%Y-%m-%d")
 
 
+def heading_size(title: str) -> str:
+    """Returns the class of a heading, so that it takes two lines at most; a very long one ends with dots."""
+    return ' class="longest"' if len(title) > 110 else ' class="long"' if len(title) > 60 else ""
+
+
 def page(title: str, files: str, head: str, sections: list[str]) -> str:
     """Returns the whole page, which needs no other file."""
     return f"""<!DOCTYPE html>
 <html lang="en"><head><meta charset="utf-8"><meta name="viewport" content="width=device-width, initial-scale=1">
-<title>{text(title)}</title><style>{PAGE_STYLE}</style></head>
-<body><header><h1>{text(title)}</h1>
+<title>{escape(title)}</title><style>{PAGE_STYLE}</style></head>
+<body><header><h1{heading_size(title)} title="{escape(title)}">{escape(title)}</h1>
 <p class="dim">{text(files + ", ") if files != title else ""}{date()}</p>
 {head}</header>
 <main>

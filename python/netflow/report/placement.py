@@ -7,6 +7,8 @@ from typing import AbstractSet, Tuple, Union
 from ..reading.network import Arc, Network
 from ..types import Number
 from .layout import Bend, apart, has_cycle, layers, mean
+from .names import spoken
+from .periods import Band, period_layers
 
 Point = Tuple[float, float]
 # A node's index, or a point that a long arc passes.
@@ -48,13 +50,23 @@ class Placement:
         for arc in arcs:
             if (arc.src is None) != (arc.dst is None):
                 self.stubs.setdefault((arc.src, arc.dst), []).append(arc)
-        self.layer = layers(self.nodes, net.arcs if known is None else known)
+        self.bands: list[Band] = []
+        by_period = period_layers(net, self.nodes, net.arcs if known is None else known)
+        if by_period is None:
+            self.layer = self.ranked(net.arcs if known is None else known)
+        else:
+            self.layer, self.bands = by_period
+        self.measure()
+        self.place()
+
+    def ranked(self, known: list[Arc]) -> dict[int, int]:
+        """Returns layers by rank."""
+        self.layer = layers(self.nodes, known)
         level = sum(self.is_level(arc) for arc in self.links)
         if 3 * level > len(self.links) and not has_cycle(self.nodes, self.links):
             # If arcs lead from anywhere to anywhere, only those that are drawn have an order.
-            self.layer = layers(self.nodes, self.links)
-        self.measure()
-        self.place()
+            return layers(self.nodes, self.links)
+        return self.layer
 
     # Sizes
 
@@ -68,11 +80,9 @@ class Placement:
     def label(self, number: int) -> list[str]:
         """Returns the lines of a node: its name, and in a small picture its need or supply."""
         node = self.net.nodes[number]
-        name, bracket, rest = node.text.partition("[")
-        key = rest[:-1].replace("''", "\u2019").replace("'", "").replace(",", " ")
-        named = key if bracket and key.lower().startswith(name.lower()) else f"{name} {key}" if bracket else name
         wish = node.wish() if self.is_small else ""
-        return [line if columns(line) <= 34 else line[:33] + "\u2026" for line in (named, wish) if line] or [name]
+        lines = [line for line in (spoken(node.text), wish) if line] or [node.text.partition("[")[0]]
+        return [line if columns(line) <= 34 else line[:33] + "\u2026" for line in lines]
 
     def measure(self) -> None:
         """Sets the width and height of each node: room for its name, and for the ends of its arcs on each side."""

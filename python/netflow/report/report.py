@@ -19,6 +19,7 @@ from .drawing import draw
 from .grids import grid_html, roster_html
 from .page import Arcs, bullets, changes_html, page, places_html, reason_html, section, text
 from .placement import grouped
+from .summary import summary_html
 
 DRAWN, ALL_DRAWN, SHOWN, SETS = 400, 60, 20, 5
 # Pixels: the printed page, the least scale at which names can be read, and the height from which a drawing needs a page
@@ -76,7 +77,7 @@ class Report:
         unit = f' <span class="unit">{text(self.unit)}</span>' if self.unit else ""
         return (
             f'<p class="value">{text(net.objective)} = {grouped(net.value)}{unit}</p><p>{best}. {counts},'
-            f" {grouped(used)} in use.</p>"
+            f" {grouped(used)} in use.</p>{summary_html(net)}"
         )
 
     def drawn(self) -> list[Arc]:
@@ -206,7 +207,7 @@ class Report:
         for name, arcs in self.net.declared().items():
             titles = headings(self.model, name, len(arcs[0].key))
             grid = (roster_html(arcs, titles) or grid_html(arcs, titles)) if self.has_plan else ""
-            made.append(Arcs(self.net, name, titles, arcs, lead, self.has_plan).html(grid))
+            made.append(Arcs(self.net, name, titles, arcs, lead, self.gains).html(grid))
         return made
 
     def html(self) -> str:

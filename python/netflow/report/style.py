@@ -9,12 +9,12 @@ DRAWING_STYLE = """
 svg text{font:13px system-ui,sans-serif;fill:var(--ink);text-anchor:middle}.node rect{fill:var(--node);stroke:var(--dim)}
 .node.gives rect{fill:var(--gives)}.node.needs rect{fill:var(--needs)}
 .node.marked rect{fill:var(--marked);stroke:var(--across);stroke-width:2}.node .line1{fill:var(--dim);font-size:12px}
-.arc path{fill:none}.arc text{font-size:12px;font-weight:600;paint-order:stroke;stroke:var(--back);stroke-width:4px}
+.arc path{fill:none}.arc text{font-size:12px;font-weight:600}.number rect{fill:var(--back)}.band{fill:none;stroke:var(--line)}text.period{font-size:15px;font-weight:600;fill:var(--dim)}
 .idle path{stroke:var(--idle);stroke-dasharray:4 3}.used path{stroke:var(--used)}.full path{stroke:var(--full)}.across path{stroke:var(--across)}
 .head path{stroke:none;stroke-dasharray:none}.head.idle path{fill:var(--idle)}.head.used path{fill:var(--used)}
 .head.full path{fill:var(--full)}.head.across path{fill:var(--across)}
-.large .arc text{display:none}.large .arc.near text{display:inline}.arc.faint{opacity:.07}.node:focus{outline:none}.node:focus rect,.node:hover rect{stroke:var(--ink);stroke-width:2}
-@media print{svg{max-width:100%;height:auto}.large .arc text{display:none}}
+.large .number{display:none}.large .number.near{display:inline}.arc.faint{opacity:.07}.node:focus{outline:none}.node:focus rect,.node:hover rect{stroke:var(--ink);stroke-width:2}
+@media print{svg{max-width:100%;height:auto}.large .number{display:none}}
 """
 
 PAGE_STYLE = (
@@ -22,7 +22,7 @@ PAGE_STYLE = (
     + """
 *{box-sizing:border-box}
 body{font:15px/1.5 system-ui,sans-serif;color:var(--ink);background:var(--back);margin:0 auto;max-width:1240px;padding:20px 16px 40px}
-h1{font-size:1.4rem;margin:0 0 4px}h2{font-size:1.15rem;margin:32px 0 6px}h3{font-size:1rem;margin:14px 0 4px}p{margin:4px 0 8px}
+h1{font-size:1.4rem;line-height:1.3;margin:0 0 4px;display:-webkit-box;-webkit-line-clamp:2;-webkit-box-orient:vertical;overflow:hidden}h1.long{font-size:1.25rem}h1.longest{font-size:1.1rem}h2{font-size:1.15rem;margin:32px 0 6px}h3{font-size:1rem;margin:14px 0 4px}p{margin:4px 0 8px}
 .value{font-size:1.75rem;font-weight:650;overflow-wrap:anywhere}.none{color:var(--across)}.reason{font-size:1.1rem;font-weight:600}
 footer,.dim{color:var(--dim)}footer{margin-top:36px;font-size:.85rem}
 .scroll{max-height:30rem;overflow:auto;border:1px solid var(--line);border-radius:6px;width:fit-content;max-width:100%;
@@ -30,7 +30,7 @@ background:linear-gradient(to left,var(--back) 40%,transparent) 100% 0/60px 100%
 linear-gradient(to left,var(--edge),transparent) 100% 0/18px 100% no-repeat}
 table{border-collapse:collapse;font-variant-numeric:tabular-nums}
 th{position:sticky;top:0;background:var(--soft);padding:0;text-align:left;white-space:nowrap}
-th button{all:unset;cursor:pointer;padding:4px 12px;display:block;font-weight:600}th.number button{text-align:right}
+th button{all:unset;cursor:pointer;padding:4px 12px;display:block;width:100%;box-sizing:border-box;font-weight:600}th.number button{text-align:right}
 th button:focus-visible{outline:2px solid var(--used);outline-offset:-2px}
 th[aria-sort=ascending] button::after{content:" \\2191"}th[aria-sort=descending] button::after{content:" \\2193"}
 td{padding:3px 12px;border-top:1px solid var(--line)}td.number{text-align:right;white-space:nowrap}td.flow{font-weight:600}td.end{color:var(--dim)}
@@ -47,16 +47,16 @@ border-radius:5px;padding:2px 10px;cursor:pointer}
 .pair{display:flex;flex-wrap:wrap;gap:8px 32px}.pair>div{max-width:100%}.pair div>.scroll{max-height:none}
 .picture{border:1px solid var(--line);border-radius:6px;overflow:auto;max-height:85vh;background:var(--back)}svg{display:block;margin:0 auto}
 .parts{column-width:var(--widest);column-gap:8px}.parts svg{break-inside:avoid}
-.more-right,.more-down{display:none;color:var(--across)}.is-cut .more-right,.is-long .more-down{display:inline}
+.more-right,.more-down{display:none;color:var(--dim)}.is-cut .more-right,.is-long .more-down{display:inline}
 .grid td{text-align:right}.grid td,.grid th button{padding-left:8px;padding-right:8px}.grid td:first-child,.grid td.key{text-align:left;position:sticky;left:0;background:var(--back)}
 .grid th:first-child{left:0;z-index:1}.grid td.key~td.key{position:static}.grid td.zero{color:var(--dim)}.grid td.full{background:var(--full-back)}
 .grid td.chosen,.grid th.chosen button{text-align:center}.grid td.none{background:var(--soft)}.grid tr.sum td{font-weight:600;border-top:2px solid var(--line);position:sticky;bottom:0;background:var(--back)}.as-grid .scroll{max-height:40rem}.print-note{display:none}.grid td.sum{font-weight:600}
-.unit{font-size:1.1rem;font-weight:400;color:var(--dim)}
+a{color:var(--used)}.summary td:first-child{font-weight:600}.unit{font-size:1.1rem;font-weight:400;color:var(--dim)}
 p.key{display:flex;flex-wrap:wrap;gap:4px 18px;align-items:center}
 .key i{display:inline-block;width:26px;height:0;border-top:4px solid;margin-right:6px;vertical-align:middle}
 .key .idle{border-top:2px dashed var(--idle)}.key .used{border-color:var(--used)}.key .full{border-color:var(--full)}
 .key .across{border-color:var(--across)}
-@media (max-width:700px){table{font-size:.87rem}td,th button{padding-left:6px;padding-right:6px}.grid td,.grid th button{padding-left:4px;padding-right:4px}
+@media (max-width:700px){h1.long{font-size:1.05rem}h1.longest{font-size:.85rem}table{font-size:.87rem}td,th button{padding-left:6px;padding-right:6px}.grid td,.grid th button{padding-left:4px;padding-right:4px}
 th,.numbers td:not(.number){white-space:normal}th.wrap button{min-width:0}th.end,td.end{display:none}.grid.wordy th.number button{display:inline-block;writing-mode:vertical-rl;transform:rotate(180deg);padding:6px 2px}}
 .grid.long th.number button{display:inline-block;writing-mode:vertical-rl;transform:rotate(180deg);padding:6px 2px}.grid.long th,.grid.wordy th{vertical-align:bottom}.grid.long th.number,.grid.wordy th.number{text-align:right}
 @media print{body{max-width:none;padding:0 1px;font-size:11px}.scroll,.picture{max-height:none;overflow:visible;border-color:#bbb;background:none}
@@ -98,7 +98,7 @@ document.querySelectorAll('.find').forEach(function(line){
   var marks=box.closest('section').classList;marks.toggle('is-cut',box.scrollWidth>box.clientWidth+1);
   marks.toggle('is-long',box.scrollHeight>box.clientHeight+1)}
  function fit(){return box.clientWidth/widest}
- size(Math.max(.45,Math.min(1,fit())));onresize=function(){size(scale)};
+ size(fit()>(innerWidth<700?.25:.38)?Math.min(1,fit()):.45);onresize=function(){size(scale)};
  document.querySelectorAll('.tools button').forEach(function(button){button.onclick=function(){
   var to=button.dataset.scale;size(to==='fit'?fit():scale*to)}});
  box.querySelectorAll('.node').forEach(function(node){

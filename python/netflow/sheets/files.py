@@ -12,6 +12,7 @@ from ..errors import ProgramError
 from ..exact import LARGEST, NUMERAL, parse_numeral
 from ..program import REJECTED, UNREADABLE_FILE
 from ..reading.data import KEY_NUMBER, PLAIN_NAME
+from ..reading.text import MOST_BYTES
 from .workbooks import xlsx_rows
 
 LIKE_NUMBER = re.compile("[+\\-\u2212]?[0-9][0-9.,'\u2019\u00a0\u202f ]*(?:[eE][+-]?[0-9]+)?%?")
@@ -108,10 +109,12 @@ def csv_rows(path: str) -> Iterable[Sequence[str]]:
     """Yields the rows of a CSV file; the mark between cells is the one of comma, semicolon and tab that the first row
     has most of."""
     if path == "-":
-        raw = sys.stdin.buffer.read()
+        raw = sys.stdin.buffer.read(MOST_BYTES + 1)
     else:
         with open(path, "rb") as file:
-            raw = file.read()
+            raw = file.read(MOST_BYTES + 1)
+    if len(raw) > MOST_BYTES:
+        raise ProgramError(REJECTED, f"netflow-sheet: {path}: more than 16 MiB, which no data file can have\n")
     if raw[:4] == b"PK\x03\x04":
         return xlsx_rows(path, "")
     encoding = "utf-16" if raw[:2] in (b"\xff\xfe", b"\xfe\xff") else "utf-8-sig"

@@ -7,6 +7,7 @@ import io
 import sys
 from typing import Dict, Iterable, Iterator, Sequence
 
+from ..analysis.reasons import reasons
 from ..errors import ProgramError
 from ..inputs.instance import Instance
 from ..program import REJECTED
@@ -100,7 +101,9 @@ def plan(arguments: argparse.Namespace, instance: Instance) -> int:
             print(dump_lines(plan_columns(net) if net.cut is None else no_plan_json(net)))
             return answer.status
         if answer.status:
-            sys.stderr.write(f"{divided_cut(answer.text, net)}netflow-sheet: netflow-why says why there is no plan\n")
+            sys.stderr.write(
+                f"{divided_cut(answer.text, net)}netflow-sheet: no plan: {reasons(net)[0].headline(net)}\n"
+            )
             return answer.status
         names = list(net.declared())
         if arguments.only and arguments.only not in names:

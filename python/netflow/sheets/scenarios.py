@@ -115,7 +115,7 @@ def diff(arguments: argparse.Namespace, out: Any) -> int:
     )
     for net, name in ((first, "as it is"), (second, "as changed")):
         if net.cut is not None:
-            raise ProgramError(2, f"netflow-sheet: the model {name} has no plan: netflow-why says why\n")
+            raise ProgramError(2, f"netflow-sheet: no plan {name}: {reasons(net)[0].headline(net)}\n")
     arcs = {arc.text: arc for arc in [*second.arcs, *first.arcs]}
     flows = [{arc.text: arc.flow for arc in net.arcs} for net in (first, second)]
     width = max((len(arc.key) for arc in arcs.values()), default=0)

@@ -52,8 +52,9 @@ def xlsx_rows(path: str, sheet: str) -> list[list[str]]:
 def cell_text(value: object) -> str:
     """Returns the value of a cell as typed; a date is its number."""
     if isinstance(value, (datetime.date, datetime.time, datetime.timedelta)):
-        from openpyxl.utils.datetime import to_excel
+        from openpyxl.utils import datetime as dates
 
+        to_excel: Any = dates.to_excel
         value = to_excel(value)
     if isinstance(value, bool):
         return str(int(value))

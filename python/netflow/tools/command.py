@@ -4,7 +4,6 @@ from __future__ import annotations
 import argparse
 import gc
 import os
-import shlex
 import signal
 import sys
 from typing import Any, Callable, Sequence
@@ -12,7 +11,8 @@ from typing import Any, Callable, Sequence
 from .. import __version__
 from ..errors import DataError, ModelError, NetflowError, ProgramError, ScaleError, Unbounded, Unreadable
 from ..exact import Exact, parse_numeral
-from ..hints.diagnostic import LINE, Diagnostic
+from ..hints.diagnostic import Diagnostic
+from ..hints.explanation import explanation
 from ..inputs.grouped_digits import grouped_lines_of
 from ..inputs.instance import Instance
 from ..inputs.source import Input
@@ -91,23 +91,7 @@ def instance_of(arguments: argparse.Namespace, extra: Sequence[str] = ()) -> Ins
         add_bounds=arguments.bounds,
         origins=origins,
     )
-    instance.words = given_words(arguments, extra)
     return instance
-
-
-def given_words(arguments: argparse.Namespace, extra: Sequence[str]) -> list[str]:
-    """Returns the files and options of a question as words; none if a file is a pipe, which can be read only once."""
-    files = [arguments.model, *arguments.data]
-    if any(
-        file == "-" or os.path.exists(file) and not os.path.isfile(file) and os.path.realpath(file) != os.devnull
-        for file in files
-    ):
-        return []
-    options = [["--set", change] for change in (*arguments.changes, *extra)] + [
-        ["--scale", factor] for factor in arguments.scale
-    ]
-    options += [["--objective", arguments.objective]] if arguments.objective else []
-    return [*files, *(word for pair in options for word in pair), *(["--bounds"] if arguments.bounds else [])]
 
 
 def changes_of(words: Sequence[str]) -> dict[str, Any]:
@@ -180,23 +164,33 @@ def fractions_text(net: Network) -> str:
     )
 
 
+def note(lines: Sequence[str]) -> None:
+    """Prints lines on standard error, each after the name of the tool."""
+    sys.stderr.write("".join(f"{os.path.basename(sys.argv[0])}: {line}\n" for line in lines))
+
+
 def note_fractions(net: Network) -> None:
     """Prints on standard error why the flows of a plan are not whole."""
-    text = fractions_text(net)
-    if text:
-        sys.stderr.write(f"{os.path.basename(sys.argv[0])}: {text}\n")
+    note(list(filter(None, [fractions_text(net)])))
 
 
 def note_grouped(instance: Instance) -> None:
     """Prints on standard error the decimals that may be whole numbers with grouped digits, each once."""
     new = [line for line in grouped_lines_of(instance) if line not in NOTED]
     NOTED.update(new)
-    sys.stderr.write("".join(f"{os.path.basename(sys.argv[0])}: {line}\n" for line in new))
+    note(new)
 
 
 def title_of(arguments: argparse.Namespace) -> str:
     names = [os.path.basename(path) for path in arguments.data if path != os.devnull]
     return f"{os.path.basename(arguments.model)}{' with ' if names else ''}{', '.join(names)}"
+
+
+def print_error(problem: ProgramError, found: Diagnostic | None, instance: Instance | None) -> None:
+    """Prints an error on standard error, with its explanation if it is one of the model or its data."""
+    options = instance.options if instance is not None else ()
+    lines = [problem.message.rstrip("\n"), *(explanation(found, options) if found is not None else [])]
+    sys.stderr.write("".join(f"{line}\n" for line in lines))
 
 
 def print_error_json(problem: ProgramError, instance: Instance) -> int:
@@ -236,11 +230,11 @@ def ended(main: Callable[[Sequence[str]], int], words: Sequence[str], name: str)
             sys.stdout.flush()
         return status
     except SystemExit as end:
-        return end.code if isinstance(end.code, int) else 0
+        return flushed(end.code if isinstance(end.code, int) else 0, name)
     except ProgramError as problem:
-        sys.stderr.write(problem.message if problem.message.endswith("\n") else f"{problem.message}\n")
-        if problem.words and LINE.match(problem.message):
-            sys.stderr.write(f"For a hint: netflow-explain {shlex.join(problem.words)}\n")
+        instance = problem.instance
+        found = Diagnostic.of_instance(problem, instance) if instance is not None else None
+        print_error(problem, found, instance)
         return problem.status
     except Unreadable as problem:
         sys.stderr.write(f"{name}: {OTHER_VERSION} {problem}\n")
@@ -249,11 +243,24 @@ def ended(main: Callable[[Sequence[str]], int], words: Sequence[str], name: str)
         sys.stderr.write(f"{name}: {problem}\n")
         return REJECTED
     except OSError as problem:
-        close_output()
-        sys.stderr.write(f"{name}: {problem.strerror or problem}\n")
-        return UNREADABLE_FILE
+        return output_error(problem, name)
     except KeyboardInterrupt:
         return 130
+
+
+def flushed(status: int, name: str) -> int:
+    """Writes what is left of standard output, such as the help; returns the status, or that of a failed write."""
+    try:
+        sys.stdout.flush()
+    except OSError as problem:
+        return output_error(problem, name)
+    return status
+
+
+def output_error(problem: OSError, name: str) -> int:
+    close_output()
+    sys.stderr.write(f"{name}: {problem.strerror or problem}\n")
+    return UNREADABLE_FILE
 
 
 def close_output() -> None:

@@ -2,8 +2,8 @@
        netflow-explain COMMAND FILE.. [OPTION..] [--json]
 
 Solves a model, with its decimals scaled, as the other tools do. If an input is rejected, the error line is followed by the place as
-editors take it, PATH:LINE:COLUMN, the line of the input with a mark under the place, what the error means, and a hint what was
-probably meant, or how to fix it. Further wrong names, keys and kinds of values in the data follow, a line for each. With --json the
+editors take it, PATH:LINE:COLUMN, with a hint what was probably meant, the line of the input with a mark under the place, and what the
+error means, or how to fix it. Further wrong names, keys and kinds of values in the data follow, a line for each. With --json the
 error is a JSON object on standard output.
 
 With a COMMAND (solve, compile, min, check, ..) netflow runs with these words. Its output and exit status are passed on, and its
@@ -14,25 +14,21 @@ from __future__ import annotations
 import os
 import subprocess
 import sys
-import textwrap
-import unicodedata
 from typing import Sequence
 
 from .. import __version__
 from ..errors import ModelError, ProgramError
 from ..hints.diagnostic import LINE, TEXTS, Diagnostic
-from ..hints.later_errors import further_errors, further_lines
+from ..hints.explanation import explanation
+from ..hints.later_errors import further_errors
 from ..inputs.grouped_digits import grouped_lines, grouped_lines_of
 from ..inputs.instance import Instance
 from ..program import USAGE, Session, program
-from ..reading.keys import shown
-from ..reading.output import divided_cut
+from ..reading.output import divided_cut, written
 from ..reading.text import read
 from ..report.json_objects import dump_lines, error_json
-from .command import ToolParser, instance_of
+from .command import ToolParser, instance_of, print_error
 from .command import run as run_tool
-
-WIDTH, AROUND = 100, 60
 
 
 def files_of(words: Sequence[str]) -> list[int]:
@@ -44,41 +40,6 @@ def files_of(words: Sequence[str]) -> list[int]:
             continue
         places.append(here)
     return places[: len(TEXTS.get(words[0], ()))]
-
-
-def width(text: str) -> int:
-    """Returns the columns of a terminal that a text takes."""
-    return sum(
-        0 if unicodedata.combining(letter) else 2 if unicodedata.east_asian_width(letter) in "WF" else 1
-        for letter in text
-    )
-
-
-def source_lines(diagnostic: Diagnostic) -> list[str]:
-    """Returns the line of the input, of a long one the part around the place, and the mark below."""
-    before, after = diagnostic.before, diagnostic.at()
-    if len(before) > AROUND:
-        before = ".. " + before[-AROUND:]
-    if len(after) > 2 * AROUND:
-        after = after[: 2 * AROUND] + " .."
-    # A tab stays one, so that the mark is below its place in any terminal.
-    under = "".join(letter if letter == "\t" else " " * width(letter) for letter in before)
-    return [f"    {before}{after}", *([f"    {under}^"] if diagnostic.column else [])]
-
-
-def lines_of(diagnostic: Diagnostic) -> list[str]:
-    """Returns the explanation. A sure hint comes alone; without one, what to do in general comes last."""
-    place = diagnostic.place() if diagnostic.called or diagnostic.is_change() else ""
-    means, remedy = diagnostic.catalogue()
-    lines = textwrap.wrap(
-        f"{place}: {means}" if place else means, WIDTH, break_long_words=False, break_on_hyphens=False
-    )
-    is_text = "\0" not in diagnostic.shown and not diagnostic.shown.startswith("PK\x03\x04")
-    lines += source_lines(diagnostic) if diagnostic.shown.strip() and is_text and not diagnostic.is_change() else []
-    lines += [f"  Hint: {hint}" for hint in diagnostic.hints()]
-    if remedy and not diagnostic.has_sure_hint():
-        lines += textwrap.wrap(f"To fix: {remedy}", WIDTH, initial_indent="  ", subsequent_indent="  ")
-    return lines
 
 
 def explain(words: list[str], is_json: bool) -> int:
@@ -107,9 +68,7 @@ def explain(words: list[str], is_json: bool) -> int:
         if words[0] == "solve" and done.returncode in (0, 2):
             texts = [read(path) for path in session.files]
             write_hints(grouped_lines(texts[0], [(None, text) for text in texts[1:]]))
-        sys.stderr.write(
-            "".join(f"{line}\n" for line in [*lines_of(found), *further_lines(found, options)]) if found else ""
-        )
+        sys.stderr.write("".join(f"{line}\n" for line in explanation(found, options)) if found else "")
     return done.returncode
 
 
@@ -153,8 +112,7 @@ def explain_rewritten(words: list[str], is_json: bool) -> int:
             if is_json:
                 print_json(found, instance.options)
             else:
-                lines = [problem.message.rstrip("\n"), *lines_of(found), *further_lines(found, instance.options)]
-                sys.stderr.write("".join(f"{line}\n" for line in lines))
+                print_error(problem, found, instance)
             return problem.status
 
 
@@ -167,16 +125,7 @@ def write_hints(lines: list[str]) -> None:
 def divided_text(instance: Instance) -> str:
     """Returns the answer to a scaled question in netflow's form, its numbers divided again."""
     answer, net = instance.network()
-    if net.cut is not None:
-        return divided_cut(answer.text, net)
-    lines, declared = [f"{net.objective} = {net.value}"], net.declared()
-    for name, is_table in net.declarations:
-        arcs = declared.get(name, [])
-        if is_table:
-            lines += [f"{name} :=", *(" ".join([*map(shown, arc.key), str(arc.flow)]) for arc in arcs), ";"]
-        else:
-            lines.append(f"{name} = {arcs[0].flow}")
-    return "\n".join(lines) + "\n"
+    return written(net) if net.cut is None else divided_cut(answer.text, net)
 
 
 def main(arguments: Sequence[str]) -> int:

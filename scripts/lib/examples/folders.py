@@ -5,7 +5,6 @@ from lib.command import TOP
 from lib.examples.program import compare, read, rejected, run
 
 
-
 def words_of(folder):
     """Returns the arguments of a folder: the chosen objective, the model and the data."""
     chosen = read(folder / "objective").decode().split()
@@ -21,11 +20,17 @@ def check_folder(folder, complaints):
     if lean:
         compare(f"{name}: lean", (status, lean, b""), run(["compile", *words, "--lean"]), complaints)
     # solve.txt has every correct answer, separated by empty lines.
-    answers = [b"".join((it.rstrip(b"\n"), b"\n")) for it in read(folder / "solve.txt").split(b"\n\n") if it]
-    for options in ([], ["--lean"])[:0 if not answers else 2 if lean else 1]:
+    answers = [b"".join((part.rstrip(b"\n"), b"\n")) for part in read(folder / "solve.txt").split(b"\n\n") if part]
+    choices: list[list[str]] = [[], ["--lean"]]
+    for options in choices[: 0 if not answers else 2 if lean else 1]:
         given = run(["solve", *words, *options])
-        wanted = next((it for it in answers if it == given[1]), answers[0])
-        compare(" ".join((f"{name}: solve", *options)), (int(read(folder / "solve_status") or b"0"), wanted, b""), given, complaints)
+        wanted = next((answer for answer in answers if answer == given[1]), answers[0])
+        compare(
+            " ".join((f"{name}: solve", *options)),
+            (int(read(folder / "solve_status") or b"0"), wanted, b""),
+            given,
+            complaints,
+        )
 
 
 def check_problem(folder, complaints):
@@ -63,9 +68,11 @@ def check_line_faults(folder, complaints):
 
 def check_pipe(complaints):
     """Passes what `compile` writes to `min`, and the answer to `check`."""
-    for folder in sorted(it for it in (TOP / "examples").iterdir() if read(it / "compile.txt")):
+    for folder in sorted(folder for folder in (TOP / "examples").iterdir() if read(folder / "compile.txt")):
         status, text, _ = run(["compile", *words_of(folder)])
-        with tempfile.NamedTemporaryFile(suffix=".min") as problem, tempfile.NamedTemporaryFile(suffix=".sol") as answer:
+        with tempfile.NamedTemporaryFile(suffix=".min") as problem, tempfile.NamedTemporaryFile(
+            suffix=".sol"
+        ) as answer:
             problem.write(text)
             problem.flush()
             status, found, stderr = run(["min", problem.name])
@@ -73,13 +80,24 @@ def check_pipe(complaints):
             answer.flush()
             if status not in (0, 2):
                 complaints.append(f"{folder.name}: min: status {status}, {stderr!r}")
-            compare(f"{folder.name}: min, checked", (0, b"yes\n", b""), run(["check", problem.name, answer.name]), complaints)
+            compare(
+                f"{folder.name}: min, checked",
+                (0, b"yes\n", b""),
+                run(["check", problem.name, answer.name]),
+                complaints,
+            )
 
 
 def check_lean_alike(complaints):
-    """Checks that the lean form is the normal form, byte for byte, if all lower bounds are 0 and no arc has equal bounds."""
+    """Checks that the lean form is the normal form, byte for byte, if all lower bounds are 0 and no arc has equal
+    bounds."""
     for name in ("cities", "transport", "max_flow"):
         folder = TOP / "examples" / name
         wanted = read(folder / "compile.txt") or run(["compile", *words_of(folder)])[1]
         compare(f"{name}: compile --lean", (0, wanted, b""), run(["compile", "--lean", *words_of(folder)]), complaints)
-        compare(f"{name}: solve --lean", run(["solve", *words_of(folder)]), run(["solve", "--lean", *words_of(folder)]), complaints)
+        compare(
+            f"{name}: solve --lean",
+            run(["solve", *words_of(folder)]),
+            run(["solve", "--lean", *words_of(folder)]),
+            complaints,
+        )

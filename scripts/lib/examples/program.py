@@ -1,20 +1,28 @@
 """The built program: calls of it, and comparisons of its answers."""
+import os
 import subprocess
 
-from lib.command import TOP
-
+from lib.command import PROGRAM, TOP
 
 COMMAND = TOP / "netflow"
-
-PROGRAM = TOP / "crates" / "netflow" / "out" / "netflow"
 
 
 def run(words, seconds=None):
     """Runs the program; returns status, standard output and standard error, or an error text if it exceeds the time."""
     try:
-        done = subprocess.run([str(PROGRAM), *(word if isinstance(word, bytes) else str(word) for word in words)], capture_output=True, stdin=subprocess.DEVNULL, timeout=seconds)
+        done = subprocess.run(
+            [PROGRAM, *(os.fsdecode(word) if isinstance(word, bytes) else str(word) for word in words)],
+            capture_output=True,
+            stdin=subprocess.DEVNULL,
+            timeout=seconds,
+        )
     except subprocess.TimeoutExpired:
         return 1, b"", b"no answer after %d seconds" % seconds
+    return answer(done)
+
+
+def answer(done):
+    """Returns status, standard output and standard error of an ended call."""
     return done.returncode, done.stdout, done.stderr
 
 

@@ -7,7 +7,6 @@ from lib.command import TOP
 from lib.examples.program import compare, run
 
 
-
 class Row:
     """A model with its data, the chosen objective and options, and the expected answer: lines by their signs."""
 
@@ -19,14 +18,14 @@ class Row:
 
 
 def rows_of(path):
-    """Yields the rows of a file. A row begins with lines of a model, or after an answer, for the same model, with lines of data, an
-    objective or an option."""
-    row = None
+    """Yields the rows of a file. A row begins with lines of a model, or after an answer, for the same model, with lines
+    of data, an objective or an option."""
+    row: Row = None
     for number, line in enumerate(path.read_text(encoding="utf-8").splitlines(), 1):
         sign = line[:1]
         if sign in ("", "#"):
             continue
-        answered = row and any(row.lines[it] for it in "=+~")
+        answered = row and any(row.lines[mark] for mark in "=+~")
         if row is None or answered and sign in ">|@!":
             if row:
                 yield row
@@ -36,7 +35,8 @@ def rows_of(path):
 
 
 def whole(answer):
-    """Returns what the program does to give an answer, an error line or the text of an output: status, standard output and error."""
+    """Returns what the program does to give an answer, an error line or the text of an output: status, standard output
+    and error."""
     line = f"{answer}\n".encode()
     if re.match(r"E\d\d ", answer):
         return 4 if answer.startswith("E9") else 3, b"", line
@@ -44,7 +44,8 @@ def whole(answer):
 
 
 def row_answer(wanted, status, text, stderr):
-    """Returns the answer of `compile` in the form of a row's answer; all of what the program did, if that is no answer."""
+    """Returns the answer of `compile` in the form of a row's answer; all of what the program did, if that is no
+    answer."""
     line = stderr.decode(errors="replace").rstrip("\n")
     if (status, text, stderr) == whole(line) and line.startswith("E"):
         return line
@@ -65,7 +66,7 @@ def check_row(row, words, complaints):
     for sign, call in (("+", "compile"), ("~", "solve")):
         if row.lines[sign]:
             given, answers = run([call, *words]), row.text(sign).split("\n\n")
-            wanted = next((it for it in answers if whole(it) == given), answers[0])
+            wanted = next((answer for answer in answers if whole(answer) == given), answers[0])
             compare(f"{row.place}: {call}", whole(wanted), given, complaints)
 
 
@@ -76,13 +77,14 @@ def check_rows(complaints):
             for row in rows_of(path):
                 model.write_text(row.text(">"), encoding="utf-8")
                 data.write_text(row.text("|"), encoding="utf-8")
-                chosen = [it for name in row.lines["@"] for it in ("--objective", name)]
+                chosen = [word for name in row.lines["@"] for word in ("--objective", name)]
                 chosen += [f"--{option}" for option in row.lines["!"]]
                 check_row(row, [*chosen, model, data], complaints)
 
 
 def bytes_of(lines):
-    """Returns the bytes of lines with line ends. `\\r`, `\\t`, `\\0` and `\\x20` are these bytes; a `\\` at the end of a line removes its line end."""
+    """Returns the bytes of lines with line ends. `\\r`, `\\t`, `\\0` and `\\x20` are these bytes; a `\\` at the end of
+    a line removes its line end."""
     return "".join(f"{line}\n" for line in lines).encode().decode("unicode_escape").encode("latin-1")
 
 
@@ -97,7 +99,8 @@ def answer_of(words, place, complaints):
 
 
 def check_problem_row(row, problem, certificate, complaints):
-    """Compares the answer of `check` to a row's certificate, and that of `min` to its problem without potentials, or its first line."""
+    """Compares the answer of `check` to a row's certificate, and that of `min` to its problem without potentials, or
+    its first line."""
     if row.lines["="]:
         certificate.write_bytes(bytes_of(row.lines["|"]))
         found = answer_of(["check", problem, certificate], row.place, complaints)
@@ -115,13 +118,19 @@ def check_problem_row(row, problem, certificate, complaints):
 
 
 def check_pieces(row, problem, complaints):
-    """Checks that the answer is the same if each byte in turn begins the second piece of 4,096 bytes, after a comment."""
+    """Checks that the answer is the same if each byte in turn begins the second piece of 4,096 bytes, after a
+    comment."""
     text = bytes_of(row.lines[">"])
     status, found, stderr = run(["min", problem])
-    stderr = re.sub(rb"(?<=problem )\d+", lambda it: b"%d" % (int(it[0]) + 1), stderr)
+    stderr = re.sub(rb"(?<=problem )\d+", lambda match: b"%d" % (int(match[0]) + 1), stderr)
     for place in range(len(text)):
         problem.write_bytes(b"c".ljust(4095 - place) + b"\n" + text)
-        compare(f"{row.place}: after a comment, cut at byte {place}", (status, found, stderr), run(["min", problem]), complaints)
+        compare(
+            f"{row.place}: after a comment, cut at byte {place}",
+            (status, found, stderr),
+            run(["min", problem]),
+            complaints,
+        )
 
 
 def check_problem_rows(complaints):

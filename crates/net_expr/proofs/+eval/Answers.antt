@@ -1,5 +1,5 @@
 use Rattle.std.specs.Prelude.{List}
-use Rattle.net_tree.specs.declared.expr.Link.{Link}
+use Rattle.net_tree.specs.declared.expr.LinkedOperand.{LinkedOperand}
 use Rattle.std.proofs.Common.{◌≡◌, ◌*◌, ◌^◌, ◌∷◌, ◌++◌, [], false, rules, refl, Ok, length, take, ◌-◌, sym, subst, ap, ◌∙◌, ◌+◌, drop, arith}
 use Rattle.std.proofs.lemmas.Grind.{common_steps}
 use Rattle.std.proofs.lemmas.Result.{err_from_is_err_and}
@@ -265,7 +265,7 @@ fitting::components-returns-in_ok-here-in-len1-up t c =
     ∙ ap
     (component_places (span_of (tree c.args.whole.now)) c.args.env.now (tree (out-Operands c.args.series.now).first) (links_of (out-Operands c.args.series.now).more) (c.member-item.result ∷ take (length c.as_slice.result.now - 1) (drop 1 c.as_slice.result.now)))
     (sym c.in_ok-here-in-len1-up.ensures)
-    ∙ ap (λ (m : List Link). component_places (span_of (tree c.args.whole.now)) c.args.env.now (tree (out-Operands c.args.series.now).first) (links_of m) (c.member-item.result ∷ take (length c.as_slice.result.now - 1) (drop 1 c.as_slice.result.now)) c.in_ok-here-in-len1-up.here) (sym c.as_slice-in-len1-up.ensures))
+    ∙ ap (λ (m : List LinkedOperand). component_places (span_of (tree c.args.whole.now)) c.args.env.now (tree (out-Operands c.args.series.now).first) (links_of m) (c.member-item.result ∷ take (length c.as_slice.result.now - 1) (drop 1 c.as_slice.result.now)) c.in_ok-here-in-len1-up.here) (sym c.as_slice-in-len1-up.ensures))
     c.fit_all.ensures
 
 pub eval::is_met-returns : goal.eval::is_met-returns
@@ -441,7 +441,7 @@ eval::subscripted-returns t c =
     answers_by _ _ _
     (goes _ _ _ _
     (sym (and_then-assoc (and_then (value c.args.env.now c.args.scope.now (tree (out-Operands c.args.subscripts.now).first)) (λ v. values c.args.env.now c.args.scope.now (links_of (out-Operands c.args.subscripts.now).more) (v ∷ []))) (tuple_of (span_of (tree c.args.whole.now))) (name_at (span_of (tree c.args.whole.now)) c.args.env.now c.args.name.now.text (bound c.args.scope.now c.args.name.now.text))))
-    (ap (λ (m : List Link). and_then (and_then (value c.args.env.now c.args.scope.now (tree (out-Operands c.args.subscripts.now).first)) (λ v. values c.args.env.now c.args.scope.now (links_of m) (v ∷ []))) (tuple_of (span_of (tree c.args.whole.now)))) (sym c.as_slice.ensures)
+    (ap (λ (m : List LinkedOperand). and_then (and_then (value c.args.env.now c.args.scope.now (tree (out-Operands c.args.subscripts.now).first)) (λ v. values c.args.env.now c.args.scope.now (links_of m) (v ∷ []))) (tuple_of (span_of (tree c.args.whole.now)))) (sym c.as_slice.ensures)
     ∙ c.in_ok-key.ensures)
     ∙ ap (λ at. name_at at c.args.env.now c.args.name.now.text (bound c.args.scope.now c.args.name.now.text) c.in_ok-key.key) (sym c.span_of.ensures))
     c.name_at.ensures

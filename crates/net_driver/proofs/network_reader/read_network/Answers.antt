@@ -3,7 +3,7 @@ use Rattle.net_lex.specs.declared.token.Token.{Token}
 use Rattle.net_model.specs.Meaning.{Means}
 use Rattle.net_model.specs.Models.{meant, Parses}
 use Rattle.net_model.proofs.NamedModels.{meant_well_named}
-use Rattle.net_eval.proofs.NewNames.{new_names}
+use Rattle.net_bind.proofs.NewNames.{new_names}
 use Rattle.net_tree.specs.View as view
 use Rattle.net_driver.proofs.Stops.{model_token, model_parse, model_stop, passed_on}
 use Rattle.net_driver.proofs.network_reader.read_network.Goals as goal

@@ -1,6 +1,6 @@
 use Rattle.std.proofs.Common.{sym, subst}
 use Rattle.net_tree.specs.View.{links_of, tree}
-use Rattle.net_tree.specs.declared.expr.Link.{out-Link}
+use Rattle.net_tree.specs.declared.expr.LinkedOperand.{out-LinkedOperand}
 use Rattle.net_tree.proofs.Views.{next_link}
 use Rattle.std.specs.Prelude.{◌+◌, drop}
 use Rattle.net_expr.specs.DeclaredRows.{AreNewDummies}
@@ -15,5 +15,5 @@ loop-component-preserved c = λ after h.
     let left = next_link c.args.components.now i l c.loop-component-test.true c.component-item.is in
     c.loop-component.invariant after
     (subst (λ ls. AreNewDummies w ls c.loop-component.names.items after) (sym left)
-    (more_dummies w c.loop-component.names.items c.add_dummy.new.names.items after (out-Link l).operator (tree (out-Link l).operand) (links_of (drop (i + 1) c.args.components.now))
+    (more_dummies w c.loop-component.names.items c.add_dummy.new.names.items after (out-LinkedOperand l).operator (tree (out-LinkedOperand l).operand) (links_of (drop (i + 1) c.args.components.now))
     (c.in_ok-add_dummy.ensures c.if-not-branch.false) h))

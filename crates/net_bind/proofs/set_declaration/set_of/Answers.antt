@@ -1,0 +1,5 @@
+use Rattle.std.proofs.Common.{arith}
+use Rattle.net_bind.proofs.set_declaration.set_of.Goals as goal
+
+pub returns : goal.returns
+returns c = grind (arith)

@@ -1,6 +1,0 @@
-use Rattle.std.specs.Prelude.{◌≡◌, take}
-use Rattle.net_eval.specs.DataByName.{no_data}
-use Rattle.net_eval.proofs.by_name.no_data.Given as goal
-
-abbrev pub invariant-loop-index : goal.invariant-loop-index
-invariant-loop-index l = l.all.items ≡ no_data (take l._index l.fn.names)

@@ -1,7 +1,0 @@
-use Rattle.std.specs.Prelude.{◌≡◌, drop}
-use Rattle.net_tree.specs.View.{tree}
-use Rattle.net_eval.specs.Binding.{hold}
-use Rattle.net_eval.proofs.check.hold.Given as goal
-
-abbrev pub invariant-loop-place : goal.invariant-loop-place
-invariant-loop-place l = hold l.fn.env (tree l.fn.condition) (drop l.place l.fn.rows) ≡ hold l.fn.env (tree l.fn.condition) l.fn.rows

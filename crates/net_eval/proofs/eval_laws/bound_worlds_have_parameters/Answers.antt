@@ -1,5 +1,0 @@
-use Rattle.net_eval.proofs.HeldEntries.{have_parameters}
-use Rattle.net_eval.proofs.eval_laws.bound_worlds_have_parameters.Goals as goal
-
-pub returns : goal.returns
-returns c = record { value = have_parameters }

@@ -1,5 +1,0 @@
-use Rattle.net_eval.proofs.SoundParameters.{parameters_are_sound}
-use Rattle.net_eval.proofs.eval_laws.parameters_are_sound.Goals as goal
-
-pub returns : goal.returns
-returns c = record { value = parameters_are_sound }

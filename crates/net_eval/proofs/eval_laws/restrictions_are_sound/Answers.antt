@@ -1,5 +1,0 @@
-use Rattle.net_eval.proofs.SoundRestrictions.{restrictions_are_sound}
-use Rattle.net_eval.proofs.eval_laws.restrictions_are_sound.Goals as goal
-
-pub returns : goal.returns
-returns c = record { value = restrictions_are_sound }

@@ -1,9 +1,0 @@
-use Rattle.std.proofs.Common.{arith}
-use Rattle.std.proofs.lemmas.Grind.{common_steps}
-use Rattle.net_eval.proofs.param_data.gridded.Goals as goal
-
-pub returns-then-is_doubled : goal.returns-then-is_doubled
-returns-then-is_doubled c = grind (arith, common_steps)
-
-pub returns : goal.returns
-returns c = grind (arith)

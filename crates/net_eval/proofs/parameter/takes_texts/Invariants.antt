@@ -1,7 +1,0 @@
-use Rattle.std.specs.Prelude.{◌≡◌, drop, map}
-use Rattle.net_tree.specs.View.{phrase_of}
-use Rattle.net_eval.specs.BoundParameters.{takes_texts}
-use Rattle.net_eval.proofs.parameter.takes_texts.Given as goal
-
-abbrev pub invariant-loop-phrase : goal.invariant-loop-phrase
-invariant-loop-phrase l = takes_texts (map phrase_of (drop l.phrase-index l.fn.phrases)) ≡ takes_texts (map phrase_of l.fn.phrases)

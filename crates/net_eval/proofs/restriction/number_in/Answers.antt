@@ -1,6 +1,0 @@
-use Rattle.std.proofs.Common.{arith}
-use Rattle.std.proofs.lemmas.Grind.{common_steps}
-use Rattle.net_eval.proofs.restriction.number_in.Goals as goal
-
-pub returns-in-One : goal.returns-in-One
-returns-in-One c = grind (arith, common_steps)

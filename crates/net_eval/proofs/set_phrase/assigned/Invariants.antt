@@ -1,6 +1,0 @@
-use Rattle.std.specs.Prelude.{◌≡◌, drop}
-use Rattle.net_eval.specs.SetPhrases.{assigned}
-use Rattle.net_eval.proofs.set_phrase.assigned.Given as goal
-
-abbrev pub invariant-loop-phrase : goal.invariant-loop-phrase
-invariant-loop-phrase l = assigned (drop l.phrase-index l.fn.all) ≡ assigned l.fn.all

@@ -1,5 +1,0 @@
-use Rattle.std.proofs.Common.{arith}
-use Rattle.net_eval.proofs.set_phrase.with_phrase.Goals as goal
-
-pub returns : goal.returns
-returns c = grind (arith)

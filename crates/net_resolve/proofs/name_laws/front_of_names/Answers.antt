@@ -1,6 +1,0 @@
-use Rattle.std.proofs.Common.{[]}
-use Rattle.net_resolve.proofs.Fronts.{front_named}
-use Rattle.net_resolve.proofs.name_laws.front_of_names.Goals as goal
-
-pub returns : goal.returns
-returns c = record { value = front_named [] }

@@ -1,5 +1,0 @@
-use Rattle.net_resolve.proofs.Fronts.{new_in_both}
-use Rattle.net_resolve.proofs.name_laws.new_dummy.Goals as goal
-
-pub returns : goal.returns
-returns c = record { value = new_in_both }

@@ -1,6 +1,0 @@
-use Rattle.std.proofs.Common.{[]}
-use Rattle.net_resolve.proofs.Fronts.{each_named}
-use Rattle.net_resolve.proofs.name_laws.well_named_each.Goals as goal
-
-pub returns : goal.returns
-returns c = record { value = each_named [] }

@@ -1,0 +1,1 @@
+"""Converts AMPL and MathProg models with variables into models of nodes and arcs."""
