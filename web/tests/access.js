@@ -40,6 +40,10 @@ for (const it of all('body *')) {
   const style = getComputedStyle(it), contrast = ratio(colour(style.color), backOf(it));
   if (contrast < (parseFloat(style.fontSize) >= 24 ? 3 : 4.5)) report('1.4.3', `contrast ${contrast.toFixed(2)}`, it);
 }
+for (const it of shown('[placeholder]')) {
+  const style = getComputedStyle(it, '::placeholder'), contrast = Number(style.opacity) * ratio(colour(style.color), backOf(it));
+  if (contrast < 4.5) report('1.4.3', `contrast ${contrast.toFixed(2)} of the placeholder`, it);
+}
 for (const it of shown('svg text')) {
   const box = it.closest('.node')?.querySelector('rect'), back = box ? colour(getComputedStyle(box).fill) : backOf(it.closest('div'));
   const contrast = ratio(colour(getComputedStyle(it).fill), back);
