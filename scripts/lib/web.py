@@ -11,6 +11,7 @@ SHIPPED = [name for name in outputs.FILES if name != outputs.WASM64]
 
 def write(folder):
     """Copies the files into the folder, and returns their paths. Files that are missing or old are built first."""
-    if outputs.complaint() and subprocess.run([TOP / "scripts" / "web"], stdout=subprocess.DEVNULL).returncode:
+    words = outputs.update()
+    if words is not None and subprocess.run([TOP / "scripts" / "web", *words], stdout=subprocess.DEVNULL).returncode:
         raise SystemExit("release: scripts/web failed")
-    return [shutil.copyfile(outputs.OUT / name, folder / name) for name in SHIPPED]
+    return [shutil.copy(outputs.OUT / name, folder / name) for name in SHIPPED]

@@ -1,10 +1,13 @@
 """The files that scripts/web makes, and what they were made of.
 
 They are in web/out: the page, the modules, the command line for node, and the library for C. Two files hold checksums of the sources,
-so that tests and releases notice outputs that are older than the sources.
+with the name of the toolchain, so that tests and releases notice outputs that are older than the sources.
 """
+import functools
 import hashlib
 import pathlib
+import shutil
+import subprocess
 import sys
 
 from web.build import page
@@ -26,7 +29,7 @@ def page_sources():
     """Returns the sources of the page and the files around it, without the modules."""
     found = [file for folder in ("native", "node", "page") for file in sorted((TOP / "web" / folder).iterdir())]
     found += [TOP / "web" / "build" / it for it in ("markdown.py", "outputs.py", "page.py")]
-    found += [page.ERRORS, page.GUIDE, TOP / "CHANGELOG.md", TOP / "python" / "netflow" / "report" / "style.py"]
+    found += [page.ERRORS, page.GUIDE, *(it for it, _ in page.DOCUMENTS.values()), TOP / "CHANGELOG.md", TOP / "python" / "netflow" / "report" / "style.py"]
     return found + sorted(it for it in (TOP / "examples").glob("*/*") if it.suffix in (".mod", ".dat") or it.name in ("README.md", "objective"))
 
 
@@ -38,21 +41,43 @@ def sum_of(files):
     return total.hexdigest()
 
 
+@functools.lru_cache(maxsize=None)
+def toolchain():
+    """Returns the installed toolchain's name, or an empty text."""
+    return subprocess.run(["rt", "version"], capture_output=True, text=True).stdout.split(" ")[0] if shutil.which("rt") else ""
+
+
+def noted(name):
+    """Returns what the file of this name says if the outputs are those of the sources: their checksum, and the toolchain."""
+    return f"{sum_of(SOURCES[name][0]())} {toolchain()}".rstrip()
+
+
+def is_current(name):
+    """Returns whether the outputs are of the sources as they are now, and of the toolchain, if one is installed."""
+    _, files, _ = SOURCES[name]
+    return all((OUT / it).exists() for it in (name, *files)) and (OUT / name).read_text(encoding="ascii").startswith(noted(name))
+
+
 def complaint():
     """Returns why the outputs cannot be used, or None."""
-    missing = [it for it in (*FILES, *SOURCES) if not (OUT / it).exists()]
-    if missing:
-        return f"web/out/{missing[0]} is missing: run scripts/web"
-    old = [(name, how) for name, (sources, how) in SOURCES.items() if (OUT / name).read_text(encoding="ascii").strip() != sum_of(sources())]
-    return f"the files in web/out are older than their sources: run {old[0][1]}" if old else None
+    words = update()
+    return None if words is None else f"the files in web/out are missing or older than their sources: run {' '.join(['scripts/web', *words])}"
 
 
-# The files with the checksums of the sources, and what makes outputs of new sources.
-SOURCES = {"MODULES": (module_sources, "scripts/web"), "PAGES": (page_sources, "scripts/web --page")}
+def update():
+    """Returns the words for scripts/web that make the outputs of the sources, or None if they are up to date."""
+    return next((words for name, (_, _, words) in SOURCES.items() if not is_current(name)), None)
+
+
+# The files that say of which sources the outputs are; the outputs, and the words for scripts/web that make them.
+SOURCES = {
+    "MODULES": (module_sources, (WASM32, WASM64, LIBRARY), ()),
+    "PAGES": (page_sources, (PAGE, NODE, HEADER, EXAMPLE), ("--page",)),
+}
 
 
 def note_sources(name):
-    write(name, f"{sum_of(SOURCES[name][0]())}\n".encode("ascii"))
+    write(name, f"{noted(name)}\n".encode("ascii"))
 
 
 def node_program(version):

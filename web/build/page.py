@@ -10,12 +10,18 @@ import pathlib
 import re
 from html import escape
 
-from web.build.markdown import rendered
+from web.build.markdown import Document, rendered
 
 TOP = pathlib.Path(__file__).resolve().parent.parent.parent
 PAGE = TOP / "web" / "page"
 ERRORS = TOP / "docs" / "reference" / "errors.md"
 GUIDE = TOP / "docs" / "guide" / "browser.md"
+# The documents that the page contains, by the names of their anchors, with their titles.
+DOCUMENTS = {
+    "modelling": (TOP / "docs" / "guide" / "modelling.md", "Modelling by example"),
+    "language": (TOP / "docs" / "reference" / "language.md", "Language"),
+    "from-ampl": (TOP / "docs" / "guide" / "from-ampl.md", "From AMPL"),
+}
 IMPORT = re.compile(r"(?m)^import \{([^}]*)\} from '\./(\w+)\.mjs';\n")
 DECLARED = re.compile(r"(?m)^(?:export )?(?:async )?(?:class|function|const|let) (\w+|\{[^}]*\}|\[[^\]]*\])")
 SECTION = re.compile(r"(?ms)^## (E\d\d) \w+\n(.*?)(?=^## |\Z)")
@@ -53,9 +59,41 @@ def script_of(name):
     return f"'use strict';\n{text}"
 
 
+def links_of(document):
+    """Returns the function from a link's target in this document to the anchor in the page, or None."""
+    def link(target):
+        path, _, heading = target.partition("#")
+        file = (document.parent / path).resolve() if path else document
+        name = next((it for it, (other, _) in DOCUMENTS.items() if other == file), None)
+        return f"#{name}{'-' * bool(heading)}{heading}" if name else None
+    return link
+
+
+def documents():
+    """Returns the documents as HTML, each in an element that opens, and checks the links between them."""
+    parts = []
+    for name, (file, title) in DOCUMENTS.items():
+        text = file.read_text(encoding="utf-8").partition("\n")[2]
+        parts.append(f'<details id="{name}"><summary>{title}</summary>\n{Document(links_of(file), name).rendered(text)}\n</details>')
+    return "\n".join(parts)
+
+
+def check_links(text):
+    """Raises Wrong if a link of the page leads nowhere."""
+    missing = set(re.findall(r'href=\\?"#([^"\\]*)', text)) - set(re.findall(r' id="([^"]*)"', text))
+    if missing:
+        raise Wrong(f"a link leads to {min(missing)}, and nothing in the page has this anchor")
+
+
 def explanations():
     """Returns the text of each error code as HTML."""
-    return {code: rendered(text) for code, text in SECTION.findall(ERRORS.read_text(encoding="utf-8"))}
+    document = Document(links_of(ERRORS))
+    return {code: document.rendered(text) for code, text in SECTION.findall(ERRORS.read_text(encoding="utf-8"))}
+
+
+def first_model(guide):
+    """Returns the model of the guide's first steps."""
+    return guide.split("```")[1].lstrip("\n")
 
 
 def examples():
@@ -99,11 +137,14 @@ def page(wasm, version, notices):
     script, worker = closed(script_of("main")), closed(script_of("worker"))
     # Only this script and this style run. No directive allows a request: default-src 'none' forbids all of them.
     policy = f"default-src 'none'; script-src {hashed(script)} 'wasm-unsafe-eval'; style-src {hashed(style)}; worker-src blob:; base-uri 'none'; form-action 'none'"
-    parts = json.dumps({"errors": explanations(), "examples": examples()}, ensure_ascii=False, sort_keys=True).replace("</", "<\\/")
     guide = GUIDE.read_text(encoding="utf-8").partition("<!-- page: begin -->")[2].partition("<!-- page: end -->")[0]
     if not guide:
         raise Wrong("docs/guide/browser.md has no part for the page")
+    values = {"errors": explanations(), "examples": examples(), "first": first_model(guide)}
+    parts = json.dumps(values, ensure_ascii=False, sort_keys=True).replace("</", "<\\/")
     values = {"POLICY": policy, "STYLE": style, "SCRIPT": script, "WORKER": worker, "MODULE": base64.b64encode(wasm).decode("ascii"), "PARTS": parts,
-              "HELP": rendered(guide), "NOTICES": escape(notices), "VERSION": version, "SUM": hashlib.sha256(wasm).hexdigest()}
+              "HELP": rendered(guide), "DOCUMENTS": documents(), "NOTICES": escape(notices), "VERSION": version, "SUM": hashlib.sha256(wasm).hexdigest()}
     text = (PAGE / "page.html").read_text(encoding="utf-8")
-    return re.sub(r"@([A-Z]+)@", lambda found: values[found[1]], text)
+    made = re.sub(r"@([A-Z]+)@", lambda found: values[found[1]], text)
+    check_links(made)
+    return made

@@ -1,6 +1,7 @@
 // Reads what netflow prints, by the grammar of docs/reference/command-line.md: plans, cuts, compiled models, certificates.
 
-const MEMBER = /'(?:[^']|'')*'|-?\d+/g;
+/** A member of a key in a printed name: a text in quotes, or a whole number. */
+export const MEMBER = /'(?:[^']|'')*'|-?\d+/g;
 
 /** Returns the members of a printed key: texts without their quotes, and numbers as texts of digits. */
 export const members = text => (text.match(MEMBER) ?? []).map(unquoted);

@@ -28,9 +28,9 @@ const partTable = (title, parts) => new Table(title, [{ title: 'amount', kind: '
 export function reasonSections(network, reasons) {
   return reasons.map((reason, here) => {
     const titles = titlesOf(reason), parts = element('div', { class: 'pair' });
-    parts.append(element('div', {}, element('h4', {}, titles.asks), partTable(titles.asks, reason.asks)));
-    const helps = reason.helps.length ? [element('h4', {}, titles.helps), partTable(titles.helps, reason.helps)] : [element('p', {}, titles.none)];
-    if (reason.idle.length) helps.push(element('h4', {}, titles.idle), element('ul', {}, ...reason.idle.map(it => element('li', {}, it.text))));
+    parts.append(element('div', {}, element('h3', {}, titles.asks), partTable(titles.asks, reason.asks)));
+    const helps = reason.helps.length ? [element('h3', {}, titles.helps), partTable(titles.helps, reason.helps)] : [element('p', {}, titles.none)];
+    if (reason.idle.length) helps.push(element('h3', {}, titles.idle), element('ul', {}, ...reason.idle.map(it => element('li', {}, it.text))));
     parts.append(element('div', {}, ...helps));
     const number = reasons.length > 1 ? ` ${here + 1}` : '';
     return section(`Why${number}`, element('p', { class: 'reason' }, `${headline(network, reason)}.`), parts);

@@ -18,7 +18,7 @@ export function element(tag, attributes = {}, ...children) {
 export const button = (text, onclick, more = {}) => element('button', { type: 'button', onclick, ...more }, text);
 
 /** Returns a part of the page with a heading. */
-export const section = (title, ...children) => element('section', { 'aria-label': title }, element('h3', {}, title), ...children);
+export const section = (title, ...children) => element('section', { 'aria-label': title }, element('h2', {}, title), ...children);
 
 /** Offers a file to save. */
 export function save(name, text, type) {

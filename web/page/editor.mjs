@@ -11,15 +11,22 @@ export class Editor {
     this.changed = changed;
     // The bytes of a file as it was opened, until it is edited: a file that is not UTF-8 has to be rejected as it is.
     this.file = null;
+    // Whether the text has changed since it was opened or saved, and the name of its file.
+    this.isChanged = false;
+    this.fileName = this.usualName = `model.${name === 'model' ? 'mod' : 'dat'}`;
     this.badRow = 0;
     this.area.addEventListener('input', () => {
       this.file = null;
+      this.isChanged = true;
       this.badRow = 0;
       this.count();
       changed();
     });
     this.area.addEventListener('scroll', () => this.number());
-    byId(`${name}-save`).addEventListener('click', () => save(`model.${name === 'model' ? 'mod' : 'dat'}`, this.bytes(), 'text/plain'));
+    byId(`${name}-save`).addEventListener('click', () => {
+      save(this.fileName, this.bytes(), 'text/plain');
+      this.isChanged = false;
+    });
     new ResizeObserver(() => this.number()).observe(this.area);
     this.count();
   }
@@ -28,10 +35,12 @@ export class Editor {
     return this.file ?? encoded(this.area.value);
   }
 
-  /** Shows the bytes of a file. */
-  show(bytes) {
+  /** Shows the bytes of a file of this name. */
+  show(bytes, fileName = '') {
     this.area.value = decoded(bytes);
     this.file = bytes;
+    this.fileName = fileName || this.usualName;
+    this.isChanged = false;
     this.badRow = 0;
     this.count();
     this.area.scrollTo(0, 0);
@@ -41,7 +50,8 @@ export class Editor {
   /** Adds a statement at the end, and moves there. */
   append(text) {
     const old = this.area.value;
-    this.show(encoded(`${old}${old && !old.endsWith('\n') ? '\n' : ''}${text}\n`));
+    this.show(encoded(`${old}${old && !old.endsWith('\n') ? '\n' : ''}${text}\n`), this.fileName);
+    this.isChanged = true;
     this.area.scrollTop = this.area.scrollHeight;
   }
 
@@ -75,14 +85,20 @@ export class Editor {
     this.number();
   }
 
-  /** Marks the line of an error, selects what is wrong, and moves it into view. */
-  showError(row, column) {
+  /** Marks the line of an error. */
+  markError(row) {
+    this.badRow = row;
+    this.area.setAttribute('aria-invalid', 'true');
+    this.number();
+  }
+
+  /** Selects what is wrong in a line, and moves it into view. */
+  goToError(row, column) {
     const { before, line } = lineAt(this.bytes(), row, column), text = this.area.value;
     let start = 0;
     for (let here = 1; here < row; here++) start = text.indexOf('\n', start) + 1;
     const from = start + before.length, token = firstToken(line.slice(before.length));
-    this.badRow = row;
-    this.area.setAttribute('aria-invalid', 'true');
+    this.area.closest('.box').scrollIntoView({ block: 'nearest' });
     this.area.focus({ preventScroll: true });
     this.area.setSelectionRange(from, from + Math.max(token.length, line.length > before.length ? 1 : 0));
     this.area.scrollTop = Math.max(0, (row - 4) * this.rowHeight());

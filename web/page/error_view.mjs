@@ -5,20 +5,23 @@ import { firstToken, lineAt } from './bytes.mjs';
 // The most letters of a long line that are shown before and after the error.
 const AROUND = 60;
 
-/** Returns the element of an error: what it is, the line with the error marked, and what the code means. */
+/** Returns the element of an error: the line of its input with the error marked, and what the code means. */
 export function errorView(error, line, bytes, explanations, goThere) {
-  const box = element('div', { class: 'error' }, element('p', { class: 'headline' }, line));
-  if (!error) return box;
-  if (error.input === 'model' || error.input === 'data') {
-    box.append(element('p', { class: 'place' }, `In the ${error.input}, line ${error.row}:`), markedLine(bytes, error), button('Go to the line', goThere));
+  const box = element('div', { class: 'error' });
+  if (!error) {
+    box.append(element('p', { class: 'headline' }, line));
+    return box;
   }
+  box.append(element('p', { class: 'headline' }, `Error in the ${error.input}, line ${error.row}`));
+  if (bytes) box.append(markedLine(bytes, error), button('Go to the line', goThere));
   const explanation = explanations[error.code];
   if (explanation) {
     const holder = element('div', { class: 'explanation' });
     // The text was made of docs/reference/errors.md when the page was built.
     holder.innerHTML = explanation;
-    box.append(element('h3', {}, `What ${error.code} means`), holder);
+    box.append(element('h2', {}, `${error.code} ${error.name}`), holder);
   }
+  box.append(element('p', { class: 'dim' }, 'netflow prints ', element('code', {}, line), '.'));
   return box;
 }
 

@@ -31,13 +31,17 @@ export function splitModel(text) {
 }
 
 /** Takes files: several data files are joined in their order, and tables are passed on one by one. */
-export async function takeFiles(files, name, { editors, takeTable, say }) {
+export async function takeFiles(files, name, { editors, takeTable, keepText, say }) {
   const found = { model: [], data: [] };
   for (const file of files) {
     if (/\.xlsx?$|\.ods$/i.test(file.name)) return say(`${file.name} is a workbook. Save the sheet as CSV in UTF-8, and open that.`);
-    if (!isTable(file)) found[homeOf(file, name)].push(await bytesOf(file));
+    if (!isTable(file)) found[homeOf(file, name)].push({ name: file.name, bytes: await bytesOf(file) });
   }
-  for (const [home, parts] of Object.entries(found)) if (parts.length) editors[home].show(await joined(parts));
+  const names = Object.values(found).flat().map(it => it.name);
+  if (names.length) say(`Opened ${names.join(' and ')}. Press Solve.`, '', keepText());
+  for (const [home, parts] of Object.entries(found)) {
+    if (parts.length) editors[home].show(await joined(parts.map(it => it.bytes)), parts.length === 1 ? parts[0].name : '');
+  }
   const both = found.model.length && !found.data.length ? splitModel(decoded(editors.model.bytes())) : null;
   if (both) {
     editors.model.show(encoded(both.model));

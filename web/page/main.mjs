@@ -21,15 +21,26 @@ const calls = new Calls(byId('worker').textContent, fromBase64(byId('module').te
 const answer = byId('answer');
 // Up to so many arcs the problem is solved once more for its potentials, which show which full arcs would carry more.
 const PRICED = 20_000;
+// The width below which the editors are one above the other, as in style.css.
+const NARROW = matchMedia('(max-width: 46rem)');
 
 let changed = () => {};
 const editors = { model: new Editor('model', () => edited()), data: new Editor('data', () => edited()) };
-let running = 0, replaced = null;
+// The number of the last solve, the text that an example replaced, and whether an example is shown as it is.
+let running = 0, replaced = null, isExample = false;
 
 function edited() {
+  isExample = false;
+  byId('example').value = '';
   answer.classList.add('stale');
+  byId('welcome').hidden = Boolean(editors.model.area.value || editors.data.area.value);
   listObjectives();
   changed();
+}
+
+/** Moves the answer into view if it begins in the lowest part of the window or below. */
+function revealAnswer() {
+  if (answer.getBoundingClientRect().top > innerHeight * 0.7) byId('solve').scrollIntoView();
 }
 
 function say(text, kind = '', more = null) {
@@ -57,6 +68,7 @@ function saveBar(reply, found) {
 async function showPlan(reply, inputs, isCurrent) {
   const plan = readPlan(decoded(reply.text)), words = wordsOf(decoded(inputs[1]));
   answer.replaceChildren(planHead(plan), saveBar(reply, { plan }), ...declarationSections(declarationsOf(plan, null, words), null));
+  revealAnswer();
   const network = await compiledNetwork(inputs);
   if (!network || !isCurrent()) return;
   network.setFlows(plan.declarations.flatMap(it => it.arcs.map(arc => arc.flow)));
@@ -74,6 +86,7 @@ async function showCut(reply, inputs, isCurrent) {
   const cut = readCut(decoded(reply.text));
   const nodes = section('The nodes', element('ul', { class: 'nodes' }, ...cut.nodes.map(it => element('li', {}, it))));
   answer.replaceChildren(cutHead(cut), saveBar(reply, {}), nodes);
+  revealAnswer();
   const network = await compiledNetwork(inputs);
   if (!network || !isCurrent()) return;
   const problem = encoded(network.problem);
@@ -93,10 +106,13 @@ async function compiledNetwork(inputs) {
 
 function showError(reply, inputs) {
   const line = decoded(reply.text).trim(), error = readError(line), editor = editors[error?.input];
-  const goThere = () => editor.showError(error.row, error.column);
-  answer.replaceChildren(errorView(error, line, error?.input === 'data' ? inputs[2] : inputs[1], PARTS.errors, goThere));
+  const goThere = () => editor.goToError(error.row, error.column), bytes = { model: inputs[1], data: inputs[2] }[error?.input];
+  answer.replaceChildren(errorView(error, line, bytes, PARTS.errors, goThere));
   say(error ? `Error in the ${error.input}, line ${error.row}` : 'The input was rejected', 'bad');
-  if (editor) goThere();
+  editor?.markError(error.row);
+  // In a narrow window the editors and the explanation do not fit together, and the focus would open a phone's keyboard.
+  if (editor && !NARROW.matches) goThere();
+  else revealAnswer();
 }
 
 const FAILURES = {
@@ -130,9 +146,11 @@ async function solve() {
   for (const it of Object.values(editors)) it.clearError();
   setRunning(true);
   say('Solving');
+  let isAnswered = false;
   const endProgress = showProgress();
   try {
     const reply = await callWith('netflow_solve', inputs);
+    isAnswered = true;
     const time = reply.milliseconds < 1000 ? `${Math.round(reply.milliseconds)} ms` : `${(reply.milliseconds / 1000).toFixed(1)} s`;
     answer.classList.remove('stale');
     if (reply.status === 0) say(`Optimal plan, in ${time}`, 'good');
@@ -146,7 +164,8 @@ async function solve() {
     else if (reply.status === 0) await showPlan(reply, inputs, isCurrent);
     else if (reply.status === 2) await showCut(reply, inputs, isCurrent);
   } catch (error) {
-    say(error instanceof Stopped ? 'Stopped. No answer was found so far.' : String(error.message), 'bad');
+    const stopped = isAnswered ? 'Stopped. The answer is complete, and its drawing is missing.' : 'Stopped. No answer was found so far.';
+    say(error instanceof Stopped ? stopped : String(error.message), 'bad');
     if (!(error instanceof Stopped)) throw error;
   } finally {
     endProgress();
@@ -156,31 +175,69 @@ async function solve() {
 
 // ---- inputs
 
-function showInputs({ model, data = '', objective = '' }) {
-  editors.model.show(encoded(model));
-  editors.data.show(encoded(data));
+function showInputs({ model, data = '', objective = '' }, name = '') {
+  editors.model.show(encoded(model), name && `${name}.mod`);
+  editors.data.show(encoded(data), name && `${name}.dat`);
   byId('objective').value = objective;
   listObjectives();
 }
 
 const currentInputs = () => ({ model: editors.model.area.value, data: editors.data.area.value, objective: byId('objective').value });
 
-/** Shows an example; the text that it replaces can be brought back. */
-function showExample(name) {
-  const old = currentInputs(), isShown = it => it.model === old.model && it.data === old.data;
-  const isOwn = (old.model || old.data) && !Object.values(PARTS.examples).some(isShown);
-  replaced = isOwn ? old : replaced;
-  showInputs(PARTS.examples[name]);
+/** Keeps the text that is about to be replaced; returns the button that brings it back, or null if there is none or it is an example. */
+function keepText() {
+  const old = currentInputs();
+  if (isExample || !(old.model || old.data)) return null;
+  replaced = old;
+  return button('Bring back my text', bringBack);
+}
+
+/** Shows an example. */
+function showExample(inputs, title, name = '') {
+  say(`${title} Press Solve.`, '', keepText());
+  showInputs(inputs, name);
+  isExample = true;
+  byId('example').value = name;
   answer.replaceChildren();
-  const back = isOwn ? button('Bring back my text', () => { showInputs(replaced); say(''); }) : null;
-  say(`${PARTS.examples[name].title} Press Solve.`, '', back);
   byId('solve').focus();
 }
 
+/** Shows work that is not in a file, as far as the page knows. */
+function showWork(work) {
+  showInputs(work);
+  for (const it of Object.values(editors)) it.isChanged = true;
+}
+
+function bringBack() {
+  showWork(replaced);
+  say('');
+}
+
+/** Lets the models in the documents be tried. */
+function offerModels() {
+  for (const block of document.querySelectorAll('footer pre')) {
+    const model = block.textContent;
+    if (!/^(?:minimize|maximize) \w+;/m.test(model) || !/^arc /m.test(model)) continue;
+    block.after(button('Try it', () => showExample({ model: `${model}\n` }, 'A model without data.')));
+  }
+}
+
+/** Opens the document that a link leads to. */
+function openDocument(event) {
+  const link = event.target.closest?.('a[href^="#"]'), place = link && byId(link.getAttribute('href').slice(1));
+  if (place) place.closest('details').open = true;
+}
+
+/** Whether text would be lost if the page were closed. */
+const isUnsaved = () => !byId('keep').checked && Object.values(editors).some(it => it.isChanged && it.area.value);
+
 async function takeTable(name, bytes) {
   try {
-    const statement = await askForStatement(name, bytes);
-    if (statement) editors.data.append(statement);
+    const declared = [...editors.model.area.value.matchAll(/\b(?:set|param)\s+([A-Za-z_]\w*)/g)].map(it => it[1]);
+    const statement = await askForStatement(name, bytes, declared);
+    if (!statement) return;
+    editors.data.append(statement);
+    say(`Added ${name} to the data.`);
   } catch (error) {
     say(`${name}: ${error.message}`, 'bad');
   }
@@ -188,7 +245,9 @@ async function takeTable(name, bytes) {
 
 function start() {
   for (const [name, { title }] of Object.entries(PARTS.examples)) byId('example').append(element('option', { value: name, title }, name.replaceAll('_', ' ')));
-  byId('example').addEventListener('change', event => event.target.value && showExample(event.target.value));
+  byId('example').addEventListener('change', ({ target: { value } }) => value && showExample(PARTS.examples[value], PARTS.examples[value].title, value));
+  byId('first').addEventListener('click', () => showExample({ model: PARTS.first }, 'Two plants and two shops.'));
+  offerModels();
   byId('solve').addEventListener('click', solve);
   byId('stop').addEventListener('click', () => calls.stop());
   byId('objective').addEventListener('input', () => edited());
@@ -197,8 +256,10 @@ function start() {
     event.preventDefault();
     solve();
   });
-  acceptFiles({ editors, takeTable, say });
-  changed = keepWork(currentInputs, showInputs, text => say(text, 'bad'));
+  document.addEventListener('click', openDocument);
+  addEventListener('beforeunload', event => isUnsaved() && event.preventDefault());
+  acceptFiles({ editors, takeTable, keepText, say });
+  changed = keepWork(currentInputs, showWork, text => say(text, 'bad'));
   listObjectives();
   calls.ready.then(() => { document.body.dataset.ready = 'true'; }, error => say(`This browser cannot run netflow: ${error.message}`, 'bad'));
   // For scripts, such as the tests: the calls of the module, from bytes to a status and bytes.

@@ -1,6 +1,5 @@
 // Names of nodes and arcs as planners read them: `Balance PITT` for `Balance['PITT']`. The twin of python/netflow/report/names.py.
-
-const MEMBER = /'(?:[^']|'')*'|-?\d+/g;
+import { MEMBER } from './answer_text.mjs';
 
 /** Returns a name with its key, without brackets and quotes; a key that begins with the name is enough alone. */
 export function spoken(name) {

@@ -1,14 +1,15 @@
 // The dialog that makes a statement of the data from a table.
-import { byId } from './dom.mjs';
+import { byId, element } from './dom.mjs';
 import { SheetError, gridStatement, isName, listStatement, readRows, setStatement, textOfSheet } from './sheets.mjs';
 
 const FIELDS = { grid: ['name', 'turned', 'factor', 'comma'], list: ['keys', 'members', 'factor', 'comma'], set: ['name', 'heading'] };
 
 const field = name => byId(`table-${name}`);
 
-function nameOf(file) {
-  const name = file.replace(/\.[^.]*$/, '').replace(/\W/g, '_');
-  return isName(name) ? name : '';
+/** Returns the name that a file's statement probably has: one of the model that is like the file's, or that of the file. */
+function nameOf(file, declared) {
+  const name = file.replace(/\.[^.]*$/, '').replace(/\W/g, '_'), plain = it => it.toLowerCase().replace(/s$/, '');
+  return declared.find(it => it === name) ?? declared.find(it => plain(it) === plain(name)) ?? (isName(name) ? name : '');
 }
 
 /** Returns the kind that a table probably is: a grid has an empty first cell, a set one column. */
@@ -47,12 +48,13 @@ function preview(rows) {
   }
 }
 
-/** Asks how a table becomes a statement; resolves to the statement, or to null. */
-export function askForStatement(file, bytes) {
+/** Asks how a table becomes a statement, and offers the names that the model declares; resolves to the statement, or to null. */
+export function askForStatement(file, bytes, declared) {
   const rows = readRows(textOfSheet(bytes)), dialog = field('dialog');
   field('title').textContent = `Add ${file} to the data`;
   field('kind').value = guessed(rows);
-  field('name').value = nameOf(file);
+  field('name').value = nameOf(file, declared);
+  field('names').replaceChildren(...declared.map(it => element('option', { value: it })));
   field('members').value = '';
   const update = () => preview(rows);
   dialog.oninput = update;

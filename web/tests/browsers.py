@@ -6,11 +6,13 @@ import os
 import shutil
 import socket
 import subprocess
+import sys
 import tempfile
 import time
 
 NAMES = ("chromium", "firefox-esr")
-START = 60
+# Seconds that a browser has to start, and to answer one call.
+START, ANSWER = 60, 300
 
 
 class BrowserError(Exception):
@@ -105,7 +107,7 @@ class Chromium:
         self.ask("Emulation.setEmulatedMedia", features=[{"name": "prefers-color-scheme", "value": "dark" if is_dark else "light"}])
 
     def shot(self, path, is_whole=False):
-        size = self.run("return [document.documentElement.scrollWidth, document.documentElement.scrollHeight];")
+        size = self.run("return [Math.max(innerWidth, document.documentElement.scrollWidth), document.documentElement.scrollHeight];")
         clip = {"captureBeyondViewport": True, "clip": {"x": 0, "y": 0, "width": size[0], "height": min(size[1], 6000), "scale": 1}} if is_whole else {}
         path.write_bytes(base64.b64decode(self.ask("Page.captureScreenshot", **clip)["data"]))
 
@@ -129,11 +131,21 @@ class Firefox:
         words = ["firefox-esr", "--headless", "--marionette", "--no-remote", "--profile", self.room, "--width", str(width), "--height", str(height)]
         self.process = subprocess.Popen(words, stdin=subprocess.DEVNULL, stdout=subprocess.DEVNULL, stderr=subprocess.DEVNULL)
         self.count, self.rest, self.log = 0, b"", []
-        self.socket = socket.create_connection(("127.0.0.1", self.port()), timeout=600)
+        try:
+            self.connect()
+            self.resize(width, height)
+        except (BrowserError, OSError):
+            self.process.kill()
+            self.process.wait()
+            shutil.rmtree(self.room, ignore_errors=True)
+            raise
+        self.socket.settimeout(2 * ANSWER)
+
+    def connect(self):
+        self.socket = socket.create_connection(("127.0.0.1", self.port()), timeout=START)
         self.read()
         self.ask("WebDriver:NewSession", capabilities={"alwaysMatch": {}})
-        self.ask("WebDriver:SetTimeouts", script=600_000)
-        self.resize(width, height)
+        self.ask("WebDriver:SetTimeouts", script=ANSWER * 1000)
 
     def port(self):
         """Returns the port that Firefox wrote into its profile."""
@@ -209,6 +221,16 @@ class Firefox:
             pass
         end(self.process)
         shutil.rmtree(self.room, ignore_errors=True)
+
+
+def started(kind):
+    """Starts a browser; on a busy machine Firefox sometimes does not answer at first, so it is tried three times."""
+    for _ in range(2):
+        try:
+            return KINDS[kind]()
+        except (BrowserError, OSError) as problem:
+            print(f"check_web: {kind} did not start: {problem}", file=sys.stderr, flush=True)
+    return KINDS[kind]()
 
 
 def end(process):

@@ -1,4 +1,5 @@
-"""The page as a person uses it: typing, opening, dropping, solving, a mistake, no plan, stop, tables, saving, the keyboard alone."""
+"""The page as a person uses it: first steps, typing, dropping, solving, a mistake, no plan, stop, tables, saving, a narrow window, the
+keyboard alone."""
 import pathlib
 import re
 
@@ -17,41 +18,14 @@ for (const [name, text] of args[1]) files.items.add(new File([text], name));
 document.getElementById(args[0]).dispatchEvent(new DragEvent('drop', { dataTransfer: files, bubbles: true, cancelable: true }));
 await new Promise(done => setTimeout(done, 300));
 """
-# The labels, roles and names that a screen reader needs, and contrasts, by the rules of WCAG 2.2 that a script can check.
-ACCESS = """
-const found = [], visible = it => it.getClientRects().length && getComputedStyle(it).visibility !== 'hidden';
-for (const it of document.querySelectorAll('button, input, select, textarea, [tabindex="0"], summary')) {
-  if (!visible(it)) continue;
-  const name = it.getAttribute('aria-label') || it.textContent.trim() || [...(it.labels ?? [])].map(label => label.textContent.trim()).join('') || it.querySelector?.('title')?.textContent;
-  if (!name) found.push(`no name: ${it.outerHTML.slice(0, 80)}`);
-}
-const ids = [...document.querySelectorAll('[id]')].map(it => it.id);
-for (const id of ids) if (ids.indexOf(id) !== ids.lastIndexOf(id)) found.push(`the id ${id} twice`);
-for (const it of document.querySelectorAll('[aria-describedby], [aria-labelledby]')) {
-  for (const id of (it.getAttribute('aria-describedby') ?? it.getAttribute('aria-labelledby')).split(' ')) if (!document.getElementById(id)) found.push(`no element ${id}`);
-}
-for (const it of document.querySelectorAll('th')) if (!it.getAttribute('scope')) found.push(`a heading without scope: ${it.textContent}`);
-if (!document.documentElement.lang) found.push('no language');
-if (document.querySelectorAll('h1').length !== 1) found.push('not one h1');
-const levels = [...document.querySelectorAll('h1, h2, h3, h4')].filter(visible).map(it => Number(it.tagName[1]));
-const channel = value => { const part = value / 255; return part <= 0.04045 ? part / 12.92 : ((part + 0.055) / 1.055) ** 2.4; };
-const light = ([r, g, b]) => 0.2126 * channel(r) + 0.7152 * channel(g) + 0.0722 * channel(b);
-const colour = text => (text.match(/[\\d.]+/g) ?? []).map(Number);
-const backOf = it => { for (let at = it; at; at = at.parentElement) { const back = colour(getComputedStyle(at).backgroundColor); if (back.length === 3 || back[3] > 0.99) return back; } return [255, 255, 255]; };
-for (const it of document.querySelectorAll('body *')) {
-  if (!visible(it) || it.closest('svg') || it.disabled || it.closest('.stale') || ![...it.childNodes].some(child => child.nodeType === 3 && child.textContent.trim())) continue;
-  const style = getComputedStyle(it), [one, two] = [light(colour(style.color)), light(backOf(it))], ratio = (Math.max(one, two) + 0.05) / (Math.min(one, two) + 0.05);
-  if (ratio < (parseFloat(style.fontSize) >= 24 ? 3 : 4.5)) found.push(`contrast ${ratio.toFixed(2)}: ${it.tagName} ${it.className} ${it.textContent.trim().slice(0, 40)}`);
-}
-if (document.documentElement.scrollWidth > innerWidth + 1) found.push(`the page is ${document.documentElement.scrollWidth} wide in a window of ${innerWidth}`);
-return found;
-"""
+ACCESS = (TOP / "web" / "tests" / "access.js").read_text(encoding="utf-8")
+# What the buttons of a part of the page save.
 SAVED = """
 const made = [], create = page.URL.createObjectURL, click = page.HTMLAnchorElement.prototype.click;
 const blobs = [];
 page.URL.createObjectURL = blob => { blobs.push(blob); return create.call(page.URL, blob); };
 page.HTMLAnchorElement.prototype.click = function () { made.push(this.download); };
-for (const it of [...document.querySelectorAll('.saving button')]) it.click();
+for (const it of [...document.querySelectorAll(args[0])]) it.click();
 page.URL.createObjectURL = create;
 page.HTMLAnchorElement.prototype.click = click;
 const texts = [];
@@ -103,9 +77,20 @@ class Person:
         self.browser.run("document.querySelector(args[0]).click();", selector)
 
     def use(self):
-        for step in (self.own_model, self.mistake, self.no_plan, self.files, self.table_file, self.examples, self.tables, self.saves, self.stops, self.keeps, self.keyboard, self.looks):
+        for step in (self.first_steps, self.own_model, self.mistake, self.no_plan, self.files, self.table_file, self.examples, self.documents, self.tables,
+                     self.saves, self.stops, self.keeps, self.keyboard, self.narrow, self.looks):
             step()
         return self.complaints
+
+    def first_steps(self):
+        """The page as it opens: it says how to begin, and its small model has a plan."""
+        self.shot("first_steps")
+        self.expect("first steps", self.is_in_view("#welcome"))
+        self.click("#first")
+        seen = self.see()
+        self.expect("the small model", seen["model"] == ship_model() and seen["focus"] == "solve", seen)
+        self.browser.press("Enter")
+        self.expect("its plan", "Cost = 120" in self.see()["answer"] and not self.is_in_view("#welcome"), self.see())
 
     def own_model(self):
         self.type("model", ship_model())
@@ -114,6 +99,10 @@ class Person:
         self.expect("the plan has its grid and its nodes", "Grid" in seen["answer"] and "Plant['Linz']" in seen["answer"], seen)
         self.expect("the network is drawn", self.browser.run("return document.querySelectorAll('.picture .arc path').length;") == 4)
         self.shot("plan")
+
+    def is_in_view(self, selector):
+        """Returns whether the start of an element is in the window."""
+        return self.browser.run("const box = document.querySelector(args[0])?.getBoundingClientRect(); return Boolean(box?.height) && box.top >= -1 && box.top < innerHeight;", selector)
 
     def mistake(self):
         self.type("model", ship_model().replace("to Shop[s]", "to Shops[s]"))
@@ -140,8 +129,11 @@ class Person:
         self.browser.run(DROP, "model-box", texts)
         seen = self.see()
         self.expect("dropped files go by their names", seen["model"] == texts[1][1] and seen["data"] == texts[0][1])
+        self.expect("the page says what it opened", seen["status"].startswith("Opened bread.mod and bread.dat. Press Solve."), seen)
         self.click("#solve")
         self.expect("the answer of dropped files", "Total = 440" in self.see()["answer"])
+        saved = self.browser.run(SAVED, "#model-save, #data-save")
+        self.expect("files are saved under their names", saved == [["bread.mod", texts[1][1]], ["bread.dat", texts[0][1]]], saved)
         self.browser.run(DROP, "data-box", [("both.mod", f"{texts[1][1]}\ndata; # the numbers\n{texts[0][1]}end;\n")])
         seen = self.see()
         self.expect("a file with a model and its data", seen["model"].strip() == texts[1][1].strip() and seen["data"].endswith(texts[0][1]), seen)
@@ -152,7 +144,7 @@ class Person:
         data = (bread / "bread.dat").read_text(encoding="utf-8")
         rest = re.sub(r"(?s)param cost.*?;\n?", "", data)
         self.type("data", rest)
-        self.browser.run(DROP, "data-box", [("cost.csv", (bread / "costs.csv").read_text(encoding="utf-8"))])
+        self.browser.run(DROP, "data-box", [("costs.csv", (bread / "costs.csv").read_text(encoding="utf-8"))])
         shown = self.browser.run("return [document.getElementById('table-dialog').open, document.getElementById('table-preview').textContent];")
         self.expect("the dialog for a table", shown[0] and shown[1].startswith("param cost: hill lake mill :="), shown)
         self.click("#table-add")
@@ -163,13 +155,33 @@ class Person:
 
     def examples(self):
         self.browser.run("const it = document.getElementById('example'); it.value = 'cities'; it.dispatchEvent(new Event('change'));")
-        self.expect("an example", "set LINKS" in self.see()["model"])
+        self.expect("an example", "set LINKS" in self.see()["model"] and self.browser.run("return document.getElementById('example').value;") == "cities")
         self.click("#status button")
         self.expect("one's own text comes back", "param cost: hill lake mill :=" in self.see()["data"])
+        self.expect("no example is chosen any longer", self.browser.run("return document.getElementById('example').value;") == "")
         for name in self.browser.run("return [...document.getElementById('example').options].map(it => it.value).filter(Boolean);"):
             self.browser.run("const it = document.getElementById('example'); it.value = args[0]; it.dispatchEvent(new Event('change')); document.getElementById('solve').click();", name)
             seen = self.see()
             self.expect(f"the example {name}", seen["status"].startswith(("Optimal plan", "No plan exists")), seen)
+
+    def documents(self):
+        """The links of the documents lead to their headings, and each model in them has an answer."""
+        found = self.browser.run("""
+            const found = [];
+            for (const link of document.querySelectorAll('footer a')) {
+              link.click();
+              const place = document.getElementById(link.getAttribute('href').slice(1));
+              if (!place?.getClientRects().length) found.push(link.outerHTML);
+            }
+            const count = document.querySelectorAll('footer pre + button').length;
+            scrollTo(0, 0);
+            return [count, found];""")
+        self.expect("links of the documents", not found[1], found)
+        self.expect("models of the documents", found[0] > 8, found)
+        for number in range(found[0]):
+            self.browser.run("document.querySelectorAll('footer pre + button')[args[0]].click(); document.getElementById('solve').click();", number)
+            seen = self.see()
+            self.expect(f"the model {number} of the documents", seen["status"].startswith(("Optimal plan", "No plan exists")), seen)
 
     def tables(self):
         """A plan with many rows: all are there, a heading sorts, words find."""
@@ -198,7 +210,7 @@ class Person:
         model = ship_model()
         self.type("model", model)
         self.solve()
-        saved = dict(self.browser.run(SAVED))
+        saved = dict(self.browser.run(SAVED, ".saving button"))
         status, text = self.by_program("solve", [b"", False, model.encode(), b""])
         self.expect("the text is the program's", (0, saved.get("plan.txt")) == (status, text.decode()), saved.get("plan.txt"))
         self.expect("the CSV", saved.get("plan.csv", "").startswith("arc,key 1,key 2,flow,lower,upper,price,from,to\nShip,Linz,Wien,0,0,45,3,"), saved.get("plan.csv"))
@@ -216,9 +228,29 @@ class Person:
         self.expect("stop", state == [True, False] and seen["status"].startswith("Stopped"), (state, seen["status"]))
         self.type("model", ship_model())
         self.expect("the solve after a stop", "Cost = 120" in self.solve()["answer"])
+        # Stopped after the plan is there and before its drawing is.
+        self.type("model", "minimize C; node A; node B; arc X {i in 1..9000} >= 0, <= i, from A, to B, obj C 1;")
+        self.browser.run("""
+            const stop = document.getElementById('stop'), answer = document.getElementById('answer');
+            answer.replaceChildren();
+            new MutationObserver((_, observer) => { observer.disconnect(); setTimeout(() => stop.click()); }).observe(answer, { childList: true });
+            document.getElementById('solve').click();""")
+        seen = self.see()
+        self.expect("stop after the plan", seen["status"] == "Stopped. The answer is complete, and its drawing is missing." and "C = 0" in seen["answer"], seen["status"])
+
+    def warns(self):
+        """Returns whether the browser would ask before it closes the page."""
+        return self.browser.run("const event = new page.Event('beforeunload', { cancelable: true }); page.dispatchEvent(event); return event.defaultPrevented;")
 
     def keeps(self):
-        """Work is kept only if the box is ticked."""
+        """Work is kept only if the box is ticked, and the browser asks before it closes a page with work that is nowhere else."""
+        self.type("model", ship_model())
+        asks = [self.warns()]
+        self.click("#keep")
+        asks.append(self.warns())
+        self.click("#keep")
+        self.browser.run(SAVED, "#model-save, #data-save")
+        self.expect("the browser asks before work is lost", [*asks, self.warns()] == [True, False, False], asks)
         before = self.browser.run("return localStorage.length;")
         self.click("#keep")
         kept = self.browser.run("return localStorage.getItem('netflow');")
@@ -237,11 +269,25 @@ class Person:
                 break
         self.expect("Tab reaches Solve", reached[-1] == "solve" and "data" in reached, reached)
         self.browser.press("Enter")
-        self.expect("Enter on Solve", "Cost = 120" in self.see()["answer"])
+        seen = self.see()
+        self.expect("Enter on Solve", "Cost = 120" in seen["answer"], seen)
+
+    def narrow(self):
+        """In a narrow window the answer moves into view, and a mistake does not take the focus."""
+        self.browser.resize(400, 800)
+        for title, model, shown in (("plan", ship_model(), ".value"), ("mistake", "node ;", ".error")):
+            self.type("model", model)
+            self.browser.run("document.getElementById('solve').scrollIntoView({ block: 'end' }); document.getElementById('solve').focus(); document.getElementById('solve').click();")
+            seen = self.see()
+            self.expect(f"{title} in a narrow window", self.is_in_view(shown) and seen["focus"] != "model", seen)
+        self.click(".error button")
+        seen = self.see()
+        self.expect("the line in a narrow window", self.is_in_view("#model") and seen["focus"] == "model" and seen["selected"] == ";", seen)
+        self.browser.resize(1200, 900)
 
     def looks(self):
-        """Names, contrasts and widths, in light and dark, at 1,200 and 400 pixels."""
-        for width in (1200, 400):
+        """The rules of access.js in light and dark, from 1,200 to 320 pixels, which is a window of 1,280 at four times its size."""
+        for width in (1200, 400, 320):
             self.browser.resize(width, 900)
             for is_dark in (False, True) if hasattr(self.browser, "set_dark") else (False,):
                 if hasattr(self.browser, "set_dark"):
