@@ -279,10 +279,14 @@ def test_file_as_standard_input():
     "end, status, has_message", [(">/dev/full", 4, True), (">&-", 4, True), ("| head -n 1", 0, False)]
 )
 @pytest.mark.parametrize("name", TOOL_NAMES)
-def test_standard_output(name, end, status, has_message):
+def test_standard_output(tmp_path, name, end, status, has_message):
     """Standard output that is full, closed, or a pipe without a reader."""
     kind = ["plan"] if name == "netflow-sheet" else []
-    words = [sys.executable, str(TOOLS / name), *kind, str(BREAD / "bread.mod"), str(BREAD / "bread.dat")]
+    files = [str(BREAD / "bread.mod"), str(BREAD / "bread.dat")]
+    if name == "netflow-convert":
+        old = write(tmp_path, "old.mod", "minimize C: 2 * X; var X >= 0, <= 5; subject to B: X = 3;")
+        files = [str(old), "--output", str(tmp_path / "new")]
+    words = [sys.executable, str(TOOLS / name), *kind, *files]
     call = f"{' '.join(map(shlex.quote, words))} {end}"
     done = subprocess.run(
         ["sh", "-c", call],

@@ -130,6 +130,8 @@ def _paths(G: Graph, arcs: list[tuple[Any, Any, Fraction]], source: Hashable, ta
         near.setdefault(src, []).append(dst)
     reached = list(_tree(near, source))
     if target is not None and target not in reached:
+        # NetworkX reports a negative cycle that the source reaches before a missing path.
+        _paths(G, arcs, source, None, False)
         raise graph_error("NoPath", f"No path between {source} and {target}.", [target], "under", [])
     index = {node: here for here, node in enumerate(reached)}
     inside = [arc for arc in arcs if arc[0] in index]
