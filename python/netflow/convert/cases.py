@@ -93,7 +93,7 @@ def residual(conditions: Sequence[Expr], facts: Facts) -> list[Expr] | None:
             return None
         if decided is None:
             rest = open_parts(condition, facts)
-            result += [it for it in rest if text(it) not in map(text, result)]
+            result += [item for item in rest if text(item) not in map(text, result)]
     return result
 
 
@@ -103,8 +103,8 @@ def open_parts(condition: Expr, facts: Facts) -> list[Expr]:
     if condition.op == "in":
         parts = [facts.sets.membership(*condition.args)]
     if parts[0].op == "and":
-        parts = [it for part in parts[0].args for it in open_parts(part, facts)]
-    return [simplified_sums(it) for it in parts if facts.decide(it) is None]
+        parts = [item for part in parts[0].args for item in open_parts(part, facts)]
+    return [simplified_sums(item) for item in parts if facts.decide(item) is None]
 
 
 def guard_of(conditions: Sequence[Expr]) -> Expr:
@@ -124,7 +124,7 @@ def cases_of(variable: Variable, facts: Facts) -> list[Case]:
         )
     cases: list[tuple[list[Expr], Facts]] = [([], facts)]
     for guard in guards.values():
-        cases = [it for conditions, known in cases for it in divided(conditions, known, guard)]
+        cases = [item for conditions, known in cases for item in divided(conditions, known, guard)]
     return [case(variable, conditions, known) for conditions, known in cases if not known.is_contradictory()]
 
 

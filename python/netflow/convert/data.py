@@ -235,7 +235,7 @@ class Statement:
 def filled(template: Sequence[str], parts: Sequence[str]) -> Row:
     """Returns the members of a template with its stars replaced."""
     rest = iter(parts)
-    return list(itertools.chain.from_iterable([next(rest)] if it == "*" else [it] for it in template))
+    return list(itertools.chain.from_iterable([next(rest)] if item == "*" else [item] for item in template))
 
 
 def member(row: Row) -> str:

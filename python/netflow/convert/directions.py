@@ -35,7 +35,7 @@ class Directions:
 
     def choose(self, balances: Mapping[str, Balance]) -> None:
         """Sets `flip` of each balance; raises Inexpressible if no choice fits."""
-        for start in sorted(balances.values(), key=lambda it: not it.flip):
+        for start in sorted(balances.values(), key=lambda item: not item.flip):
             is_fixed, start.flip = bool(start.flip), start.flip or 1
             reached = self.spread(start)
             if not is_fixed and self.score(reached) < 0:
@@ -65,7 +65,7 @@ class Directions:
             result += balance.flip if {1, -1} <= set(balance.signs) else 0
         for variable, one, other in self.pairs:
             if one.balance in reached:
-                places = [first_place(variable, it) for it in (one, other)]
+                places = [first_place(variable, item) for item in (one, other)]
                 leaves = one.balance.flip * one.sign < 0
                 if places[0] != places[1]:
                     result += 2 if (places[0] < places[1]) == leaves else -2

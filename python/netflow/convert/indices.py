@@ -32,7 +32,7 @@ def letter(expr: Expr, taken: set[str]) -> str:
     """Returns a dummy for a member of a set that is not taken, the set's first letter if possible."""
     word = next((part.value for part in expr.walk() if part.op == "name"), "")
     wanted = "t" if expr.op == ".." else word[:1].lower() if word[:1].isalpha() else "k"
-    return next(it for it in (f"{wanted}{count or ''}" for count in (0, *range(2, 100))) if it not in taken)
+    return next(entry for entry in (f"{wanted}{count or ''}" for count in (0, *range(2, 100))) if entry not in taken)
 
 
 @dataclasses.dataclass
@@ -66,7 +66,7 @@ def with_dummies(items: Iterable[Expr], conditions: Iterable[Expr], sets: SetFac
             domains = domains if len(domains) == count else [None] * count
             made: list[Expr] = []
             for domain in domains:
-                made.append(name(letter(domain or item, bound | {it.value for it in made} | words)))
+                made.append(name(letter(domain or item, bound | {entry.value for entry in made} | words)))
             item = make("in", made[0] if count == 1 else make("tuple", *made), item, at=item.start)
         left = item.args[0]
         for part in left.args if left.op == "tuple" else [left]:
@@ -86,7 +86,7 @@ def without_capture(expr: Expr, values: Mapping[str, Expr], names: Names) -> Exp
             for item in items_of(part)[0]:
                 left = item.args[0] if item.op == "in" else None
                 parts = left.args if left is not None and left.op == "tuple" else [left] if left is not None else []
-                inner |= {it.value for it in parts if it.op == "name" and not it.args}
+                inner |= {entry.value for entry in parts if entry.op == "name" and not entry.args}
     renamed = {word: name(names.fresh(word)) for word in sorted(inner & used) if word not in values}
     return substituted(substituted(expr, renamed) if renamed else expr, values)
 
@@ -115,7 +115,7 @@ def match(variable: Expr, around: Around, outer: Index, own: Index, sets: SetFac
         if len(rest) == len(pending):
             break
         pending = rest
-    for condition in [part for it in conditions for part in conjuncts(it)]:
+    for condition in [part for entry in conditions for part in conjuncts(entry)]:
         solve_equality(condition, unknown, values)
     free = [dummy for dummy in unknown if dummy not in values]
     values.update({dummy: name(names.fresh(dummy)) for dummy in free})
@@ -124,7 +124,7 @@ def match(variable: Expr, around: Around, outer: Index, own: Index, sets: SetFac
     guards += [membership(item, values, fixed, names) for item in [*outer.items, *loops.items]]
     guards += [without_capture(condition, values, names) for condition in conditions]
     guards = [simplified_sums(guard) for guard in guards]
-    return Match(values, [it for it in guards if not is_identity(it)], free)
+    return Match(values, [entry for entry in guards if not is_identity(entry)], free)
 
 
 def membership(item: Expr, values: Mapping[str, Expr], fixed: Mapping[str, Expr], names: Names) -> Expr:
@@ -194,7 +194,7 @@ def simplified_sums(expr: Expr) -> Expr:
             return make("num", value=decimal_text(form.get("", Fraction(0))))
         if form is None or len(words) != 1 or form[words[0]] != 1 or form.get("", Fraction(0)).denominator != 1:
             return None
-        atom = next(it for it in part.walk() if it.op == "name" and text(it) == words[0])
+        atom = next(entry for entry in part.walk() if entry.op == "name" and text(entry) == words[0])
         constant = int(form.get("", Fraction(0)))
         return make("+" if constant > 0 else "-", atom, number(abs(constant))) if constant else atom
 

@@ -54,7 +54,7 @@ class Conversion:
         self.require()
         result = self.converted(decls, names)
         self.require()
-        return Converted(result, [it for it in decls if it.kind in ("set", "param")], self.notes)
+        return Converted(result, [item for item in decls if item.kind in ("set", "param")], self.notes)
 
     def require(self) -> None:
         if self.problems:
@@ -98,10 +98,10 @@ class Conversion:
         objectives = [decl for decl in decls if decl.kind in ("minimize", "maximize")]
         is_network = not any(decl.kind in ("var", "constraint") for decl in decls)
         if is_network:
-            rest = [it for it in decls if it.kind not in KEPT]
-            open_arcs = [it.name for it in rest if it.kind == "arc" and not has_bounds(it)]
+            rest = [item for item in decls if item.kind not in KEPT]
+            open_arcs = [item.name for item in rest if item.kind == "arc" and not has_bounds(item)]
             self.note_missing(open_arcs)
-            return self.written(decls, [(self.comments(it), self.kept(it)) for it in rest])
+            return self.written(decls, [(self.comments(item), self.kept(item)) for item in rest])
         analysis = Analysis(decls, self.sets, names, fractional_parameters(decls))
         readers: tuple[tuple[tuple[str, ...], Callable[[Decl], None]], ...] = (
             (("var",), lambda decl: self.add_variable(analysis, decl)),
@@ -111,12 +111,12 @@ class Conversion:
             (("minimize", "maximize"), analysis.add_objective),
         )
         for kinds, read in readers:
-            for decl in [it for it in decls if it.kind in kinds]:
+            for decl in [item for item in decls if item.kind in kinds]:
                 self.attempt(read, decl)
         self.require()
         cases: dict[str, list[Case]] = {}
         for variable in analysis.network.variables.values():
-            self.attempt(lambda it: cases.update({it.name: cases_of(it, analysis.facts_of(it))}), variable)
+            self.attempt(lambda item: cases.update({item.name: cases_of(item, analysis.facts_of(item))}), variable)
         self.require()
         self.attempt(lambda: Directions(analysis.network.variables, cases).choose(analysis.network.balances))
         self.require()
@@ -168,12 +168,12 @@ class Conversion:
         if not objectives:
             blocks.append(("", f"minimize {analysis.names.fresh('Nothing')};"))
         by_name = {decl.name: decl for decl in decls}
-        nodes = [(self.comments(by_name[it.name]), writer.node(it)) for it in network.balances.values()]
+        nodes = [(self.comments(by_name[item.name]), writer.node(item)) for item in network.balances.values()]
         arcs = []
         for variable in network.variables.values():
             made = writer.arcs(variable)
-            comments = [self.comments(it) for it in (by_name[variable.name], *variable.limited_by)]
-            arcs += [("\n".join(filter(None, comments)), made[0]), *(("", it) for it in made[1:])]
+            comments = [self.comments(item) for item in (by_name[variable.name], *variable.limited_by)]
+            arcs += [("\n".join(filter(None, comments)), made[0]), *(("", item) for item in made[1:])]
         arcs += [("", writer.constant(objective, value)) for objective, value in network.constants.items()]
         alone = [("", f"node {writer.alone};")] if writer.alone else []
         self.add_notes(decls, objectives, analysis, writer)
@@ -237,13 +237,16 @@ def fractional_parameters(decls: Sequence[Decl]) -> set[str]:
     """Returns the parameters that may have decimals: not declared integer, and no end of a range."""
     ends: set[str] = set()
     for decl in decls:
-        for expr in [*([decl.braces] if decl.braces else []), *(it for phrase in decl.phrases for it in phrase.exprs)]:
+        for expr in [
+            *([decl.braces] if decl.braces else []),
+            *(item for phrase in decl.phrases for item in phrase.exprs),
+        ]:
             for part in expr.walk():
-                ends |= {it.value for it in part.walk() if it.op == "name"} if part.op == ".." else set()
+                ends |= {item.value for item in part.walk() if item.op == "name"} if part.op == ".." else set()
     return {
         decl.name
         for decl in decls
-        if decl.kind == "param" and decl.name not in ends and not any(it.word == "integer" for it in decl.phrases)
+        if decl.kind == "param" and decl.name not in ends and not any(item.word == "integer" for item in decl.phrases)
     }
 
 

@@ -69,7 +69,7 @@ class Analysis:
             collectors.append(Collector({*self.network.variables, "net_in", "net_out"}))
             collectors[-1].add(part)
         ops = comparison.value.split()
-        bodies = [here for here, it in enumerate(collectors) if it.terms]
+        bodies = [here for here, entry in enumerate(collectors) if entry.terms]
         if not bodies and decl.kind == "constraint":
             self.network.checks.append((decl, text(chain(comparison))))
             return
@@ -91,11 +91,13 @@ class Analysis:
             low, body, high = collectors
             return body.terms, Form([total(low.constants), None, total(high.constants)], ops, body.constants)
         left, right = collectors
-        terms = left.terms + [dataclasses.replace(it, around=it.around.times(number(-1))) for it in right.terms]
+        terms = left.terms + [
+            dataclasses.replace(entry, around=entry.around.times(number(-1))) for entry in right.terms
+        ]
         rest = right.constants + [(-sign, part) for sign, part in left.constants]
         op = ops[0]
-        if all(it.around.coefficient < 0 for it in terms):
-            terms = [dataclasses.replace(it, around=it.around.times(number(-1))) for it in terms]
+        if all(entry.around.coefficient < 0 for entry in terms):
+            terms = [dataclasses.replace(entry, around=entry.around.times(number(-1))) for entry in terms]
             op, rest = FLIPPED[op], [(-sign, part) for sign, part in rest]
         return terms, Form([None, total(rest)], [op], [])
 
@@ -118,7 +120,7 @@ class Analysis:
                 value = scaled(value, inverse, term)
                 op = op if inverse > 0 else FLIPPED[op]
             value = simplified_sums(without_capture(value, found.values, self.names))
-            variable.limits += [Limit(it, value, guard) for it in (("<=", ">=") if op == "=" else (op,))]
+            variable.limits += [Limit(entry, value, guard) for entry in (("<=", ">=") if op == "=" else (op,))]
         return variable
 
     def matched(self, term: Term, index: Index) -> tuple[Variable, Match]:
@@ -146,7 +148,7 @@ class Analysis:
         form: Form,
     ) -> None:
         balance = Balance(decl.name, index, form, decl.start)
-        nets = [it for it in terms if it.variable.value in ("net_in", "net_out")]
+        nets = [entry for entry in terms if entry.variable.value in ("net_in", "net_out")]
         if decl.kind == "node":
             if len(nets) != 1 or nets[0].around.factors or nets[0].around.items or nets[0].around.conditions:
                 raise Inexpressible(decl.start, f"{decl.name}: the condition of a node has net_in or net_out once")
@@ -189,8 +191,10 @@ class Analysis:
         found = match(term.variable, term.around, Index([], [], []), variable.index, self.sets, self.names)
         price = without_capture(term.around.product(), found.values, self.names)
         if found.free:
-            items = [it for it in found.conditions if it.op == "in"]
-            price = make("reduce", braces(items, [it for it in found.conditions if it.op != "in"]), price, value="sum")
+            items = [entry for entry in found.conditions if entry.op == "in"]
+            price = make(
+                "reduce", braces(items, [entry for entry in found.conditions if entry.op != "in"]), price, value="sum"
+            )
             guard: list[Expr] | None = []
         else:
             guard = residual(found.conditions, self.facts_of(variable))

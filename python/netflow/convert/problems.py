@@ -30,4 +30,4 @@ def place_of(text: str, offset: int) -> str:
 def problem_lines(name: str, text: str, problems: Sequence[Inexpressible]) -> list[str]:
     """Returns a line for each problem, in the order of the text, each once."""
     ordered = sorted(problems, key=lambda problem: problem.offset)
-    return list(dict.fromkeys(f"{name}:{place_of(text, it.offset)}: {it.message}" for it in ordered))
+    return list(dict.fromkeys(f"{name}:{place_of(text, item.offset)}: {item.message}" for item in ordered))

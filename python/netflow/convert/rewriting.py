@@ -84,12 +84,12 @@ class Rewriter:
         index, part = self.rewrite(expr.args[0]), self.rewrite(expr.args[1])
         ranges = self.facts.ranges(items_of(index)[0])
         wanted = part.args if part.op == "tuple" else [part]
-        domains = [ranges.get(it.value) if it.op == "name" and not it.args else None for it in wanted]
-        names = {it.value for it in wanted}
-        if len(names) < len(wanted) or any(it is None or names_in(it) & set(ranges) for it in domains):
+        domains = [ranges.get(item.value) if item.op == "name" and not item.args else None for item in wanted]
+        names = {item.value for item in wanted}
+        if len(names) < len(wanted) or any(item is None or names_in(item) & set(ranges) for item in domains):
             raise Inexpressible(
                 expr.start,
                 f"`setof {text(index)} {text(part)}`: no set is known to contain it; declare one with its data",
             )
-        outer = [make("in", it, domain) for it, domain in zip(wanted, domains) if domain]
+        outer = [make("in", item, domain) for item, domain in zip(wanted, domains) if domain]
         return braces(outer, [make(">", make("reduce", index, number(1), value="sum"), number(0))])

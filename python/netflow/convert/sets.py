@@ -37,7 +37,7 @@ class SetFacts:
             known = [*self.limits.get(expr.value, []), *filter(None, [self.definitions.get(expr.value)])]
             found = [self.components(limit) for limit in known]
             fallback: list[Expr | None] = [None] * self.dimension(expr)
-            return next((it for it in found if None not in it and len(it) == len(fallback)), fallback)
+            return next((entry for entry in found if None not in entry and len(entry) == len(fallback)), fallback)
         return [expr]
 
     def of_braces(self, index: Expr) -> list[Expr | None]:
@@ -78,7 +78,9 @@ class SetFacts:
             if self.is_within(inner, self.definitions[outer.value], depth - 1):
                 return True
         if inner.op in ("diff", "inter"):
-            return any(self.is_within(it, outer, depth - 1) for it in inner.args[: 1 if inner.op == "diff" else 2])
+            return any(
+                self.is_within(entry, outer, depth - 1) for entry in inner.args[: 1 if inner.op == "diff" else 2]
+            )
         if inner.op == "union":
             return all(self.is_within(part, outer, depth - 1) for part in inner.args)
         if inner.op == "braces" and len(inner.args) == 1 + bool(inner.value) and inner.args[0].op == "in":
@@ -108,8 +110,10 @@ class SetFacts:
         if len(items) == 1 and items[0].op == "in" and items[0].args[0].op == "name" and left.op != "tuple":
             dummy, domain = items[0].args
             values = {dummy.value: left}
-            return join("and", [self.membership(left, domain), *(substituted(it, values) for it in conditions)])
-        is_list = all(it.op in ("num", "text") or it.op == "name" and it.value not in self.shapes.sets for it in items)
+            return join("and", [self.membership(left, domain), *(substituted(entry, values) for entry in conditions)])
+        is_list = all(
+            entry.op in ("num", "text") or entry.op == "name" and entry.value not in self.shapes.sets for entry in items
+        )
         if is_list and not conditions and left.op != "tuple":
-            return join("or", [make("=", left, it) for it in items])
+            return join("or", [make("=", left, entry) for entry in items])
         return make("in", left, right)

@@ -89,12 +89,12 @@ def names_in(expr: Expr) -> set[str]:
 
 def extreme(word: str, values: Sequence[Expr], at: int = 0) -> Expr:
     """Returns the least (`min`) or greatest (`max`) of some expressions; numbers are compared here."""
-    numerals = {it.value: parse_numeral(it.value) for it in values if it.op == "num"}
+    numerals = {entry.value: parse_numeral(entry.value) for entry in values if entry.op == "num"}
     known = [value for value in numerals.values() if value is not None]
     if known:
         chosen = (min if word == "min" else max)(known)
-        first = next(it for it in values if it.op == "num" and numerals[it.value] == chosen)
-        values = [*(it for it in values if it.op != "num"), first]
+        first = next(entry for entry in values if entry.op == "num" and numerals[entry.value] == chosen)
+        values = [*(entry for entry in values if entry.op != "num"), first]
     result = values[0]
     for value in values[1:]:
         result = make("if", make("<" if word == "min" else ">", result, value), result, value, at=at)

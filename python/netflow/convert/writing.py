@@ -45,13 +45,13 @@ class Writer:
 
     def case_name(self, variable: Variable, case: Case) -> str:
         words = [variable.name]
-        for end in sorted(case.ends, key=lambda it: it.balance.flip * it.sign):
+        for end in sorted(case.ends, key=lambda item: item.balance.flip * item.sign):
             words.append(f"{'to' if end.balance.flip * end.sign > 0 else 'from'}_{end.balance.name}")
         return self.names.fresh("_".join(words if len(words) > 1 else [variable.name, "alone"]))
 
     def arc(self, called: str, variable: Variable, case: Case) -> str:
         bounds, phrases = [*self.bounds(called, case), *(["integer"] if variable.is_integer else [])], []
-        for end in sorted(case.ends, key=lambda it: it.balance.flip * it.sign):
+        for end in sorted(case.ends, key=lambda item: item.balance.flip * item.sign):
             word = "to" if end.balance.flip * end.sign > 0 else "from"
             phrases.append(f"{word} {text(name(end.balance.name, *end.key))}")
         if not case.ends:
@@ -70,7 +70,7 @@ class Writer:
         lower = distinct([limit.value for limit in case.limits if limit.op == ">="])
         upper = distinct([limit.value for limit in case.limits if limit.op == "<="])
         if len(lower) > 1:
-            lower = [it for it in lower if not (is_zero(it) and self.has_positive(lower, case.facts))]
+            lower = [item for item in lower if not (is_zero(item) and self.has_positive(lower, case.facts))]
         if not lower or not upper:
             self.missing.append(called)
         both = ((">=", "max", lower), ("<=", "min", upper))
@@ -80,7 +80,9 @@ class Writer:
         """Whether a declaration says that one of the bounds is at least 0, so that the bound 0 is not needed."""
         for bound in bounds:
             decl = self.sets.shapes.decls.get(bound.value) if bound.op == "name" else None
-            limits = [it for it in decl.phrases if it.word in (">=", ">") and is_zero(it.exprs[0])] if decl else []
+            limits = (
+                [item for item in decl.phrases if item.word in (">=", ">") and is_zero(item.exprs[0])] if decl else []
+            )
             if limits or bound.op == "num" and not is_zero(bound):
                 return True
         return False

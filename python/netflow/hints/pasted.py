@@ -82,7 +82,7 @@ def grouped(diagnostic: Diagnostic) -> Hints:
 def date(diagnostic: Diagnostic) -> Hints:
     """`1/12/2026`."""
     place = len(diagnostic.before)
-    match = next((it for it in DATE.finditer(diagnostic.shown) if it.start() <= place <= it.end()), None)
+    match = next((item for item in DATE.finditer(diagnostic.shown) if item.start() <= place <= item.end()), None)
     if diagnostic.text == "data" and match:
         yield f"is {match[0]} a date? As a name it needs quotes: '{match[0]}'", True
 

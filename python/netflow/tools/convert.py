@@ -111,7 +111,9 @@ def write(files: Sequence[tuple[str, str]], folder: str, sources: Sequence[str],
     """Writes the files; raises ProgramError before the first one if a file would be replaced."""
     paths = [os.path.join(folder, name) for name, _ in files]
     for path in paths:
-        if len(set(paths)) < len(paths) or any(os.path.exists(path) and os.path.samefile(path, it) for it in sources):
+        if len(set(paths)) < len(paths) or any(
+            os.path.exists(path) and os.path.samefile(path, item) for item in sources
+        ):
             raise ProgramError(USAGE, f"{NAME}: {path} is a file of the old model: choose another folder\n")
         if os.path.exists(path) and not is_forced:
             raise ProgramError(USAGE, f"{NAME}: {path} exists: remove it, or add --force\n")
