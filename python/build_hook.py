@@ -1,7 +1,7 @@
-"""Adds the built program to the wheel, with the platform that it runs on.
+"""Adds the built program to the wheel, with its platform.
 
 The program is that of the checkout, or the one that the variable NETFLOW_PROGRAM names. NETFLOW_NOTICES can name a
-file with the notices of the libraries that are linked into it, and NETFLOW_VERSION the version. An editable
+file with the notices of the libraries that are linked in, and NETFLOW_VERSION the version. An editable
 installation uses the program of the checkout.
 """
 from __future__ import annotations
@@ -16,7 +16,7 @@ from hatchling.builders.hooks.plugin.interface import BuildHookInterface
 PACKAGE = pathlib.Path(__file__).resolve().parent
 TOP = PACKAGE.parent
 NO_PROGRAM = """the program netflow is not built: there is no {program}.
-Run scripts/build at the top of the checkout first, which builds and proves it, or set NETFLOW_PROGRAM to its path."""
+Run scripts/build at the top of the checkout first, or set NETFLOW_PROGRAM to its path."""
 
 
 def version_of_wheel() -> str:

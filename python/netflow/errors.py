@@ -27,7 +27,7 @@ def _rebuilt(kind: type[NetflowError], arguments: tuple[Any, ...], attributes: d
 
 class ProgramError(NetflowError):
     """The program could not be run, or ended without an answer. `line` is the error line with its place in the joined
-    data; `instance` is the question that a tool asked, if it was one."""
+    data; `instance` is the question of a tool, if one asked."""
 
     def __init__(self, status: int, message: str, line: str | None = None) -> None:
         super().__init__(message.rstrip("\n"))
@@ -130,4 +130,4 @@ class Infeasible(NetflowError):
 
 
 class Unbounded(NetflowError):
-    """The objective has no limit: a cycle of arcs without a bound improves it forever."""
+    """The objective has no limit: a cycle of arcs without a bound improves the value forever."""

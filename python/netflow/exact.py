@@ -14,7 +14,7 @@ LARGEST = 10**12
 MOST_DIGITS = 60
 # The most digits of a computed float.
 DIGITS = 12
-# The format specification of a number, as the documentation of Python has it.
+# The format specification of a number, as in the documentation of Python.
 SPEC = re.compile(
     r"(?:(?P<fill>.)?(?P<align>[<>=^]))?(?P<sign>[-+ ]?)z?#?(?P<zero>0?)(?P<width>\d*)(?P<group>[,_]?)"
     r"(?:\.(?P<precision>\d+))?(?P<type>[a-zA-Z%]?)",
@@ -60,7 +60,7 @@ class Exact(Fraction):
 
 
 def _as_decimal(number: Fraction, spec: str) -> decimal.Decimal:
-    """Returns a fraction as a Decimal: exactly if it has a finite decimal, else with so many digits that a rounding to
+    """Returns a fraction as a Decimal: exactly if the decimal is finite, else with so many digits that a rounding to
     those of the format is that of the fraction."""
     text = decimal_text(number)
     if "/" not in text:

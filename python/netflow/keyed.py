@@ -10,7 +10,7 @@ from .types import Key, Member, Number
 if TYPE_CHECKING:
     import pandas
 
-# A key as `Flows` takes it: that of one index is the member itself.
+# A key in the form of `Flows`: that of one index is the member itself.
 FlowKey = Union[Member, Key]
 # Among how many keys the nearest one is looked for.
 MOST_KEYS = 5_000
@@ -78,7 +78,7 @@ class Flows(Keyed):
 
 
 def nearest(parts: Key, keys: Mapping[Key, Number]) -> Key | None:
-    """Returns the key that is most like another one; None if no key is like it."""
+    """Returns the key that is most like another one; None if no key is similar."""
     texts = {repr(key): key for key, _ in zip(keys, range(MOST_KEYS))}
     if len(texts) < len(keys):  # only keys that differ in one part
         texts = {

@@ -147,7 +147,7 @@ def solve(
 
     `model` is a file or a text, and `data` a file, a text, a dict of sets and parameters, or a list of these, of which
     later ones override earlier ones value by value; keyword arguments override all of them. A `pathlib.Path` is a file.
-    A `str` is a text if it has a line end or a `;`, and else the path of a file.
+    A `str` is a text if a line end or a `;` is in the string, and else the path of a file.
 
     A set is a list of members or tuples; a parameter is a number, a dict by key, a list of tuples that end with the
     value, a list of dicts, or a pandas object. A set or parameter named `model`, `data`, `objective`, `scale` or

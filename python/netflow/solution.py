@@ -96,7 +96,7 @@ class Solution(Mapping[str, Union[Flows, Number]]):
     @property
     def prices(self) -> Prices:
         """By how much the value changes if a node requires one more unit, by declaration and key. Of a node whose need
-        cannot change alone it is the potential: `price_range` is 0 there, and `pair_price` the exact price."""
+        cannot change alone the price is the potential: `price_range` is 0 there, and `pair_price` the exact price."""
         if self._prices is None:
             self._prices = Prices(self.network, self._priced().more)
         return self._prices

@@ -8,7 +8,7 @@ PACKAGE = f"{__name__.partition('.')[0]}."
 
 
 def warn(message: str) -> None:
-    """Warns at the line outside this package that called it."""
+    """Warns at the line outside this package that made the call."""
     level, frame = 1, sys._getframe(0)
     while frame.f_back is not None and frame.f_globals.get("__name__", "").startswith(PACKAGE):
         level, frame = level + 1, frame.f_back

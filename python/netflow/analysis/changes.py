@@ -20,7 +20,7 @@ NODES, ARCS, BOTH = "of what places need and give", "of what arcs may carry", "o
 
 @dataclasses.dataclass
 class Change:
-    """By how much a bound of the model is moved, from what it was; `is_exact` for both sides of an equation."""
+    """By how much a bound of the model is moved, from its old value; `is_exact` for both sides of an equation."""
 
     amount: Number
     text: str
@@ -45,7 +45,7 @@ class Change:
 
 @dataclasses.dataclass
 class Move:
-    """A bound that can be moved: the ends of the arc that represents it in the problem, and the change that
+    """A bound that can be moved: the ends of its arc in the problem, and the change that
     a flow on this arc means."""
 
     ends: str

@@ -73,7 +73,7 @@ def reached(near: Mapping[int, list[int]], start: int, besides: AbstractSet[int]
 
 
 def nothing_flows(net: Network) -> list[str]:
-    """Returns why nothing can flow over an arc that improves the value: no path closes it."""
+    """Returns why nothing can flow over an arc that improves the value: no path closes the circle."""
     if net.cut is not None or any(arc.flow for arc in net.arcs):
         return []
     out, outside = steps(net), len(net.nodes)

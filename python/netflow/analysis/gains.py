@@ -49,7 +49,7 @@ def limit_text(amount: Number, units: Amount) -> str:
 
 
 class Place:
-    """A node with a condition, and what one more unit there costs (`cost`, below 0 if it saves), None if it cannot
+    """A node with a condition, and what one more unit there costs (`cost`, below 0 for a saving), None if it cannot
     change alone."""
 
     def __init__(self, net: Network, marginal: Marginal, number: int) -> None:

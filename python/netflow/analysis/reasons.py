@@ -20,7 +20,7 @@ ROUNDS, LARGEST = 12, 200_000
 
 @dataclasses.dataclass
 class Part:
-    """One line of a reason: an amount, what has it, the name of that declaration, and the arc if it is one."""
+    """One line of a reason: an amount, what has it, the name of that declaration, and the arc, for an arc."""
 
     amount: Number
     text: str
@@ -223,8 +223,8 @@ def reasons_of_cut(net: Network, side: str, nodes: AbstractSet[int]) -> list[Rea
 
 
 def cut_besides(net: Network, found: Sequence[Reason]) -> tuple[str, set[int]] | None:
-    """Returns the side and the nodes of a set that is short although each set of `found` gets what it lacks, or can
-    leave what it has too much; None if there is no such set."""
+    """Returns the side and the nodes of a set that is short although each set of `found` gets what is lacking, or can
+    leave what is too much; None if there is no such set."""
     outside = len(net.nodes) + 1
     arcs = []
     for grant, reason in enumerate(found, outside + 1):

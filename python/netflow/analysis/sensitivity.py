@@ -22,7 +22,7 @@ Lengths = List[Optional[Number]]
 
 class Residual:
     """The residual network of a plan with prices; node `len(net.nodes)` is the outside. For each node `out` has the
-    arcs that leave it, as triples of a node, a reduced cost and a capacity, and `into` those that enter."""
+    arcs that leave the node, as triples of a node, a reduced cost and a capacity, and `into` those that enter."""
 
     def __init__(self, net: Network) -> None:
         self.net, self.outside = net, len(net.nodes)

@@ -1,6 +1,6 @@
 """Which bounds are enough alone: with one of them moved there is a plan.
 
-Each set of nodes that is short rules out the bounds that cannot help it, so few are tried. What one bound needs is what
+Each set of nodes that is short rules out the bounds that cannot help, so few are tried. What one bound needs is what
 the set that is most short lacks, which no other change can do with less. So these changes are least changes.
 """
 from __future__ import annotations

@@ -25,7 +25,7 @@ class Form:
 @dataclasses.dataclass
 class Balance:
     """A constraint as a condition of a node. `form` is its comparison with `\\0` for the sum of its variables; `flip`
-    is 1 if that sum is the net inflow, -1 if it is the net outflow, 0 if that is not decided."""
+    is 1 if that sum is the net inflow, -1 for the net outflow, 0 if that is not decided."""
 
     name: str
     index: Index

@@ -35,7 +35,7 @@ class DataConversion:
         return "".join([*parts, self.source[at:]])
 
     def attempted(self, words: list[Token]) -> str | None:
-        """Returns a statement as rows, None if it stays, an empty text for one that only prints."""
+        """Returns a statement as rows, None for one that stays, an empty text for one that only prints."""
         if words[0].text in PRINTING:
             return ""
         try:
@@ -171,7 +171,7 @@ class Statement:
         return f"param {name}{default} :=\n" + "".join(f"  {' '.join(row)}\n" for row in rows) + ";"
 
     def converted_columns(self, default: str) -> str | None:
-        """Converts `param : NAMES := ..`, which netflow reads unless it has slices."""
+        """Converts `param : NAMES := ..`, which netflow reads without slices."""
         if not any(is_mark(word, "[") for word in self.words):
             return None
         start = next((here for here, word in enumerate(self.words) if is_mark(word, ":=")), len(self.words))

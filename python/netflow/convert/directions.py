@@ -13,7 +13,7 @@ Cases = Mapping[str, Sequence[Case]]
 
 
 class Directions:
-    """The pairs of ends that one arc joins: one of them has to be where it begins, the other where it arrives."""
+    """The pairs of ends that one arc joins: one of them has to be the tail, the other the head."""
 
     def __init__(self, variables: Mapping[str, Variable], cases: Cases) -> None:
         self.pairs: list[tuple[Variable, End, End]] = []

@@ -35,7 +35,7 @@ class Facts:
     # What holds
 
     def add(self, condition: Expr) -> None:
-        """Adds a condition that holds, with what follows from it."""
+        """Adds a condition that holds, with its consequences."""
         for part in conjuncts(condition):
             if part.op == "in":
                 self.add_member(*part.args)
@@ -45,7 +45,7 @@ class Facts:
                 self.add_atom(part)
 
     def add_negation(self, condition: Expr) -> None:
-        """Adds that a condition does not hold. Of several parts one is false: it is known if the others hold."""
+        """Adds that a condition does not hold. Of several parts one is false, known if the others hold."""
         parts = [part for part in conjuncts(condition) if self.decide(part) is not True]
         if len(parts) == 1:
             part = parts[0]
@@ -153,7 +153,7 @@ class Facts:
         return self.is_implied({"": Fraction(-1)})
 
     def bounds_of(self, condition: Expr) -> list[Linear]:
-        """Returns a comparison as linear forms of at least 0; none if it is not linear."""
+        """Returns a comparison as linear forms of at least 0; none for another one."""
         if condition.op not in ("=", "<", "<=", ">", ">="):
             return []
         left, right = map(linear, condition.args)
@@ -178,7 +178,7 @@ def canonical(condition: Expr) -> str:
 
 
 def linear(expr: Expr) -> Linear | None:
-    """Returns a linear form of an expression; None if it has a product of names, or something that is no number."""
+    """Returns a linear form of an expression; None for a product of names, or something that is no number."""
     if expr.op == "num":
         value = parse_numeral(expr.value)
         return None if value is None else {"": Fraction(value)}

@@ -78,7 +78,7 @@ def with_dummies(items: Iterable[Expr], conditions: Iterable[Expr], sets: SetFac
 
 
 def without_capture(expr: Expr, values: Mapping[str, Expr], names: Names) -> Expr:
-    """Returns the expression with values for names; dummies inside it that clash with the values get new names."""
+    """Returns the expression with values for names; dummies inside that clash with the values get new names."""
     used = {word for value in values.values() for word in names_in(value)}
     inner: set[str] = set()
     for part in expr.walk():
@@ -93,7 +93,7 @@ def without_capture(expr: Expr, values: Mapping[str, Expr], names: Names) -> Exp
 
 @dataclasses.dataclass
 class Match:
-    """Where a variable's key occurs: the values of the dummies by the key, and the conditions on it. `free` are the
+    """Where a variable's key occurs: the values of the dummies by the key, and its conditions. `free` are the
     dummies that the key does not fix: the variable occurs once for each of their values."""
 
     values: dict[str, Expr]
@@ -102,7 +102,7 @@ class Match:
 
 
 def match(variable: Expr, around: Around, outer: Index, own: Index, sets: SetFacts, names: Names) -> Match:
-    """Solves the subscripts of a variable's reference for the dummies around it."""
+    """Solves the subscripts of a variable's reference for the dummies around the reference."""
     loops = with_dummies(around.items, around.conditions, sets, outer.dummies)
     unknown = [*outer.dummies, *loops.dummies]
     keys = [name(dummy) for dummy in own.dummies]

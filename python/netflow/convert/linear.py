@@ -1,4 +1,4 @@
-"""Splits linear expressions into terms: a coefficient times a variable, with the sums and conditions around it."""
+"""Splits linear expressions into terms: a coefficient times a variable, with the surrounding sums and conditions."""
 from __future__ import annotations
 
 import dataclasses
@@ -34,14 +34,14 @@ class Around:
         size = abs(self.coefficient)
         if size != 1 or not parts:
             parts.insert(0, make("num", value=decimal_text(size)))
-        # `0.5 * 8` is written as a product; a sign precedes it.
+        # `0.5 * 8` is written as a product; a sign comes first.
         result = join("*", parts)
         return make("sign", result, value="-") if self.coefficient < 0 else result
 
 
 @dataclasses.dataclass
 class Term:
-    """A variable's reference in an expression, with what surrounds it."""
+    """A variable's reference in an expression, with the surroundings."""
 
     variable: Expr
     around: Around

@@ -193,7 +193,7 @@ class Conversion:
             self.notes.append(f"no lower or no upper bound: {', '.join(arcs)}; call the tools with --bounds")
 
     def comments(self, decl: Decl) -> str:
-        """Returns the comments before a declaration, and after it on its line."""
+        """Returns the comments before a declaration, and those on its line."""
         before, after = self.around[id(decl)]
         found = [match[0] for match in COMMENT.finditer(before)] + ([after] if after else [])
         return "\n".join(found)
@@ -212,7 +212,7 @@ class Conversion:
         return ("".join(parts).rstrip() + "\n\n").lstrip() + re.sub(r"\n{3,}", "\n\n", "\n".join(lines)).strip() + "\n"
 
     def kept(self, decl: Decl) -> str:
-        """Returns a declaration as it is if netflow's grammar has it, otherwise in netflow's words."""
+        """Returns a declaration unchanged if netflow's grammar has that form, otherwise in netflow's words."""
         source = self.source[decl.start : decl.end]
         try:
             ModelParser(source).declaration()
@@ -268,7 +268,7 @@ def declaration_text(decl: Decl) -> str:
 
 
 def surroundings(source: str, decls: Sequence[Decl], left_out: Sequence[tuple[int, int]]) -> dict[int, tuple[str, str]]:
-    """Returns for each declaration the text before it, and the comment after it on its line."""
+    """Returns for each declaration the text before, and the comment on its line."""
     result, at = {}, 0
     spans = sorted([*((decl.start, decl.end, id(decl)) for decl in decls), *((*span, 0) for span in left_out)])
     for start, end, key in spans:

@@ -42,7 +42,7 @@ NOT_CONVERTED = {
 
 
 class OldParser(ModelParser):
-    """Reads the declarations of a model, and collects what it cannot read, each with its position."""
+    """Reads the declarations of a model, and collects what cannot be read, each part with its position."""
 
     def __init__(self, text: str) -> None:
         try:

@@ -71,7 +71,7 @@ def negated(expr: Expr) -> Expr:
 
 
 def mapped(expr: Expr, change: Callable[[Expr], Expr | None]) -> Expr:
-    """Returns a copy in which `change` replaced parts, from the outside; None leaves a part and enters it."""
+    """Returns a copy in which `change` replaced parts, from the outside; None leaves a part and enters its parts."""
     found = change(expr)
     if found is not None:
         return found
@@ -106,7 +106,7 @@ def ungrouped(expr: Expr) -> Expr:
 
 
 def text(expr: Expr, least: float = 0) -> str:
-    """Returns an expression as text, in parentheses if it binds less tightly than `least`."""
+    """Returns an expression as text, in parentheses if the operator binds less tightly than `least`."""
     said, level = _printed(expr)
     return f"({said})" if level < least else said
 

@@ -61,7 +61,7 @@ class Writer:
         return f"{' '.join([first, ', '.join(bounds)]).rstrip()},\n   {', '.join(phrases)};"
 
     def node_alone(self) -> str:
-        """Returns the node of the arcs that are in no balance: they lead from it to itself."""
+        """Returns the node of the arcs that are in no balance: they lead from there to the same node."""
         if not self.alone:
             self.alone = self.names.fresh("Alone")
         return self.alone
@@ -102,7 +102,7 @@ class Writer:
         return price.value if decided else None
 
     def constant(self, objective: str, value: Expr) -> str:
-        """Returns an arc that adds a constant to the objective: it carries 1."""
+        """Returns an arc that adds a constant to the objective: the flow is 1."""
         called = self.names.fresh(f"{objective}_constant")
         ends = [f"from {self.node_alone()}", f"to {self.alone}"]
         return f"arc {called} >= 1, <= 1,\n   {', '.join(ends)}, obj {objective} {text(value, 8)};"

@@ -121,9 +121,9 @@ def _weighted(G: Graph, weight: Weight, number: Numbers | None = None) -> list[t
 
 
 def _paths(G: Graph, arcs: list[tuple[Any, Any, Fraction]], source: Hashable, target: Hashable, certify: bool) -> Paths:
-    """Returns shortest paths from a node to one other node, or to all that it reaches.
+    """Returns shortest paths from a node to one other node, or to all reachable ones.
 
-    One unit is sent to each of these nodes at the least cost. Each arc that carries a part of it is on a shortest path.
+    One unit is sent to each of these nodes at the least cost. Each arc that carries a part is on a shortest path.
     """
     near: dict[Hashable, list[Hashable]] = {}
     for src, dst, _ in arcs:
@@ -149,7 +149,7 @@ def _paths(G: Graph, arcs: list[tuple[Any, Any, Fraction]], source: Hashable, ta
 
 
 def _tree(near: Mapping[Hashable, list[Hashable]], source: Hashable) -> dict[Hashable, Hashable]:
-    """Returns the nodes that a node reaches, each with the node before it."""
+    """Returns the nodes that a node reaches, each with the node before."""
     before, line = {source: source}, [source]
     for here in line:
         for there in near.get(here, []):

@@ -168,7 +168,7 @@ def require_bounded(net: Network) -> None:
         rows += [(src, dst, 0, 1, cost)] if arc.is_open else []
         rows += [(dst, src, 0, 1, -cost)] if arc.lower == -arc.upper and arc.is_open else []
     for number, node in enumerate(net.nodes):
-        # A node whose arcs alone limit it takes or gives any amount.
+        # A node that only its arcs limit takes or gives any amount.
         rows += [(number, outside, 0, 1, 0)] if not node.has_high() and node.low != node.high else []
         rows += [(outside, number, 0, 1, 0)] if not node.has_low() and node.low != node.high else []
     if any(row[4] < 0 for row in rows) and not call(

@@ -92,7 +92,7 @@ KEYWORDS = (
     "mod",
     "div",
 )
-# What people write for a keyword, besides small misspellings of it.
+# What people write for a keyword, besides small misspellings.
 MEANT = {
     "minimise": "minimize",
     "maximise": "maximize",

@@ -111,7 +111,7 @@ class Diagnostic:
         )
 
     def rows_text(self, rows: Sequence[int]) -> str:
-        """Returns lines of the data in words: `line 4, 5`. Of several files it names each that is not the error's; a
+        """Returns lines of the data in words: `line 4, 5`. Of several files each is named that is not the error's; a
         change has its own place."""
         if self.instance is None:
             return f"line {', '.join(map(str, rows))}"

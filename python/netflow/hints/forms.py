@@ -290,7 +290,7 @@ def subscripts(diagnostic: Diagnostic) -> Hints:
 
 
 def inside(words: list[str]) -> list[str]:
-    """Returns the words between a bracket, the first word, and the one that closes it."""
+    """Returns the words between a bracket, the first word, and the closing one."""
     depth = 0
     for here, word in enumerate(words):
         depth += (word in ("[", "{", "(")) - (word in ("]", "}", ")"))

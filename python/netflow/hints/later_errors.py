@@ -139,7 +139,7 @@ def is_of(error: Diagnostic, cell: Cell) -> bool:
 
 
 def further_lines(first: Diagnostic, options: Sequence[str] = ()) -> list[str]:
-    """Returns a line for each further error, as editors take it: the place, the error, and the best hint."""
+    """Returns a line for each further error, in the form of editors: the place, the error, and the best hint."""
     found = further_errors(first, options)
     lines = []
     for error in found:

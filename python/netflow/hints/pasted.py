@@ -9,7 +9,7 @@ from .diagnostic import Diagnostic
 from .hint import Hints, HintTable
 from .tables import columns_of, head_of
 
-# A ; between cells: what follows it begins no statement and no comment.
+# A ; between cells: what follows begins no statement and no comment.
 SEMICOLON = re.compile(r"[^\s;#];\s*(?!(?:set|param|end|data)\b)[^\s;#]|:\s*;")
 GROUPED = re.compile(r"(?<![\w.'])[+-]?[0-9]{1,3}(?:['\u2019][0-9]{3})+(?![\w'])")
 DATE = re.compile(r"[0-9]{1,4}/[0-9]{1,2}/[0-9]{1,4}")

@@ -165,7 +165,7 @@ class Instance:
             failed = self.failed_rewrite() if is_first else None
             if is_first and failed is None:
                 return self.ask(command)
-            # A forgotten ; can give a parameter values that were not meant for it.
+            # A forgotten ; can give a parameter values of another one.
             found = next_error(self.session, GRAMMAR if isinstance(failed, ScaleError) else CERTAIN)
             if isinstance(failed, ScaleError) and found is None and not failed.is_numeral:
                 raise failed from None
@@ -255,7 +255,7 @@ class Instance:
         return self.changed.place(row - self.rows_of_data()) if self.changed is not None else ("", None, None)
 
     def written(self, row: int) -> str:
-        """Returns a change as Python writes it, or the option; an empty text without a value."""
+        """Returns a change in Python's form, or the option; an empty text without a value."""
         name, key, value = self.value_at(row)
         if value is None or self.origins:
             return self.change_at(row) if self.origins else ""

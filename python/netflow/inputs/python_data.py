@@ -33,7 +33,7 @@ def override(values: dict[str, Any], others: Mapping[str, Any]) -> None:
 
 @dataclasses.dataclass
 class Remark:
-    """What a reader has to know of a value from Python: that NaN gave none, or that it was rounded (`value`)."""
+    """What a reader has to know of a value from Python: that NaN gave none, or the rounding (`value`)."""
 
     name: str
     key: Key
@@ -145,7 +145,7 @@ class PythonData:
 
 
 def value_text(name: str, value: Value, factor: int, add_bounds: bool) -> str:
-    """Returns a value as the data text has it; a number times its factor."""
+    """Returns a value in the form of a data text; a number times its factor."""
     if isinstance(value, Fraction):
         return str(scaled_value(name, value, factor))
     if isinstance(value, float):

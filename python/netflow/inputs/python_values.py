@@ -19,7 +19,7 @@ FORMS = "give a dict by key, a list of tuples (key, .., value), a list of dicts,
 
 @dataclasses.dataclass
 class Leaf:
-    """A value of a parameter: None if it is missing. `is_computed` for a float with more digits than netflow takes,
+    """A value of a parameter: None if missing. `is_computed` for a float with more digits than netflow takes,
     `is_nan` for a missing value that is NaN or NA, not None."""
 
     value: Value | None
@@ -54,7 +54,7 @@ def members_of(name: str, value: Any, size: int) -> list[Key]:
 
 
 def key_text(key: Key) -> str:
-    """Returns a key as Python writes it; one of one part without parentheses."""
+    """Returns a key in Python's form; one of one part without parentheses."""
     return repr(key[0]) if len(key) == 1 else repr(key)
 
 
@@ -96,7 +96,7 @@ def leaves_of(name: str, value: Any, size: int, texts: set[Member] | None, head:
 
 
 def key_part(part: Member, texts: set[Member] | None) -> Member:
-    """Returns a part of a key as a member: a text as its number, as a sheet has it, except one of `texts`, or if these
+    """Returns a part of a key as a member: a text as its number, as in a sheet, except one of `texts`, or if these
     are None."""
     is_number = texts is not None and isinstance(part, str) and part not in texts and KEY_NUMBER.fullmatch(part)
     return int(part) if is_number else part

@@ -83,7 +83,7 @@ class Rewriting:
     def scale_texts(
         self, decls: list[Decl], needed: dict[str, int], shapes: Shapes, edits: Sequence[list[Edit]]
     ) -> None:
-        """Makes the texts, when it is known which factor each parameter needs."""
+        """Makes the texts, when the factor of each parameter is known."""
         unknown = {name: factor for name, factor in needed.items() if name not in shapes.names("param")}
         for name in self.scale:
             if name not in shapes.names("param"):

@@ -202,7 +202,7 @@ def groups(tokens: list[Token], size: int) -> Iterator[list[Token]]:
 
 
 def member_text(member: Any) -> str:
-    """Returns a member as a data text has it: a number bare, a text with quotes if necessary."""
+    """Returns a member in the form of a data text: a number bare, a text with quotes if necessary."""
     if isinstance(member, bool) or not isinstance(member, (int, str)):
         number = getattr(member, "item", None)
         if number is not None and not isinstance(member, (bool, bytes)):

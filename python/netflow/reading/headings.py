@@ -83,7 +83,7 @@ def objective_of(text: str) -> str:
 
 def compared_texts(model: str, data: Iterable[str]) -> list[str]:
     """Returns what a reader may miss: a numeral in quotes that the model compares with something, and that no data text
-    has in quotes. Such a text equals no number, and netflow accepts it."""
+    has in quotes. Such a text equals no number, and netflow accepts such texts."""
     compared, before = [], ""
     for token in tokens(model):
         if before in ("=", ">") and re.fullmatch(r"(['\"])-?\d+\1", token.text):

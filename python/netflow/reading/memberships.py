@@ -185,7 +185,7 @@ class Memberships:
 
 
 def row_text(row: Key) -> str:
-    """Returns a tuple as data have it; a text has quotes only in the form of a number."""
+    """Returns a tuple in the form of data; a text has quotes only in the form of a number."""
     parts = [
         shown(member) if isinstance(member, str) and re.fullmatch(r"-?\d+", member) else str(member) for member in row
     ]

@@ -16,7 +16,7 @@ def spoken(name: str) -> str:
 
 
 def in_words(text: str) -> str:
-    """Returns a text in which each name with a key is as planners read it."""
+    """Returns a text in which each name with a key is in planners' words."""
     return REFERENCE.sub(lambda found: spoken(found[0]), text) if "[" in text else text
 
 

@@ -300,7 +300,7 @@ def date() -> str:
 
 
 def heading_size(title: str) -> str:
-    """Returns the class of a heading, so that it takes two lines at most; a very long one ends with dots."""
+    """Returns the class of a heading, so that no heading takes more than two lines; a very long one ends with dots."""
     return ' class="longest"' if len(title) > 110 else ' class="long"' if len(title) > 60 else ""
 
 

@@ -72,11 +72,11 @@ SCRIPT = """
 function value(cell){return cell.dataset.n===undefined?cell.textContent:cell.dataset.n}
 document.querySelectorAll('th button').forEach(function(button){button.onclick=function(){
  var th=button.parentNode,body=th.closest('table').tBodies[0],place=th.cellIndex,up=th.getAttribute('aria-sort')!=='ascending';
- th.parentNode.querySelectorAll('th').forEach(function(it){it.removeAttribute('aria-sort')});th.setAttribute('aria-sort',up?'ascending':'descending');
+ th.parentNode.querySelectorAll('th').forEach(function(head){head.removeAttribute('aria-sort')});th.setAttribute('aria-sort',up?'ascending':'descending');
  var rows=Array.from(body.rows).map(function(row){return [value(row.cells[place]),row]});
  rows.sort(function(one,two){var a=one[0],b=two[0],both=a!==''&&b!==''&&!isNaN(a)&&!isNaN(b);
   if(a===''||b==='')return (a==='')-(b==='');return (up?1:-1)*(both?a-b:a.localeCompare(b,undefined,{numeric:true}))});
- rows.forEach(function(it){body.append(it[1])})}});
+ rows.forEach(function(pair){body.append(pair[1])})}});
 document.querySelectorAll('.toggle').forEach(function(button){button.onclick=function(){
  var all=button.closest('section').classList.toggle('all');button.setAttribute('aria-expanded',all);
  button.textContent=button.textContent.replace(/^(show|hide)/,all?'hide':'show')}});
@@ -84,8 +84,8 @@ document.querySelectorAll('.find').forEach(function(line){
  var section=line.closest('section'),rows=Array.from(section.querySelector('tbody').rows),words=line.querySelector('[type=search]');
  var full=line.querySelector('[type=checkbox]'),label=line.querySelector('span');
  function find(){var all=words.value.toLowerCase().split(' ').filter(Boolean),count=0,on=all.length>0||full&&full.checked;
-  rows.forEach(function(row){var text=Array.from(row.cells).map(function(it){return (it.textContent+' '+(it.dataset.n||'')).toLowerCase()}).join('\\n');
-   var hit=all.every(function(it){return text.includes(it)})&&!(full&&full.checked&&!row.classList.contains('full'));
+  rows.forEach(function(row){var text=Array.from(row.cells).map(function(cell){return (cell.textContent+' '+(cell.dataset.n||'')).toLowerCase()}).join('\\n');
+   var hit=all.every(function(word){return text.includes(word)})&&!(full&&full.checked&&!row.classList.contains('full'));
    row.classList.toggle('out',!hit);count+=hit});
   section.classList.toggle('found',on);label.textContent=on?count+' of '+rows.length:''}
  words.oninput=find;if(full)full.onchange=find});

@@ -14,7 +14,7 @@ WITH_POINT = re.compile(rf"[+-]?[0-9]{{1,3}}(?:([,{BLANKS}])[0-9]{{3}})(?:\1[0-9
 
 
 def plain_numeral(text: str, has_comma: bool) -> str:
-    """Returns a number in plain digits with a point before its decimals; the text itself if it is no such number. With
+    """Returns a number in plain digits with a point before its decimals; the text itself for anything else. With
     `has_comma` a comma begins decimals, and a point groups thousands, as 1.204,15."""
     if has_comma and text and WITH_COMMA.fullmatch(text):
         return re.sub(f"[.{BLANKS}]", "", text).replace(",", ".")

@@ -107,7 +107,7 @@ def offer_conversion(parsed: argparse.Namespace, instance: Instance) -> None:
 
 
 def convert(parsed: argparse.Namespace) -> int:
-    """Calls `netflow-convert MODEL [DATA ..] --output FOLDER`, and makes the files that it writes those of the question.
+    """Calls `netflow-convert MODEL [DATA ..] --output FOLDER`, and makes the new files those of the question.
 
     The converter prints the paths of its files, a line each, the model first. Its status is returned.
     """
