@@ -20,7 +20,7 @@ ROUNDS, LARGEST = 12, 200_000
 
 @dataclasses.dataclass
 class Part:
-    """One line of a reason: an amount, what has it, the name of that declaration, and the arc, for an arc."""
+    """One line of a reason: an amount, what has it, the name of that declaration, and the arc if it is one."""
 
     amount: Number
     text: str

@@ -171,7 +171,7 @@ class Statement:
         return f"param {name}{default} :=\n" + "".join(f"  {' '.join(row)}\n" for row in rows) + ";"
 
     def converted_columns(self, default: str) -> str | None:
-        """Converts `param : NAMES := ..`, which netflow reads without slices."""
+        """Converts `param : NAMES := ..`, which netflow reads unless it has slices."""
         if not any(is_mark(word, "[") for word in self.words):
             return None
         start = next((here for here, word in enumerate(self.words) if is_mark(word, ":=")), len(self.words))

@@ -45,7 +45,7 @@ class Facts:
                 self.add_atom(part)
 
     def add_negation(self, condition: Expr) -> None:
-        """Adds that a condition does not hold. Of several parts one is false, known if the others hold."""
+        """Adds that a condition does not hold. Of several parts one is false: it is known if the others hold."""
         parts = [part for part in conjuncts(condition) if self.decide(part) is not True]
         if len(parts) == 1:
             part = parts[0]
@@ -153,7 +153,7 @@ class Facts:
         return self.is_implied({"": Fraction(-1)})
 
     def bounds_of(self, condition: Expr) -> list[Linear]:
-        """Returns a comparison as linear forms of at least 0; none for another one."""
+        """Returns a comparison as linear forms of at least 0; none if it is not linear."""
         if condition.op not in ("=", "<", "<=", ">", ">="):
             return []
         left, right = map(linear, condition.args)

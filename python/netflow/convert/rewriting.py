@@ -46,7 +46,7 @@ class Rewriter:
         return None
 
     def quotient(self, expr: Expr) -> Expr:
-        """Returns `a * 0.01` for `a / 100`: a divisor is converted if its inverse is a finite decimal."""
+        """Returns `a * 0.01` for `a / 100`: a divisor is converted if it is a number with a finite inverse."""
         left, right = map(self.rewrite, expr.args)
         divisor = parse_numeral(right.value) if right.op == "num" else None
         inverse = decimal_text(Fraction(1) / divisor) if divisor else "/"

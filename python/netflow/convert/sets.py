@@ -24,7 +24,7 @@ class SetFacts:
         return self.shapes.of_set(expr) or 1
 
     def components(self, expr: Expr) -> list[Expr | None]:
-        """Returns for each component of a set's tuples a set of its members, None if none is known."""
+        """Returns for each component of a set's tuples a set that contains it, None if none is known."""
         if expr.op in ("cross",):
             return [part for side in expr.args for part in self.components(side)]
         if expr.op in ("diff", "inter") and self.dimension(expr) > 1:

@@ -61,7 +61,7 @@ class Writer:
         return f"{' '.join([first, ', '.join(bounds)]).rstrip()},\n   {', '.join(phrases)};"
 
     def node_alone(self) -> str:
-        """Returns the node of the arcs that are in no balance: they lead from there to the same node."""
+        """Returns the node of the arcs that are in no balance: they lead from it to itself."""
         if not self.alone:
             self.alone = self.names.fresh("Alone")
         return self.alone

@@ -149,7 +149,7 @@ def _paths(G: Graph, arcs: list[tuple[Any, Any, Fraction]], source: Hashable, ta
 
 
 def _tree(near: Mapping[Hashable, list[Hashable]], source: Hashable) -> dict[Hashable, Hashable]:
-    """Returns the nodes that a node reaches, each with the node before."""
+    """Returns the nodes that a node reaches, each with the node before it."""
     before, line = {source: source}, [source]
     for here in line:
         for there in near.get(here, []):

@@ -1,6 +1,6 @@
 """Hints for the errors of models: what the text suggests was meant.
 
-A hint can be wrong, so most are questions, unless the text leaves no doubt; each hint is a pair of its text and
+A hint can be wrong, so it is a question unless the text leaves no doubt; each hint is a pair of its text and
 whether this is sure.
 """
 from __future__ import annotations

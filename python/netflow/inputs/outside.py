@@ -53,7 +53,7 @@ class Outside:
                         self.cells[name, cell.key] = why
 
     def why(self, expr: Expr, key: Key) -> str:
-        """Returns why a key is outside a set; an empty text for a key inside, or the texts do not say."""
+        """Returns why a key is outside a set; an empty text for a key inside, or if the texts do not say."""
         try:
             return self.world.missing(expr, key, {})
         except (Unknown, ValueError, IndexError, TypeError):

@@ -7,7 +7,7 @@ from .python_data import PythonData
 
 
 def numbered_cells(piece: DataText) -> list[tuple[Cell, bool]]:
-    """Returns the cells of a data text that can be numbers, and the defaults as cells, each with whether that holds."""
+    """Returns the cells of a data text that can be numbers, and the defaults as cells, each with whether it is one."""
     result: list[tuple[Cell, bool]] = []
     for statement in piece.statements:
         result += [(cell, False) for cell in statement.cells if cell.token.kind == "word"]

@@ -190,7 +190,7 @@ def title_of(arguments: argparse.Namespace) -> str:
 
 
 def print_error(problem: ProgramError, found: Diagnostic | None, instance: Instance | None) -> None:
-    """Prints an error on standard error, with its explanation for one of the model or its data."""
+    """Prints an error on standard error, with its explanation if it is one of the model or its data."""
     options = instance.options if instance is not None else ()
     lines = [problem.message.rstrip("\n"), *(explanation(found, options) if found is not None else [])]
     sys.stderr.write("".join(f"{line}\n" for line in lines))
