@@ -30,9 +30,12 @@ use Rattle.net_bind.specs.declared.set_phrase.Claim.TheVariants as claims
 use Rattle.net_bind.specs.declared.set_phrase.SetPhrase.{SetPhrase}
 use Rattle.net_bind.specs.declared.set_phrase.Claims.{Claims}
 use Rattle.net_base.specs.Outcomes.{Outcome, and_then, each, rejected, rejected_as}
-use Rattle.net_bind.specs.SetPhrases.{set_word, is_dimension, claimed, set_phrase, dimension_of, agreed, with_phrase, in_body, unclaimed, set_phrases, becomes, assigned}
+use Rattle.net_bind.specs.SetPhrases.{set_word, is_dimension, claimed, evaluated, as_within, product_claim, claim_of, set_phrase, dimension_of, agreed, with_phrase, in_body, unclaimed, set_phrases, becomes, assigned}
 use Rattle.net_bind.specs.BoundSets.{is_allowed, allowed}
+use Rattle.net_bind.specs.Factors.{SizedSet, is_product, product_of}
+use Rattle.net_bind.proofs.Products.{IsSet, products_are_sets}
 use Rattle.net_bind.proofs.RowsTaken.{then_ok, is_ok}
+use Rattle.net_meaning.proofs.Giving.{gives_ok}
 
 -- a dimension is at most four, and a set is one
 abbrev IsClaim : Claim → Type 0
@@ -70,11 +73,27 @@ is_claim words.Becomes at (Several t) c g e = cc
 is_claim words.Becomes at (Truth b) c g e = cc
 is_claim words.Other at v c g e = subst IsClaim (is_ok claims.Nothing c e) tt
 
+evaluated_claim : (w : World) → GivesSets w → (word : SetWord) (x : Tree) (c : Claim) → evaluated w word x ≡ Ok c → IsClaim c
+evaluated_claim w g word x c h = then_ok (value w [] x) (claimed word (span_of x)) c h (λ v e k. is_claim word (span_of x) v c (λ d ts s. g [] x d ts (e ∙ ap (λ u. Ok u) s)) k)
+
+product_within : (at : Span) (o : Option SizedSet) (c : Claim) → IsSet o → as_within at o ≡ Ok c → IsClaim c
+product_within at (Some a) c s e = subst IsClaim (is_ok (claims.Within a.dimension a.tuples) c e) s
+product_within at None c s e = cc
+
+is_claim_of : (w : World) → GivesSets w → (word : SetWord) (x : Tree) (c : Claim) → claim_of w word x ≡ Ok c → IsClaim c
+is_claim_of w g words.Within x c h = go (is_product x) h
+  where
+    go : (b : Bool) → (if b then product_claim w x else evaluated w words.Within x) ≡ Ok c → IsClaim c
+    go true k = then_ok (product_of w x) (as_within (span_of x)) c k (λ o e i. product_within (span_of x) o c (gives_ok IsSet (product_of w x) o (products_are_sets w g x) e) i)
+    go false k = evaluated_claim w g words.Within x c k
+is_claim_of w g words.Dimension x c h = evaluated_claim w g words.Dimension x c h
+is_claim_of w g words.Becomes x c h = evaluated_claim w g words.Becomes x c h
+is_claim_of w g words.Other x c h = evaluated_claim w g words.Other x c h
+
 phrase_claims : (w : World) → GivesSets w → (word : SetWord) (x : Tree) (p : SetPhrase) → set_phrase w word x ≡ Ok p → IsClaim p.claim
 phrase_claims w g word x p h =
-    then_ok (value w [] x) (λ v. and_then (claimed word (span_of x) v) (λ c. Ok (record { at = span_of x; claim = c }))) p h (λ v e k.
-    then_ok (claimed word (span_of x) v) (λ c. Ok (record { at = span_of x; claim = c })) p k (λ c i l.
-    subst (λ (q : SetPhrase). IsClaim q.claim) (is_ok (record { at = span_of x; claim = c }) p l) (is_claim word (span_of x) v c (λ d ts s. g [] x d ts (e ∙ ap (λ u. Ok u) s)) i)))
+    then_ok (claim_of w word x) (λ c. Ok (record { at = span_of x; claim = c })) p h (λ c i k.
+    subst (λ (q : SetPhrase). IsClaim q.claim) (is_ok (record { at = span_of x; claim = c }) p k) (is_claim_of w g word x c i))
 
 -- ---- dimensions in which phrases agree
 

@@ -27,7 +27,9 @@ use Rattle.net_bind.specs.declared.set_phrase.SetWord.TheVariants as words
 use Rattle.net_bind.specs.declared.set_phrase.Claim.{Claim}
 use Rattle.net_bind.specs.declared.set_phrase.SetPhrase.{SetPhrase}
 use Rattle.net_bind.specs.declared.set_phrase.Claims.{Claims}
-use Rattle.net_bind.specs.SetPhrases.{set_word, is_dimension, dimension, as_set, claimed, set_phrase, dimension_of, agreed, with_phrase, in_body, unclaimed, set_phrases, assigned}
+use Rattle.net_bind.specs.Factors.{SizedSet, is_product, product_of}
+use Rattle.net_bind.proofs.Products.{finds_product}
+use Rattle.net_bind.specs.SetPhrases.{set_word, is_dimension, dimension, as_set, claimed, evaluated, as_within, product_claim, claim_of, set_phrase, dimension_of, agreed, with_phrase, in_body, unclaimed, set_phrases, assigned}
 use Rattle.net_bind.specs.SetData.{items_from, items, closed_with, closed, opened, with_item, set_rows, begins_at, all_of_size, without_points, whole_group, whole_groups, cut, leading_size, agrees, given_rows, with_member, with_statement, given_set}
 use Rattle.net_bind.specs.Cells.{tuple_in}
 use Rattle.net_bind.specs.BoundSets.{one_of, is_allowed, allowed, set_of, bound_set}
@@ -189,10 +191,22 @@ module _ (P : Places) where
   abbrev PhraseHasSpans : SetPhrase → Type 0
   PhraseHasSpans p = P Model p.at
 
+  finds_evaluated : (w : World) (word : SetWord) (x : Tree) → Stands (P Model) x → Finds P (evaluated w word x)
+  finds_evaluated w word x h = finds_then P (value w [] x) (claimed word (span_of x)) (finds_value P w [] x h) (finds_claimed word (span_of x) (whole_stands (P Model) x h))
+
+  finds_within : (at : Span) → P Model at → (o : Option SizedSet) → Finds P (as_within at o)
+  finds_within at h (Some a) = tt
+  finds_within at h None = h
+
+  finds_claim_of : (w : World) (word : SetWord) (x : Tree) → Stands (P Model) x → Finds P (claim_of w word x)
+  finds_claim_of w words.Within x h =
+      finds_if P (is_product x) _ _ (finds_then P (product_of w x) (as_within (span_of x)) (finds_product P w x h) (finds_within (span_of x) (whole_stands (P Model) x h))) (finds_evaluated w words.Within x h)
+  finds_claim_of w words.Dimension x h = finds_evaluated w words.Dimension x h
+  finds_claim_of w words.Becomes x h = finds_evaluated w words.Becomes x h
+  finds_claim_of w words.Other x h = finds_evaluated w words.Other x h
+
   gives_set_phrase : (w : World) (word : SetWord) (x : Tree) → Stands (P Model) x → Gives P PhraseHasSpans (set_phrase w word x)
-  gives_set_phrase w word x h =
-      gives_after P PhraseHasSpans (value w [] x) _ (finds_value P w [] x h) (λ v.
-      gives_after P PhraseHasSpans (claimed word (span_of x) v) _ (finds_claimed word (span_of x) (whole_stands (P Model) x h) v) (λ c. whole_stands (P Model) x h))
+  gives_set_phrase w word x h = gives_after P PhraseHasSpans (claim_of w word x) _ (finds_claim_of w word x h) (λ c. whole_stands (P Model) x h)
 
   finds_agreed : (at : Span) → P Model at → (d e : Option ℕ) → Finds P (agreed at d e)
   finds_agreed at h None e = tt

@@ -38,16 +38,18 @@ use Rattle.net_bind.specs.declared.set_phrase.Claim.TheVariants as claims
 use Rattle.net_bind.specs.declared.set_phrase.Claims.{Claims}
 use Rattle.net_bind.specs.declared.set_phrase.SetPhrase.{SetPhrase}
 use Rattle.net_bind.specs.BoundSets.{is_allowed}
-use Rattle.net_bind.specs.SetPhrases.{set_word, is_dimension, claimed, set_phrase, dimension_of, agreed, with_phrase, in_body, becomes, assigned}
+use Rattle.net_bind.specs.SetPhrases.{set_word, is_dimension, claimed, evaluated, as_within, product_claim, claim_of, set_phrase, dimension_of, agreed, with_phrase, in_body, becomes, assigned}
+use Rattle.net_bind.specs.Factors.{SizedSet, is_product, product_of}
+use Rattle.net_bind.specs.declared.set_phrase.SetWord.TheVariants as words
+use Rattle.net_bind.proofs.Products.{IsSet, Means, products_are_sets, products_are_meant}
 use Rattle.net_bind.proofs.RowsTaken.{then_ok, is_ok}
+use Rattle.net_meaning.proofs.Giving.{gives_ok}
 
 -- ---- the phrases of a set
 
 -- what the code finds in a phrase; d is the dimension on which all phrases agree
 pub record IsClaimed (w : World) (d : Option ℕ) (r : Role) (x : Tree) (c : Claim) : Type 0 where
-  pub found : Value
-  pub value : value w [] x ≡ Ok found
-  pub claim : claimed (set_word r) (span_of x) found ≡ Ok c
+  pub claim : claim_of w (set_word r) x ≡ Ok c
   pub agrees : (n : ℕ) → dimension_of c ≡ Some n → d ≡ Some n
 
 abbrev pub IsClaimedIn : World → Option ℕ → Role → Body → Claim → Type 0
@@ -93,20 +95,19 @@ valued_body _ _ h = absurd h
 claim_more : (w : World) (p : Phrase) (ps : List Phrase) (x : Tree) (c next e : Claims) → p.body ≡ valued x → in_body w (set_word (role_of p.word)) (valued x) c ≡ Ok next → Claimed w ps next e → Claimed w (p ∷ ps) c e
 claim_more w p ps x c next e b i h =
     then_ok (set_phrase w (set_word (role_of p.word)) x) (with_phrase c) next i (λ q j k.
-    then_ok (value w [] x) (λ v. and_then (claimed (set_word (role_of p.word)) (span_of x) v) (λ a. Ok (record { at = span_of x; claim = a }))) q j (λ v f g.
-    then_ok (claimed (set_word (role_of p.word)) (span_of x) v) (λ a. Ok (record { at = span_of x; claim = a })) q g (λ a m o.
+    then_ok (claim_of w (set_word (role_of p.word)) x) (λ a. Ok (record { at = span_of x; claim = a })) q j (λ a m o.
     then_ok (agreed q.at c.dimension (dimension_of q.claim)) (λ d. Ok (record { dimension = d; phrases = c.phrases ++ q ∷ [] })) next k (λ d s t.
     let same : (record { dimension = d; phrases = c.phrases ++ q ∷ [] }) ≡ next = is_ok (record { dimension = d; phrases = c.phrases ++ q ∷ [] }) next t in
     let own : a ≡ q.claim = ap (λ (z : SetPhrase). z.claim) (is_ok (record { at = span_of x; claim = a }) q o) in
     let stay = agreed_stays q.at c.dimension (dimension_of q.claim) d s in
     let to_end : Stays d e.dimension = λ n z. h.stays n (sym (ap (λ (y : Claims). y.dimension) same) ∙ z) in
-    let claim : IsClaimed w e.dimension (role_of p.word) x q.claim = record { found = v; value = f; claim = m ∙ ap (λ z. Ok z) own; agrees = λ n z. to_end n (stay.1 n z) } in
+    let claim : IsClaimed w e.dimension (role_of p.word) x q.claim = record { claim = m ∙ ap (λ z. Ok z) own; agrees = λ n z. to_end n (stay.1 n z) } in
     record {
       more = q ∷ h.more;
       phrases = h.phrases ∙ ap (λ (y : Claims). y.phrases ++ h.more) (sym same) ∙ append_assoc c.phrases (q ∷ []) h.more;
       stays = λ n z. to_end n (stay.0 n z);
       are = (subst (λ z. IsClaimedIn w e.dimension (role_of p.word) z q.claim) (sym b) claim, h.are);
-    }))))
+    })))
 
 pub claims_are : (w : World) (ps : List Phrase) (c e : Claims) → ArePhrases OfSet ps → each (λ p. in_body w (set_word (role_of p.word)) p.body) ps c ≡ Ok e → Claimed w ps c e
 claims_are w [] c e h k = let same = is_ok c e k in record { more = []; phrases = sym (ap (λ (z : Claims). z.phrases) same) ∙ sym (append-nil c.phrases); stays = λ n z. sym (ap (λ (y : Claims). y.dimension) same) ∙ z; are = tt }
@@ -125,28 +126,57 @@ Gives false c = (later : Option (List Tuple)) → becomes c later ≡ later
 no_set : (us : List Tuple) (ts : List Tuple) → None ≡ Some us → us ≡ ts
 no_set us ts e = cc
 
-gives : (r : Role) (at : Span) (v : Value) (c : Claim) → claimed (set_word r) at v ≡ Ok c → Gives (is_becomes r) c
-gives roles.Becomes at (Many d us) c e = subst (Gives true) (is_ok (claims.Becomes d us) c e) (us, λ later. refl)
-gives roles.Becomes at (One m) c e = cc
-gives roles.Becomes at (Several t) c e = cc
-gives roles.Becomes at (Truth b) c e = cc
-gives (roles.Relation relations.Within) at (Many d us) c e = subst (Gives false) (is_ok (claims.Within d us) c e) (λ later. refl)
-gives (roles.Relation relations.Within) at (One m) c e = cc
-gives (roles.Relation relations.Within) at (Several t) c e = cc
-gives (roles.Relation relations.Within) at (Truth b) c e = cc
-gives (roles.Phrase begins.Dimen) at (One (Number n)) c e = go (is_dimension n) e
+gives_evaluated : (r : Role) (at : Span) (v : Value) (c : Claim) → claimed (set_word r) at v ≡ Ok c → Gives (is_becomes r) c
+gives_evaluated roles.Becomes at (Many d us) c e = subst (Gives true) (is_ok (claims.Becomes d us) c e) (us, λ later. refl)
+gives_evaluated roles.Becomes at (One m) c e = cc
+gives_evaluated roles.Becomes at (Several t) c e = cc
+gives_evaluated roles.Becomes at (Truth b) c e = cc
+gives_evaluated (roles.Relation relations.Within) at (Many d us) c e = subst (Gives false) (is_ok (claims.Within d us) c e) (λ later. refl)
+gives_evaluated (roles.Relation relations.Within) at (One m) c e = cc
+gives_evaluated (roles.Relation relations.Within) at (Several t) c e = cc
+gives_evaluated (roles.Relation relations.Within) at (Truth b) c e = cc
+gives_evaluated (roles.Phrase begins.Dimen) at (One (Number n)) c e = go (is_dimension n) e
   where
     go : (b : Bool) → (if b then (let o : Outcome Claim = Ok (claims.Dimension (unsigned_abs n)) in o) else rejected Arity at) ≡ Ok c → Gives false c
     go true k = subst (Gives false) (is_ok (claims.Dimension (unsigned_abs n)) c k) (λ later. refl)
     go false k = cc
-gives (roles.Phrase begins.Dimen) at (One (Text t)) c e = cc
-gives (roles.Phrase begins.Dimen) at (Several t) c e = cc
-gives (roles.Phrase begins.Dimen) at (Many d us) c e = cc
-gives (roles.Phrase begins.Dimen) at (Truth b) c e = cc
-gives _ at v c e = subst (Gives false) (is_ok claims.Nothing c e) (λ later. refl)
+gives_evaluated (roles.Phrase begins.Dimen) at (One (Text t)) c e = cc
+gives_evaluated (roles.Phrase begins.Dimen) at (Several t) c e = cc
+gives_evaluated (roles.Phrase begins.Dimen) at (Many d us) c e = cc
+gives_evaluated (roles.Phrase begins.Dimen) at (Truth b) c e = cc
+gives_evaluated _ at v c e = subst (Gives false) (is_ok claims.Nothing c e) (λ later. refl)
+
+-- what a phrase says: its expression is evaluated, or is a product after `within`
+data IsSaid (w : World) (r : Role) (x : Tree) (c : Claim) : Type 0 where
+  by_value : (v : Value) → value w [] x ≡ Ok v → claimed (set_word r) (span_of x) v ≡ Ok c → IsSaid w r x c
+  by_product : (a : SizedSet) → r ≡ roles.Relation relations.Within → product_of w x ≡ Ok (Some a) → claims.Within a.dimension a.tuples ≡ c → IsSaid w r x c
+
+evaluated_said : (w : World) (r : Role) (x : Tree) (c : Claim) → evaluated w (set_word r) x ≡ Ok c → IsSaid w r x c
+evaluated_said w r x c h = then_ok (value w [] x) (claimed (set_word r) (span_of x)) c h (λ v e k. by_value v e k)
+
+product_said : (w : World) (x : Tree) (c : Claim) → (o : Option SizedSet) → product_of w x ≡ Ok o → as_within (span_of x) o ≡ Ok c → IsSaid w (roles.Relation relations.Within) x c
+product_said w x c (Some a) e k = by_product a refl e (is_ok (claims.Within a.dimension a.tuples) c k)
+product_said w x c None e k = cc
+
+within_said : (w : World) (x : Tree) (c : Claim) → claim_of w words.Within x ≡ Ok c → IsSaid w (roles.Relation relations.Within) x c
+within_said w x c h = go (is_product x) h
+  where
+    go : (b : Bool) → (if b then product_claim w x else evaluated w words.Within x) ≡ Ok c → IsSaid w (roles.Relation relations.Within) x c
+    go true k = then_ok (product_of w x) (as_within (span_of x)) c k (λ o e i. product_said w x c o e i)
+    go false k = evaluated_said w (roles.Relation relations.Within) x c k
+
+is_said : (w : World) (r : Role) (x : Tree) (c : Claim) → claim_of w (set_word r) x ≡ Ok c → IsSaid w r x c
+is_said w (roles.Relation relations.Within) x c h = within_said w x c h
+is_said w (roles.Phrase begins.Dimen) x c h = evaluated_said w (roles.Phrase begins.Dimen) x c h
+is_said w roles.Becomes x c h = evaluated_said w roles.Becomes x c h
+is_said w r x c h = evaluated_said w r x c h
+
+gives : (w : World) (r : Role) (x : Tree) (c : Claim) → IsSaid w r x c → Gives (is_becomes r) c
+gives w r x c (by_value v e k) = gives_evaluated r (span_of x) v c k
+gives w r x c (by_product a f e k) = subst (λ (z : Role). Gives (is_becomes z) c) (sym f) (subst (Gives false) k (λ later. refl))
 
 gives_in : (w : World) (d : Option ℕ) (r : Role) (b : Body) (c : Claim) → IsClaimedIn w d r b c → Gives (is_becomes r) c
-gives_in w d r (valued x) c h = gives r (span_of x) h.found c h.claim
+gives_in w d r (valued x) c h = gives w r x c (is_said w r x c h.claim)
 gives_in w d r plain c h = absurd h
 gives_in w d r (priced n x) c h = absurd h
 
@@ -237,13 +267,24 @@ satisfied w sets o d ts k roles.Becomes x (Several t) c e f a i own = cc
 satisfied w sets o d ts k roles.Becomes x (Truth b) c e f a i own = cc
 satisfied w sets o d ts k _ x v c e f a i own = tt
 
+-- the same of what a phrase says
+satisfied_by : (w : World) → HasSets w → (o : Option ℕ) (d : ℕ) (ts : List Tuple) → ((n : ℕ) → o ≡ Some n → n ≡ d) → (r : Role) (x : Tree) (c : Claim) → IsSaid w r x c
+    → ((n : ℕ) → dimension_of c ≡ Some n → o ≡ Some n) → is_allowed ts c ≡ true → ((us : List Tuple) → becomes c None ≡ Some us → us ≡ ts) → SatisfiesRole w d ts r x
+satisfied_by w sets o d ts k r x c (by_value v e f) a i own = satisfied w sets o d ts k r x v c e f a i own
+satisfied_by w sets o d ts k r x c (by_product p f e g) a i own = subst (λ (z : Role). SatisfiesRole w d ts z x) (sym f) (
+  p.tuples,
+  gives_ok (Means (env_of w []) x) (product_of w x) (Some p) (products_are_meant w sets x) e,
+  set_long p.dimension p.tuples d (gives_ok IsSet (product_of w x) (Some p) (products_are_sets w (keeps_sets w sets) x) e) (λ n s. k n (a n (ap dimension_of (sym g) ∙ s))),
+  subst (λ z. is_allowed ts z ≡ true) (sym g) i,
+)
+
 satisfied_in : (w : World) → HasSets w → (o : Option ℕ) (d : ℕ) (ts : List Tuple) → ((n : ℕ) → o ≡ Some n → n ≡ d) → (p : Phrase) (q : SetPhrase) → IsClaimedIn w o (role_of p.word) p.body q.claim → is_allowed ts q.claim ≡ true → IsOwn ts q → Satisfies w d ts (erased.phrase p)
 satisfied_in w sets o d ts k p q h i own = λ x e. go x p.body e h
   where
     go : (x : Expression) (b : Body) → world.expression_of (erased.body b) ≡ Some x → IsClaimedIn w o (role_of p.word) b q.claim → world.SatisfiesRole w d ts (role_of p.word) x
     go x plain e h = absurd h
     go x (priced n y) e h = absurd h
-    go x (valued y) e h = subst (world.SatisfiesRole w d ts (role_of p.word)) (same (expression y) x e) (satisfied w sets o d ts k (role_of p.word) y h.found q.claim h.value h.claim h.agrees i own)
+    go x (valued y) e h = subst (world.SatisfiesRole w d ts (role_of p.word)) (same (expression y) x e) (satisfied_by w sets o d ts k (role_of p.word) y q.claim (is_said w (role_of p.word) y q.claim h.claim) h.agrees i own)
       where
         same : (y x : Expression) → Some y ≡ Some x → y ≡ x
         same y x e = cc

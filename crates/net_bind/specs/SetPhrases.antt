@@ -15,6 +15,7 @@ use Rattle.net_expr.specs.declared.value.Value.{Value}
 use Rattle.net_expr.specs.declared.value.Value.TheVariants.{One, Many}
 use Rattle.net_expr.specs.Values.{value}
 use Rattle.net_expr.specs.Worlds.{World}
+use Rattle.net_bind.specs.Factors.{SizedSet, is_product, product_of}
 use Rattle.net_bind.specs.declared.set_phrase.SetWord.{SetWord}
 use Rattle.net_bind.specs.declared.set_phrase.SetWord.TheVariants as words
 use Rattle.net_bind.specs.declared.set_phrase.Claim.{Claim}
@@ -48,8 +49,24 @@ claimed words.Within at v = as_set claims.Within at v
 claimed words.Becomes at v = as_set claims.Becomes at v
 claimed words.Other at v = Ok claims.Nothing
 
+-- the content of a phrase whose expression is evaluated
+abbrev pub evaluated : World → SetWord → Tree → Outcome Claim
+evaluated w word x = and_then (value w [] x) (claimed word (span_of x))
+
+abbrev pub as_within : Span → Option SizedSet → Outcome Claim
+as_within at (Some a) = Ok (claims.Within a.dimension a.tuples)
+as_within at None = rejected KindMismatch at
+
+abbrev pub product_claim : World → Tree → Outcome Claim
+product_claim w x = and_then (product_of w x) (as_within (span_of x))
+
+-- a product after `within` is not enumerated
+abbrev pub claim_of : World → SetWord → Tree → Outcome Claim
+claim_of w words.Within x = if is_product x then product_claim w x else evaluated w words.Within x
+claim_of w word x = evaluated w word x
+
 abbrev pub set_phrase : World → SetWord → Tree → Outcome SetPhrase
-set_phrase w word x = and_then (value w [] x) (λ v. and_then (claimed word (span_of x) v) (λ c. Ok (record { at = span_of x; claim = c })))
+set_phrase w word x = and_then (claim_of w word x) (λ c. Ok (record { at = span_of x; claim = c }))
 
 -- the declared dimension, if any; `{}` has none
 abbrev pub dimension_of : Claim → Option ℕ

@@ -1,21 +1,59 @@
-//! Sets of the form `A cross B`, represented by their factors.
+//! Products after `within`, represented by their factors.
 
-ghost use Rattle.std.specs.Prelude.{◌≡◌, [], Ok, Some};
-ghost use Rattle.std.specs.Option.{option_map, IfSome};
-ghost use Rattle.net_base.specs.declared.diagnostic.Span.{Span as Place};
+ghost use Rattle.std.specs.Prelude.{◌≡◌};
+ghost use Rattle.net_base.specs.Outcomes.{Refines};
+ghost use Rattle.net_tree.specs.Spans as trees;
 ghost use Rattle.net_tree.specs.View.{tree, links_of};
 ghost use Rattle.net_expr.specs.Sets as sets;
-ghost use Rattle.net_expr.specs.Values.{value as value_of};
-ghost use Rattle.net_expr.specs.declared.value.Value.TheVariants.{Many};
 ghost use Rattle.net_bind.specs.Factors as forms;
 ghost use Rattle.net_tree.specs.Operations.{operation};
 
 use crate::boxed_values::{StoredSet, unboxed, value_of};
 use crate::superset::Superset;
+use net_base::{ErrorCode, Fault, Span};
 use net_expr::{Env, Value};
-use net_sets::{ARITY_LIMIT, Cow, TUPLES_LIMIT, TupleSet, narrowest, widest};
-use net_tree::{BinOp, Expr, LinkedOperand, Operator};
+use net_sets::{ARITY_LIMIT, TupleSet, narrowest, widest};
+use net_tree::{BinOp, Expr, LinkedOperand, Operator, span_of};
 use std::alloc::Global;
+use std::marker::Model;
+
+/// A set whose tuples have its dimension, as a factor of a product.
+#[derive(Drop)]
+struct Factor<'w, 's> {
+    dimension: Option<u8>,
+    set: StoredSet<'w, 's>,
+}
+
+impl<'w, 's> Model for Factor<'w, 's> {
+    ghost use Rattle.net_sets.specs.Operations.{AreLong};
+    ghost use Rattle.net_expr.specs.Sets.{counted};
+    ghost use Rattle.net_bind.specs.Factors.{SizedSet};
+
+    ghost Value = { SizedSet };
+
+    ghost view = { λ f. record { dimension = f.dimension; tuples = f.set } };
+
+    ghost invariant = { λ f. AreLong (counted f.dimension) f.set };
+}
+
+/// A set whose tuples have its dimension, represented by its factors.
+#[derive(Drop)]
+pub(crate) struct Product<'w, 's> {
+    dimension: Option<u8>,
+    tuples: Superset<'w, 's>,
+}
+
+impl<'w, 's> Model for Product<'w, 's> {
+    ghost use Rattle.net_sets.specs.Operations.{AreLong};
+    ghost use Rattle.net_expr.specs.Sets.{counted};
+    ghost use Rattle.net_bind.specs.Factors.{SizedSet};
+
+    ghost Value = { SizedSet };
+
+    ghost view = { λ p. record { dimension = p.dimension; tuples = p.tuples } };
+
+    ghost invariant = { λ p. AreLong (counted p.dimension) p.tuples };
+}
 
 fn is_cross(operator: &Operator<'_>) -> bool
     ensures { result ≡ forms.is_cross (operation operator.now) }
@@ -23,78 +61,28 @@ fn is_cross(operator: &Operator<'_>) -> bool
     matches!(operator.op(), BinOp::Cross)
 }
 
-/// Returns the right operand of a single `cross`.
-fn after_cross<'a, 's>(links: &'a [LinkedOperand<'s>]) -> Option<&'a Expr<'s>>
-    ensures { option_map (λ x. tree x.now) result ≡ forms.after_cross (links_of links.entry.now) }
+fn are_crosses(links: &[LinkedOperand<'_>]) -> bool
+    ensures { result ≡ forms.are_crosses (links_of links.now) }
 {
-    match links {
-        [] => None,
-        [link] => {
-            if is_cross(&link.operator) {
-                Some(&link.operand)
-            } else {
-                None
-            }
+    for link in links {
+        if !is_cross(&link.operator) {
+            return false;
         }
-        [_, _, ..] => None,
     }
+    true
 }
 
-/// Returns the two sides of `A cross B`, in parentheses or not.
+/// Returns whether an expression is a product by its form, in parentheses or not.
 #[tactic(auto, using(net_tree::proofs::Views::views))]
-fn factors<'a, 's>(expr: &'a Expr<'s>) -> Option<(&'a Expr<'s>, &'a Expr<'s>)>
-    ensures { option_map (λ p. (tree p.0.now, tree p.1.now)) result ≡ forms.factors (tree expr.entry.now) }
+pub(crate) fn is_product(expr: &Expr<'_>) -> bool
+    ensures { result ≡ forms.is_product (tree expr.now) }
 {
     match expr {
-        Expr::Parens(parts) => factors(&parts.get().1),
-        Expr::Chain(_, operands) => {
-            let series = operands.get();
-            match after_cross(series.more.as_slice()) {
-                None => None,
-                Some(second) => Some((&series.first, second)),
-            }
-        }
-        Expr::Leaf(_) | Expr::Indexed(_) | Expr::Tuple(_) | Expr::Negated(_) => None,
-        Expr::Braced(_) | Expr::Signed(_) | Expr::Reduction(_, _) => None,
-        Expr::If(_, _, _) | Expr::Net(_) => None,
-    }
-}
-
-/// Boxes a set, with its dimension. Returns `None` if memory runs out.
-fn stored<'w, 's>(
-    alloc: Global,
-    dimension: Option<u8>,
-    set: Cow<'w, 's>,
-) -> Option<(Option<u8>, StoredSet<'w, 's>)>
-    ensures { IfSome result (λ p. (p.0 ≡ dimension) × (p.1 ≡ set.entry)) }
-{
-    match StoredSet::new(alloc, set) {
-        Ok(set) => Some((dimension, set)),
-        Err(_) => None,
-    }
-}
-
-/// Returns a value as a set, if it is one.
-fn set_in<'w, 's>(alloc: Global, value: Value<'w, 's>) -> Option<(Option<u8>, StoredSet<'w, 's>)>
-    ensures { IfSome result (λ p. value.entry ≡ Many p.0 p.1) }
-{
-    match value.into_set() {
-        Some((dimension, set)) => stored(alloc, dimension, set),
-        None => None,
-    }
-}
-
-/// Evaluates an expression as a set. Returns `None` if it is not one.
-fn set_of<'w, 's>(
-    alloc: Global,
-    env: &Env<'w, 's>,
-    expr: &Expr<'s>,
-) -> Option<(Option<u8>, StoredSet<'w, 's>)>
-    ensures { IfSome result (λ p. value_of env.now [] (tree expr.now) ≡ Ok (Many p.0 p.1)) }
-{
-    match value_of(alloc, env, expr) {
-        Ok(value) => set_in(alloc, unboxed(value)),
-        Err(_fault) => None,
+        Expr::Parens(parts) => is_product(&parts.get().1),
+        Expr::Chain(_, operands) => are_crosses(operands.get().more.as_slice()),
+        Expr::Leaf(_) | Expr::Indexed(_) | Expr::Tuple(_) | Expr::Negated(_) => false,
+        Expr::Braced(_) | Expr::Signed(_) | Expr::Reduction(_, _) => false,
+        Expr::If(_, _, _) | Expr::Net(_) => false,
     }
 }
 
@@ -108,45 +96,150 @@ fn counted(dimension: Option<u8>) -> usize
     }
 }
 
-/// Returns whether the product of two sets is a set that its factors can represent.
-fn can_part(d: Option<u8>, first: &TupleSet<'_>, e: Option<u8>, second: &TupleSet<'_>) -> bool
-    ensures { result ≡ forms.can_part d first.now e second.now }
+fn have_size(size: usize, set: &TupleSet<'_>) -> bool
+    ensures { result ≡ forms.have_size size set.now }
 {
-    counted(d) + counted(e) <= ARITY_LIMIT
-        && widest(first) + widest(second) <= ARITY_LIMIT
-        && widest(first) <= narrowest(first)
-        && first.len() * second.len() <= TUPLES_LIMIT
+    widest(set) <= size && size <= narrowest(set)
 }
 
-/// Returns the product of two sets and its dimension, if its factors can represent it.
-fn product<'w, 's>(
-    d: Option<u8>,
-    first: StoredSet<'w, 's>,
-    e: Option<u8>,
-    second: StoredSet<'w, 's>,
-) -> Option<(u8, Superset<'w, 's>)>
-    ensures { IfSome result (λ p. (at : Place) → sets.cross at d first.entry e second.entry ≡ Ok (Many (Some p.0) p.1)) }
+fn as_factor<'w, 's>(
+    alloc: Global,
+    at: Span,
+    value: Value<'w, 's>,
+) -> Result<Option<Factor<'w, 's>>, Fault>
+    ensures { Refines (forms.as_factor at value.entry) result }
 {
-    if can_part(d, first.get(), e, second.get()) {
-        let size = counted(d) + counted(e);
-        let width = widest(first.get());
-        Some((size as u8, Superset::crossed(width, first, second)))
-    } else {
-        None
+    match value.into_set() {
+        None => Ok(None),
+        Some((dimension, set)) => {
+            let set = StoredSet::new(alloc, set)?;
+            if have_size(counted(dimension), set.get()) {
+                Ok(Some(Factor { dimension, set }))
+            } else {
+                Err(Fault::of_model(ErrorCode::Arity, at))
+            }
+        }
     }
 }
 
-/// Returns the product that an expression is by its form, and its dimension, if its factors can
-/// represent it.
-pub(crate) fn crossed<'w, 's>(
+/// Evaluates a factor. Returns `None` if it is no set.
+fn factor_of<'w, 's>(
     alloc: Global,
     env: &Env<'w, 's>,
     expr: &Expr<'s>,
-) -> Option<(u8, Superset<'w, 's>)>
-    ensures { IfSome result (λ p. value_of env.now [] (tree expr.now) ≡ Ok (Many (Some p.0) p.1)) }
+) -> Result<Option<Factor<'w, 's>>, Fault>
+    ensures { Refines (forms.factor env.now (tree expr.now)) result }
 {
-    let (left, right) = factors(expr)?;
-    let (d, first) = set_of(alloc, env, left)?;
-    let (e, second) = set_of(alloc, env, right)?;
-    product(d, first, e, second)
+    let value = value_of(alloc, env, expr)?;
+    as_factor(alloc, span_of(expr), unboxed(value))
+}
+
+impl<'w, 's> Product<'w, 's> {
+    ghost use Rattle.std.specs.Prelude.{Some};
+
+    fn of_factor(alloc: Global, factor: Factor<'w, 's>) -> Product<'w, 's>
+        ensures { result ≡ factor.entry }
+    {
+        let Factor { dimension, set } = factor;
+        let tuples = Superset::whole(alloc, set);
+        Product { dimension, tuples }
+    }
+
+    /// Returns the dimension and the tuples.
+    pub(crate) fn into_parts(self) -> (Option<u8>, Superset<'w, 's>)
+        ensures dimension { result.0 ≡ self.entry.dimension }
+        ensures tuples { result.1 ≡ self.entry.tuples }
+    {
+        let Product { dimension, tuples } = self;
+        (dimension, tuples)
+    }
+
+    fn crossed(self, at: Span, factor: Factor<'w, 's>) -> Result<Option<Product<'w, 's>>, Fault>
+        ensures { Refines (forms.crossed at (Some self.entry) (Some factor.entry)) result }
+    {
+        let Product { dimension, tuples } = self;
+        let start = counted(dimension);
+        let size = start + counted(factor.dimension);
+        if size > ARITY_LIMIT {
+            return Err(Fault::of_model(ErrorCode::Arity, at));
+        }
+        let tuples = tuples.crossed(start, factor.set)?;
+        let dimension = Some(size as u8);
+        Ok(Some(Product { dimension, tuples }))
+    }
+}
+
+fn crossed<'w, 's>(
+    at: Span,
+    first: Option<Product<'w, 's>>,
+    second: Option<Factor<'w, 's>>,
+) -> Result<Option<Product<'w, 's>>, Fault>
+    ensures { Refines (forms.crossed at first.entry second.entry) result }
+{
+    match (first, second) {
+        (Some(first), Some(second)) => first.crossed(at, second),
+        (Some(_), None) | (None, _) => Err(Fault::of_model(ErrorCode::KindMismatch, at)),
+    }
+}
+
+/// Evaluates a set that is the only factor. Returns `None` if it is no set.
+fn single<'w, 's>(
+    alloc: Global,
+    env: &Env<'w, 's>,
+    expr: &Expr<'s>,
+) -> Result<Option<Product<'w, 's>>, Fault>
+    ensures { Refines (forms.factor env.now (tree expr.now)) result }
+{
+    match factor_of(alloc, env, expr)? {
+        Some(factor) => Ok(Some(Product::of_factor(alloc, factor))),
+        None => Ok(None),
+    }
+}
+
+/// Returns the product of a set with the factors after it, from left to right.
+fn with_factors<'w, 's>(
+    alloc: Global,
+    env: &Env<'w, 's>,
+    at: Span,
+    links: &[LinkedOperand<'s>],
+    first: Option<Product<'w, 's>>,
+) -> Result<Option<Product<'w, 's>>, Fault>
+    ensures { Refines (forms.with_factors at env.now (links_of links.now) first.entry) result }
+{
+    let mut all = first;
+    for link in links {
+        let factor = factor_of(alloc, env, &link.operand)?;
+        all = crossed(at, all, factor)?;
+    }
+    Ok(all)
+}
+
+/// Evaluates the factors of an expression that is a product by its form, and any other expression
+/// as one factor. Returns `None` if it is no set.
+#[tactic(auto, using(net_tree::proofs::Views::views))]
+pub(crate) fn product_of<'w, 's>(
+    alloc: Global,
+    env: &Env<'w, 's>,
+    expr: &Expr<'s>,
+) -> Result<Option<Product<'w, 's>>, Fault>
+    ensures { Refines (forms.product_of env.now (tree expr.now)) result }
+{
+    match expr {
+        Expr::Parens(parts) => product_of(alloc, env, &parts.get().1),
+        Expr::Chain(_, operands) => {
+            let series = operands.get();
+            let links = series.more.as_slice();
+            if are_crosses(links) {
+                let first = product_of(alloc, env, &series.first)?;
+                with_factors(alloc, env, span_of(expr), links, first)
+            } else {
+                single(alloc, env, expr)
+            }
+        }
+        Expr::Leaf(_) | Expr::Indexed(_) | Expr::Tuple(_) | Expr::Negated(_) => {
+            single(alloc, env, expr)
+        }
+        Expr::Braced(_) | Expr::Signed(_) | Expr::Reduction(_, _) => single(alloc, env, expr),
+        Expr::If(_, _, _) | Expr::Net(_) => single(alloc, env, expr),
+    }
 }

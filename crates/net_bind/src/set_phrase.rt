@@ -1,7 +1,7 @@
 //! Phrases of a set declaration: `dimen 2`, `within S`, `:= {1, 2}`.
 
-ghost use Rattle.std.specs.Prelude.{◌≡◌, IfOk, None, Ok, map};
-ghost use Rattle.std.specs.Option.{option_copied, IfSome};
+ghost use Rattle.std.specs.Prelude.{◌≡◌, IfOk, None, map};
+ghost use Rattle.std.specs.Option.{option_copied};
 ghost use Rattle.net_tree.specs.Spans as trees;
 ghost use Rattle.net_tree.specs.View.{tree, body_of, phrase_of};
 ghost use Rattle.net_base.specs.Outcomes.{Refines};
@@ -9,7 +9,7 @@ ghost use Rattle.net_bind.specs.SetPhrases as phrases;
 ghost use Rattle.net_bind.specs.declared.set_phrase.SetWord.TheVariants as words;
 
 use crate::boxed_values::{StoredSet, boxed, unboxed, value_of};
-use crate::crossing::crossed;
+use crate::crossing::{is_product, product_of};
 use crate::superset::Superset;
 use net_base::{Boxed, ErrorCode, Fault, Items, Span};
 use net_expr::{Env, Value};
@@ -100,7 +100,7 @@ fn within<'w, 's>(alloc: Global, at: Span, value: Value<'w, 's>) -> Result<Claim
     match value.into_set() {
         Some((dimension, set)) => {
             let set = StoredSet::new(alloc, set)?;
-            Ok(Claim::Within(dimension, Superset::whole(set)))
+            Ok(Claim::Within(dimension, Superset::whole(alloc, set)))
         }
         None => Err(Fault::of_model(ErrorCode::KindMismatch, at)),
     }
@@ -115,34 +115,55 @@ fn becomes<'w, 's>(alloc: Global, at: Span, value: Value<'w, 's>) -> Result<Clai
     }
 }
 
-fn evaluated_phrase<'w, 's>(
+fn evaluated<'w, 's>(
     alloc: Global,
     env: &Env<'w, 's>,
     word: SetWord,
     expr: &Expr<'s>,
-) -> Result<SetPhrase<'w, 's>, Fault>
-    ensures { Refines (phrases.set_phrase env.now word (tree expr.now)) result }
+) -> Result<Claim<'w, 's>, Fault>
+    ensures { Refines (phrases.evaluated env.now word (tree expr.now)) result }
 {
     let value = value_of(alloc, env, expr)?;
-    let at = span_of(expr);
-    let claim = claimed(alloc, word, at, value)?;
-    Ok(SetPhrase { at, claim })
+    claimed(alloc, word, span_of(expr), value)
 }
 
-/// Returns the superset of a `within` phrase, if the expression is a product that need not be
-/// enumerated.
-fn crossed_phrase<'w, 's>(
+/// Returns the content of `within` and a product, which is not enumerated.
+fn product_claim<'w, 's>(
     alloc: Global,
     env: &Env<'w, 's>,
     expr: &Expr<'s>,
-) -> Option<SetPhrase<'w, 's>>
-    ensures { IfSome result (λ p. phrases.set_phrase env.now words.Within (tree expr.now) ≡ Ok p) }
+) -> Result<Claim<'w, 's>, Fault>
+    ensures { Refines (phrases.product_claim env.now (tree expr.now)) result }
 {
-    let (dimension, superset) = crossed(alloc, env, expr)?;
-    Some(SetPhrase {
-        at: span_of(expr),
-        claim: Claim::Within(Some(dimension), superset),
-    })
+    match product_of(alloc, env, expr)? {
+        Some(product) => {
+            let (dimension, tuples) = product.into_parts();
+            Ok(Claim::Within(dimension, tuples))
+        }
+        None => Err(Fault::of_model(ErrorCode::KindMismatch, span_of(expr))),
+    }
+}
+
+fn claim_of<'w, 's>(
+    alloc: Global,
+    env: &Env<'w, 's>,
+    word: SetWord,
+    expr: &Expr<'s>,
+) -> Result<Claim<'w, 's>, Fault>
+    ensures { Refines (phrases.claim_of env.now word (tree expr.now)) result }
+{
+    match word {
+        SetWord::Within => {
+            if is_product(expr) {
+                product_claim(alloc, env, expr)
+            } else {
+                evaluated(alloc, env, word, expr)
+            }
+        }
+        SetWord::Dimension | SetWord::Becomes | SetWord::Other => {
+            evaluated(alloc, env, word, expr)
+        }
+    }
 }
 
 fn set_phrase<'w, 's>(
@@ -153,13 +174,9 @@ fn set_phrase<'w, 's>(
 ) -> Result<SetPhrase<'w, 's>, Fault>
     ensures { Refines (phrases.set_phrase env.now word (tree expr.now)) result }
 {
-    match word {
-        SetWord::Within => match crossed_phrase(alloc, env, expr) {
-            Some(phrase) => Ok(phrase),
-            None => evaluated_phrase(alloc, env, word, expr),
-        },
-        _ => evaluated_phrase(alloc, env, word, expr),
-    }
+    let claim = claim_of(alloc, env, word, expr)?;
+    let at = span_of(expr);
+    Ok(SetPhrase { at, claim })
 }
 
 fn dimension_of(claim: &Claim<'_, '_>) -> Option<u8>

@@ -1,88 +1,93 @@
 //! The supersets of a declared set.
 
-ghost use Rattle.std.specs.Prelude.{◌≡◌, []};
+ghost use Rattle.std.specs.Prelude.{◌≡◌, ◌≤◌, [], IfOk, length};
+ghost use Rattle.net_sets.specs.Limits.{arity_limit};
 ghost use Rattle.net_sets.specs.Operations.{AreLong, union, product, is_within};
 ghost use Rattle.net_sets.specs.Sets.{has};
+ghost use Rattle.net_bind.specs.Supersets.{crossed_by, AreParted};
 
 use crate::boxed_values::StoredSet;
-use net_sets::{Tuple, TupleSet};
+use net_base::Items;
+use net_sets::{Member, Tuple, TupleSet};
+use std::alloc::{AllocError, Global};
 use std::marker::Model;
 
-/// The representation of the tuples of a superset.
+/// A further factor of a product, and the number of members before its own in each tuple.
 #[derive(Drop)]
-enum Extent<'w, 's> {
-    Whole(StoredSet<'w, 's>),
-    /// The product of two sets, and the number of members of each tuple of the first.
-    Crossed(usize, StoredSet<'w, 's>, StoredSet<'w, 's>),
+struct Crossed<'w, 's> {
+    start: usize,
+    set: StoredSet<'w, 's>,
 }
 
 /// A superset of a declared set, which contracts see as the list of its tuples. A product is
-/// represented by its two factors.
+/// represented by its factors.
 #[derive(Drop)]
 pub(crate) struct Superset<'w, 's> {
-    extent: Extent<'w, 's>,
+    first: StoredSet<'w, 's>,
+    more: Items<Crossed<'w, 's>>,
 }
 
 impl<'w, 's> Model for Superset<'w, 's> {
     ghost use Rattle.std.specs.Prelude.{List};
     ghost use Rattle.net_sets.specs.declared.member.Member.{Member};
-    ghost use Rattle.net_bind.specs.Supersets.{tuples_within, IsParted};
+    ghost use Rattle.net_bind.specs.Supersets.{crossed_by, AreParted};
 
     ghost Value = { List (List Member) };
 
-    ghost view = { λ f. tuples_within f.extent };
+    ghost view = { λ s. crossed_by s.first s.more };
 
-    ghost invariant = { λ f. IsParted f.extent };
+    ghost invariant = { λ s. AreParted s.first s.more };
 }
 
-/// Returns whether the product of two sets contains a tuple: the first set its beginning, the
-/// second the rest.
-fn is_crossed<'s>(
-    width: usize,
-    first: &TupleSet<'s>,
-    second: &TupleSet<'s>,
-    tuple: &Tuple<'s>,
-) -> bool
-    requires { AreLong width first.now }
-    ensures { result ≡ has (union [] (product first.now second.now)) tuple.now }
+/// Returns whether a product contains these members: its last factor has to contain the last of
+/// them, and the product of the others the rest.
+fn has_members<'s>(first: &TupleSet<'s>, more: &[Crossed<'_, 's>], members: &[Member<'s>]) -> bool
+    requires parted { AreParted first.now more.now }
+    requires few { length members.now ≤ arity_limit }
+    ensures { result ≡ has (crossed_by first.now more.now) members.now }
 {
-    let members = tuple.as_slice();
-    let (front, back) = members.split_at(width.min(members.len()));
-    first.contains(&Tuple::of_members(front)) && second.contains(&Tuple::of_members(back))
+    match more.split_last() {
+        None => first.contains(&Tuple::of_members(members)),
+        Some((last, before)) => {
+            let (front, back) = members.split_at(last.start.min(members.len()));
+            last.set.get().contains(&Tuple::of_members(back)) && has_members(first, before, front)
+        }
+    }
 }
 
 impl<'w, 's> Superset<'w, 's> {
-    pub(crate) fn whole(set: StoredSet<'w, 's>) -> Superset<'w, 's>
+    pub(crate) fn whole(alloc: Global, set: StoredSet<'w, 's>) -> Superset<'w, 's>
         ensures { result ≡ set.entry }
     {
         Superset {
-            extent: Extent::Whole(set),
+            first: set,
+            more: Items::new(Vec::new(alloc)),
         }
     }
 
-    /// Builds the product of two sets; the tuples of the first have `width` members.
+    /// Builds the product with a set; the tuples so far have `start` members. Fails only if memory
+    /// runs out.
     pub(crate) fn crossed(
-        width: usize,
-        first: StoredSet<'w, 's>,
-        second: StoredSet<'w, 's>,
-    ) -> Superset<'w, 's>
-        requires { AreLong width first }
-        ensures { result ≡ union [] (product first.entry second.entry) }
+        self,
+        start: usize,
+        set: StoredSet<'w, 's>,
+    ) -> Result<Superset<'w, 's>, AllocError>
+        requires { AreLong start self }
+        ensures { IfOk result (λ s. s ≡ union [] (product self.entry set.entry)) }
     {
-        Superset {
-            extent: Extent::Crossed(width, first, second),
-        }
+        let Superset { first, more } = self;
+        let mut more = more.into_vec();
+        more.push(Crossed { start, set })?;
+        Ok(Superset {
+            first,
+            more: Items::new(more),
+        })
     }
 
     fn contains(&self, tuple: &Tuple<'s>) -> bool
         ensures { result ≡ has self.now tuple.now }
     {
-        match &self.extent {
-            Extent::Whole(set) => set.get().contains(tuple),
-            Extent::Crossed(width, first, second) => {
-                is_crossed(*width, first.get(), second.get(), tuple)
-            }
-        }
+        has_members(self.first.get(), self.more.as_slice(), tuple.as_slice())
     }
 
     /// Returns whether the superset contains each tuple of a set.

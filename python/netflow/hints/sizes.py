@@ -57,12 +57,14 @@ def too_many(diagnostic: Diagnostic) -> Hints:
         return
     if decl is None or found is None:
         return
-    items = (found.args[:-1] if found.value else found.args) if found.op == "braces" else found.args
-    sizes = [size(sets, part.args[1] if part.op == "in" else part) for part in items]
-    if not all(sizes) or len(sizes) < 2:
+    if found.op == "cross":
+        yield from too_large_product(sets, decl, found, diagnostic)
         return
-    condition = found.args[-1] if found.op == "braces" and found.value else None
-    total = f"{' x '.join(f'{count:,}' for count in sizes)} = {math.prod(sizes):,}"
+    items = found.args[:-1] if found.value else found.args
+    total = product(sets, [part.args[1] if part.op == "in" else part for part in items])
+    if not total:
+        return
+    condition = found.args[-1] if found.value else None
     said = (
         MOST[diagnostic.number].replace(",", " before the condition is evaluated,", 1)
         if condition is not None
@@ -74,6 +76,34 @@ def too_many(diagnostic: Diagnostic) -> Hints:
         f" {f'write {smaller}' if smaller else 'index it by a set of the tuples that exist'}",
         True,
     )
+
+
+def product(sets: Sets, parts: list[Expr]) -> str:
+    """Returns the sizes of plain sets and their product, as text; an empty text if there is no such product."""
+    sizes = [size(sets, part) for part in parts]
+    if not all(sizes) or len(sizes) < 2:
+        return ""
+    return f"{' x '.join(f'{count:,}' for count in sizes)} = {math.prod(sizes):,}"
+
+
+def factors(expr: Expr) -> list[Expr]:
+    """Returns the factors of a chain of products."""
+    if expr.op == "group":
+        return factors(expr.args[0])
+    return [factor for part in expr.args for factor in factors(part)] if expr.op == "cross" else [expr]
+
+
+def too_large_product(sets: Sets, decl: Decl, found: Expr, diagnostic: Diagnostic) -> Hints:
+    """A product that would be built. After `within` none is, so a set of the tuples that exist takes its place."""
+    total = product(sets, factors(found))
+    if total:
+        text = " ".join(diagnostic.texts["model"][found.start : found.end].split())
+        named = decl.name if decl.kind == "set" else "LINKS"
+        yield (
+            f"{text} has {total} {MOST[diagnostic.number]}: declare `set {named} within {text};`, which does not build"
+            f" the product, and list the tuples that exist",
+            True,
+        )
 
 
 def fewer(sets: Sets, model: str, items: list[Expr], condition: Expr | None) -> str:
