@@ -182,6 +182,26 @@ MISTAKES = (
         netflow.DataError,
         "param van: [40] is no value; expected a number (int, float, Fraction or Decimal) or a text",
     ),
+    (
+        {"van": True},
+        netflow.DataError,
+        "param van: True is no number; expected a number (int, float, Fraction or Decimal) or a text; int(True) is 1",
+    ),
+    ({"wants": {"hill": False}}, netflow.DataError, "param wants['hill']: False is no number", "int(False) is 0"),
+    (
+        {"cost": {"north": {"hill": True}}},
+        netflow.DataError,
+        "param cost['north', 'hill']: True is no number",
+    ),
+    ({"wants": [("hill", True)]}, netflow.DataError, "param wants['hill']: True is no number"),
+    ({"wants": [{"shop": "hill", "wants": True}]}, netflow.DataError, "param wants['hill']: True is no number"),
+    (
+        {"wants": {True: 3}},
+        netflow.DataError,
+        "param wants: True is no member: a member is a whole number or a text, so use int(..) or str(..)",
+    ),
+    ({"SHOPS": ["hill", False]}, netflow.DataError, "set SHOPS: False is no member"),
+    ({"wants": {"hill": [30]}}, netflow.DataError, "param wants['hill']: [30] is no value"),
     ({"vans": 3}, netflow.DataError, "vans: the model declares no such set or parameter; is van meant?"),
     (
         {"speed": 3},

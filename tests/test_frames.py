@@ -102,9 +102,10 @@ def test_sets():
 
 
 def test_rejected():
-    """Tables that do not say what is a key and what is a value."""
+    """Tables that do not say what is a key and what is a value, and truth values, also those of NumPy."""
     rows = pandas.DataFrame([(*key, price) for key, price in COST.items()], columns=["from", "to", "price"])
     twice = pandas.Series([1, 2], index=["hill", "hill"])
+    are_open = pandas.Series([True, False], index=["hill", "lake"])
     for name, value, said in (
         ("cost", rows, "no column 'cost'"),
         ("wants", rows, "no column 'wants'"),
@@ -112,6 +113,12 @@ def test_rejected():
         ("wants", twice, "'hill' is given twice"),
         ("van", pandas.DataFrame({"van": [1, 2]}), "given twice"),
         ("wants", pandas.Series([1], index=[1.5]), "1.5 is no member"),
+        ("wants", are_open, "wants['hill']: True is no number"),
+        ("wants", are_open.astype("boolean"), "wants['hill']: True is no number"),
+        ("van", are_open.to_numpy()[1], "van: False is no number"),
+        ("SHOPS", are_open, "True is no member"),
+        ("SHOPS", are_open.to_numpy(), "True is no member"),
+        ("wants", pandas.Series([1], index=pandas.Index([True], dtype=object)), "True is no member"),
     ):
         with pytest.raises(netflow.DataError) as caught:
             read(name, value)

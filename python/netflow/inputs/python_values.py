@@ -62,10 +62,20 @@ def plain(member: Any, owner: str) -> Member:
     """Returns a member as an int or a str; `owner` is the set or parameter that an error names."""
     if isinstance(member, str) or (isinstance(member, int) and not isinstance(member, bool)):
         return member
+    if is_truth_value(member):
+        raise DataError(
+            f"{owner}: {bool(member)} is no member: a member is a whole number or a text, so use int(..) or str(..)"
+        )
     number = as_fraction(member)
-    if number is not None and number.denominator == 1 and not isinstance(member, bool):
+    if number is not None and number.denominator == 1:
         return int(number)
     raise DataError(f"{owner}: {member!r} is no member: a member is a whole number or a text, so use str(..)")
+
+
+def is_truth_value(value: Any) -> bool:
+    """Whether a value is True or False, also as a value of NumPy, which as_fraction takes for 1 or 0."""
+    is_of_numpy = getattr(getattr(value, "dtype", None), "kind", None) == "b" and getattr(value, "size", None) == 1
+    return isinstance(value, bool) or is_of_numpy
 
 
 def parts(row: Sized, what: str = "part") -> str:
@@ -92,7 +102,7 @@ def leaves_of(name: str, value: Any, size: int, texts: set[Member] | None, head:
         if key in seen:
             raise DataError(f"param {name}: the key {key_text(key)} is given twice")
         seen.add(key)
-        yield key, leaf_of(name, item)
+        yield key, leaf_of(name, key, item)
 
 
 def key_part(part: Member, texts: set[Member] | None) -> Member:
@@ -102,21 +112,27 @@ def key_part(part: Member, texts: set[Member] | None) -> Member:
     return int(part) if is_number else part
 
 
-def leaf_of(name: str, value: Any) -> Leaf:
+def leaf_of(name: str, key: Key, value: Any) -> Leaf:
     """Returns a number as a Fraction, a text, an infinite float, or a missing value."""
     if is_missing(value):
         return Leaf(None, is_nan=value is not None)
     if isinstance(value, str):
         number = parse_numeral(value)
         return Leaf(value if number is None else number)
+    if is_truth_value(value):
+        raise wrong_value(name, key, f"{bool(value)} is no number", f"; int({bool(value)}) is {int(bool(value))}")
     number = as_fraction(value)
     if number is not None:
         return Leaf(number, has_many_digits(value, number))
     if isinstance(value, float) or hasattr(value, "__float__"):
         return Leaf(float(value))
-    raise DataError(
-        f"param {name}: {value!r} is no value; expected a number (int, float, Fraction or Decimal) or a text"
-    )
+    raise wrong_value(name, key, f"{value!r} is no value")
+
+
+def wrong_value(name: str, key: Key, what: str, hint: str = "") -> DataError:
+    """Returns the error of a value that is neither a number nor a text."""
+    cell = f"param {name}[{', '.join(map(repr, key))}]" if key else f"param {name}"
+    return DataError(f"{cell}: {what}; expected a number (int, float, Fraction or Decimal) or a text{hint}")
 
 
 def is_missing(value: Any) -> bool:
