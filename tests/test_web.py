@@ -6,9 +6,9 @@ import re
 
 import pytest
 
-import lib  # noqa: F401  makes the modules of web/ importable
+from lib import ci  # which makes the modules of web/ importable
 from support import TOP
-from web.build import markdown, outputs, page, retarget
+from web.build import markdown, module, outputs, page, retarget
 
 MODULE = """target datalayout = "e-m:e-p270:32:32-p271:32:32-p272:64:64-i64:64-i128:128-f80:128-n8:16:32:64-S128"
 target triple = "x86_64-unknown-linux-gnu"
@@ -131,3 +131,45 @@ def test_outputs_are_of_their_sources(tmp_path, monkeypatch):
     assert outputs.update() is None
     source.write_bytes(b"new")
     assert outputs.update() == ("--page",)
+
+
+class StaticLibrary:
+    """A crate as `rt` describes it, in a folder."""
+
+    def __init__(self, folder, is_static=True):
+        self.folder, self.is_static = folder, is_static
+
+    def words(self, flags):
+        return ["--crate-name", "net_web", "--logic-built", "logic", *flags, "--links", "net_web="]
+
+
+def test_the_gate_keeps_the_check_of_a_static_library():
+    words = ["check", "--crate-name", "net_web"]
+    assert ci.keeping(StaticLibrary("there"), words) == [*words, "-o", "there/out/checked"]
+    for crate, others in (
+        (StaticLibrary("there", False), words),
+        (StaticLibrary("there"), ["check", "--test"]),
+        (StaticLibrary("there"), ["check", "-o", "elsewhere"]),
+        (StaticLibrary("there"), ["build", "--crate-name", "net_web"]),
+    ):
+        assert ci.keeping(crate, others) == others
+
+
+def test_the_library_is_built_of_a_check_that_is_kept(tmp_path):
+    crate, name = StaticLibrary(tmp_path), ["--crate-name", "net_web"]
+    proof = [*crate.words(["--jobs", "2"]), "--incremental", "out/incremental"]
+    assert module.proofs(crate) == [proof]
+    checked = tmp_path / "out" / "checked"
+    checked.mkdir(parents=True)
+    assert module.proofs(crate) == [[*name, "--links", "net_web=", "--crate-checked", checked], proof]
+
+
+def test_a_check_that_is_refused_is_made_again(tmp_path, capsys):
+    """`test` stands for rattle: it has status 0 if both words are the same."""
+    ways = [["a", "=", "b"], ["a", "=", "a"]]
+    module.build(["test"], ways, [], tmp_path)
+    assert "proving net_web, because its check cannot be used: test failed" in capsys.readouterr().err
+    with pytest.raises(module.Failed):
+        module.build(["test"], ways[:1], [], tmp_path)
+    module.build(["test"], ways[1:], [], tmp_path)
+    assert capsys.readouterr().err == ""

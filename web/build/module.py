@@ -7,8 +7,10 @@ import pathlib
 import shlex
 import shutil
 import subprocess
+import sys
 import tempfile
 
+from lib.ci import CHECKED
 from web.build.retarget import Unknown, retargeted
 
 TOP = pathlib.Path(__file__).resolve().parent.parent.parent
@@ -21,6 +23,8 @@ STACK = 4 * 2**20
 TARGET = ("-mcpu=lime1", "--no-default-config", "-ffunction-sections", "-fdata-sections")
 # Division of 128 bits is expanded: there is no library to call.
 PASSES = ("-mllvm", "-expand-div-rem-bits=64", "-mllvm", "-trap-unreachable", "-mllvm", "-disable-machine-licm", "-mllvm", "-sink-common-insts=false")
+# The module with 64-bit pointers is for comparison only, and compiled in less time.
+LEVELS = {32: "-O3", 64: "-O1"}
 C_FLAGS = ("-O2", "-fwrapv", "-ffreestanding", "-nostdinc", "-fno-builtin", "-Wall", "-Wextra", "-Werror")
 # A clang that copies the module that it is given. The toolchain passes no environment to it.
 KEEPING = """#!/bin/sh
@@ -61,23 +65,49 @@ class Kit:
 
 
 def build_library(kit, out):
-    """Proves the crate, and writes its static library and its LLVM module into the folder."""
+    """Writes the static library of the proved crate and its LLVM module into the folder."""
     crate = kit.prover.crates_of(TOP)[CRATE]
     unbuilt = kit.prover.unbuilt(crate)
     if unbuilt:
         raise Failed(f"the library {unbuilt[0]} is not built: run scripts/build first")
     kit.prover.RT.rtlib.Crate.cuts_libraries = False
     library, module = out / "libnetflow.a", out / "net_web.bc"
+    # An old one would hide that no new one was handed over.
+    module.unlink(missing_ok=True)
     (pathlib.Path(crate.folder) / "out").mkdir(exist_ok=True)
     with tempfile.TemporaryDirectory() as room:
         tools = keeping_toolchain(kit, pathlib.Path(room), module)
-        words = [kit.prover.RT.rtlib.RATTLE, "build", *crate.words(["--jobs", "2"]), "--incremental", "out/incremental",
-                 "--toolchain", tools, "--backend", "llvm", "-o", library]
-        run(words, cwd=crate.folder)
+        build([kit.prover.RT.rtlib.RATTLE, "build"], proofs(crate), ["--toolchain", tools, "--backend", "llvm", "-o", library], crate.folder)
     complete_library(kit, library)
     if not module.exists():
         raise Failed("the toolchain passed no LLVM module to its clang: it builds libraries in another way than this script knows")
     return library, module
+
+
+def proofs(crate):
+    """Returns the words for each way in which `rattle build` can have the proof of the crate: from the check that the gate's `rt ci` has made
+    (scripts/lib/ci.py), if it is here, or by a proof."""
+    words, checked = crate.words(["--jobs", "2"]), pathlib.Path(crate.folder) / CHECKED
+    ways = [[*words, "--incremental", "out/incremental"]]
+    if checked.is_dir():
+        # These two are for a proof, and rattle refuses them without one.
+        for option in ("--logic-built", "--jobs"):
+            at = words.index(option)
+            del words[at:at + 2]
+        ways.insert(0, [*words, "--crate-checked", checked])
+    return ways
+
+
+def build(head, ways, tail, folder):
+    """Runs `rattle build` with the first words that it takes."""
+    for number, words in enumerate(ways, 1):
+        try:
+            return run([*head, *words, *tail], cwd=folder)
+        except Failed as problem:
+            # It refuses a check of other sources, libraries or code.
+            if number == len(ways):
+                raise
+            print(f"web: proving {CRATE}, because its check cannot be used: {str(problem)[-400:]}", file=sys.stderr, flush=True)
 
 
 def complete_library(kit, library):
@@ -102,17 +132,22 @@ def keeping_toolchain(kit, room, module):
     return room
 
 
-def build_wasm(kit, module, bits, out):
-    """Writes the WebAssembly module for pointers of 32 or 64 bits."""
+def disassembled(kit, module):
+    """Returns the text of an LLVM module."""
+    words = [kit.clang, "--target=x86_64-unknown-linux-gnu", "-S", "-emit-llvm", "-Xclang", "-disable-llvm-passes", "-x", "ir", module, "-o", "-"]
+    return run(words).decode("utf-8")
+
+
+def build_wasm(kit, text, bits, out):
+    """Writes the WebAssembly module for pointers of 32 or 64 bits, of the text of the LLVM module."""
     with tempfile.TemporaryDirectory() as room:
         room = pathlib.Path(room)
-        text = run([kit.clang, "--target=x86_64-unknown-linux-gnu", "-S", "-emit-llvm", "-Xclang", "-disable-llvm-passes", "-x", "ir", module, "-o", "-"])
         try:
-            (room / "module.ll").write_text(retargeted(text.decode("utf-8"), bits), encoding="utf-8")
+            (room / "module.ll").write_text(retargeted(text, bits), encoding="utf-8")
         except Unknown as form:
             raise Failed(f"the toolchain's LLVM module has a form that web/build/retarget.py does not know: {form}") from None
         target = [kit.clang, f"--target=wasm{bits}-unknown-unknown", *TARGET]
-        run([*target, *PASSES, "-Wno-override-module", "-O3", "-c", "-x", "ir", room / "module.ll", "-o", room / "module.o"])
+        run([*target, *PASSES, "-Wno-override-module", LEVELS[bits], "-c", "-x", "ir", room / "module.ll", "-o", room / "module.o"])
         objects = [room / "module.o"]
         for name in ("heap", "wide"):
             objects.append(room / f"{name}.o")
