@@ -23,8 +23,6 @@ STACK = 4 * 2**20
 TARGET = ("-mcpu=lime1", "--no-default-config", "-ffunction-sections", "-fdata-sections")
 # Division of 128 bits is expanded: there is no library to call.
 PASSES = ("-mllvm", "-expand-div-rem-bits=64", "-mllvm", "-trap-unreachable", "-mllvm", "-disable-machine-licm", "-mllvm", "-sink-common-insts=false")
-# The module with 64-bit pointers is for comparison only, and compiled in less time.
-LEVELS = {32: "-O3", 64: "-O1"}
 C_FLAGS = ("-O2", "-fwrapv", "-ffreestanding", "-nostdinc", "-fno-builtin", "-Wall", "-Wextra", "-Werror")
 # A clang that copies the module that it is given. The toolchain passes no environment to it.
 KEEPING = """#!/bin/sh
@@ -147,7 +145,7 @@ def build_wasm(kit, text, bits, out):
         except Unknown as form:
             raise Failed(f"the toolchain's LLVM module has a form that web/build/retarget.py does not know: {form}") from None
         target = [kit.clang, f"--target=wasm{bits}-unknown-unknown", *TARGET]
-        run([*target, *PASSES, "-Wno-override-module", LEVELS[bits], "-c", "-x", "ir", room / "module.ll", "-o", room / "module.o"])
+        run([*target, *PASSES, "-Wno-override-module", "-O3", "-c", "-x", "ir", room / "module.ll", "-o", room / "module.o"])
         objects = [room / "module.o"]
         for name in ("heap", "wide"):
             objects.append(room / f"{name}.o")
