@@ -1,6 +1,6 @@
 -- Where arcs stand in the order of their declarations, those of a declaration stand together.
 use Rattle.std.proofs.Common.{◌≡◌, ℕ, suc, ◌+◌, ◌≤◌, ◌<◌, true, false, cond, List, [], ◌∷◌, ◌++◌, take, drop, ℤ, refl, ap, sym, subst, ◌∙◌, arith, inl, inr}
-use Rattle.std.specs.Prelude.{nat_eq}
+use Rattle.std.specs.Prelude.{nat_eq, codes}
 use Rattle.std.specs.List.{zip, filter, take_while, prefix_len}
 use Rattle.std.proofs.lemmas.Bool.{cases_Bool}
 use Rattle.std.proofs.lemmas.Bool.Decides.{nat_tests}
@@ -8,6 +8,7 @@ use Rattle.net_inst.specs.declared.network_names.Declared.{Declared}
 use Rattle.net_inst.specs.Lists.{Key, AreInOrder}
 use Rattle.net_inst.specs.declared.network_names.Names.{Names}
 use Rattle.net_report.specs.Displays.{Assigned, value_line, is_of, block, blocks, blocks_of_all, display_text, display_of_all}
+use Rattle.net_report.specs.Prices.{prices_text, prices_of_all}
 
 -- arcs with their numbers, of declaration d or a later one, in order
 abbrev pub IsOrdered : ℕ → List Assigned → Type 0
@@ -116,3 +117,11 @@ same_blocks d (x ∷ xs) arcs h =
 pub shows_all : (names : Names) (assignment : List ℤ) (value : ℤ) → AreInOrder 0 names.arcs.keys → display_text names assignment value ≡ display_of_all names assignment value
 shows_all names assignment value h =
     ap (λ t. value_line names.objective value ++ t) (same_blocks 0 names.arcs.declarations (zip names.arcs.keys assignment) (ordered_pairs 0 names.arcs.keys assignment h))
+
+-- and so do prices of nodes and arcs that are in order
+pub prices_show_all : (names : Names) (prices costs : List ℤ) → AreInOrder 0 names.nodes.keys → AreInOrder 0 names.arcs.keys → prices_text names prices costs ≡ prices_of_all names prices costs
+prices_show_all names prices costs h k =
+    let nodes = same_blocks 0 names.nodes.declarations (zip names.nodes.keys prices) (ordered_pairs 0 names.nodes.keys prices h) in
+    let arcs = same_blocks 0 names.arcs.declarations (zip names.arcs.keys costs) (ordered_pairs 0 names.arcs.keys costs k) in
+    ap (λ (t : List ℕ). codes "prices\n" ++ (t ++ (codes "reduced costs\n" ++ blocks 0 names.arcs.declarations (zip names.arcs.keys costs)))) nodes
+    ∙ ap (λ (t : List ℕ). codes "prices\n" ++ (blocks_of_all 0 names.nodes.declarations (zip names.nodes.keys prices) ++ (codes "reduced costs\n" ++ t))) arcs

@@ -6,3 +6,4 @@ mod LineEnds
 pub mod InOrder
 mod Examples
 pub mod LineNames
+pub mod PriceLists

@@ -49,10 +49,22 @@ fn write_plan(
     requires { length assignment.now ≡ length names.now.arcs.keys }
     ensures { IfOk result (λ text. text.items ≡ displays.display_text names.now assignment.now value) }
 {
+    let numbers = widened(alloc, assignment)?;
     let mut text = Vec::new(alloc);
     push_value(&mut text, &names.objective, value)?;
-    push_blocks(alloc, &mut text, &names.arcs, assignment)?;
+    push_blocks(alloc, &mut text, &names.arcs, &numbers)?;
     Ok(text)
+}
+
+/// Returns the numbers in 128 bits. Fails only if memory runs out.
+fn widened(alloc: Global, numbers: &[i64]) -> Result<Vec<i128>, AllocError>
+    ensures { IfOk result (λ widened. widened.items ≡ numbers.now) }
+{
+    let mut widened = Vec::with_capacity(alloc, numbers.len())?;
+    for number in numbers {
+        widened.push(wide(number))?;
+    }
+    Ok(widened)
 }
 
 fn push_value(text: &mut Vec<u8>, name: &Excerpt<'_>, number: i128) -> Result<(), AllocError>
@@ -66,18 +78,19 @@ fn push_value(text: &mut Vec<u8>, name: &Excerpt<'_>, number: i128) -> Result<()
     Ok(())
 }
 
-/// Appends the declarations in order, each with its arcs. Fails only if memory runs out.
-fn push_blocks(
+/// Appends the declarations in order, each with the numbers of its nodes or arcs. Fails only if
+/// memory runs out.
+pub(crate) fn push_blocks(
     alloc: Global,
     text: &mut Vec<u8>,
-    arcs: &NameList<'_>,
-    assignment: &[i64],
+    listed: &NameList<'_>,
+    numbers: &[i128],
 ) -> Result<(), AllocError>
-    requires { length assignment.now ≡ length arcs.now.keys }
-    ensures ok { OnOk result (text.new.items ≡ text.old.items ++ displays.blocks 0 arcs.now.declarations (zip arcs.now.keys assignment.now)) }
+    requires { length numbers.now ≡ length listed.now.keys }
+    ensures ok { OnOk result (text.new.items ≡ text.old.items ++ displays.blocks 0 listed.now.declarations (zip listed.now.keys numbers.now)) }
 {
-    let mut left = assignment;
-    for declaration in arcs.declarations() {
+    let mut left = numbers;
+    for declaration in listed.declarations() {
         let (own, later) = left.split_at(declaration.rows.len());
         push_block(alloc, text, declaration, own)?;
         left = later;
@@ -85,12 +98,12 @@ fn push_blocks(
     Ok(())
 }
 
-/// Appends a declaration with its arcs. Fails only if memory runs out.
+/// Appends a declaration with the numbers of its nodes or arcs. Fails only if memory runs out.
 fn push_block(
     alloc: Global,
     text: &mut Vec<u8>,
     declaration: &DeclaredRows<'_>,
-    numbers: &[i64],
+    numbers: &[i128],
 ) -> Result<(), AllocError>
     requires { length numbers.now ≡ length declaration.now.rows }
     ensures ok { OnOk result (text.new.items ≡ text.old.items ++ displays.declared_block declaration.now numbers.now) }
@@ -106,11 +119,11 @@ fn push_block(
     }
 }
 
-fn push_values(text: &mut Vec<u8>, name: &Excerpt<'_>, numbers: &[i64]) -> Result<(), AllocError>
+fn push_values(text: &mut Vec<u8>, name: &Excerpt<'_>, numbers: &[i128]) -> Result<(), AllocError>
     ensures ok { OnOk result (text.new.items ≡ text.old.items ++ flat_map (displays.value_line name.now) numbers.now) }
 {
     for number in numbers {
-        push_value(text, name, wide(number))?;
+        push_value(text, name, *number)?;
     }
     Ok(())
 }
@@ -119,7 +132,7 @@ fn push_rows(
     alloc: Global,
     text: &mut Vec<u8>,
     rows: &RowList<'_>,
-    numbers: &[i64],
+    numbers: &[i128],
 ) -> Result<(), AllocError>
     requires { length numbers.now ≡ length rows.now }
     ensures ok { OnOk result (text.new.items ≡ text.old.items ++ displays.key_rows (keys_of rows.now) numbers.now) }
@@ -130,12 +143,12 @@ fn push_rows(
     Ok(())
 }
 
-/// Appends the members of an arc's key and its value. Fails only if memory runs out.
+/// Appends the members of a key and a number. Fails only if memory runs out.
 fn push_row(
     alloc: Global,
     text: &mut Vec<u8>,
     key: &Tuple<'_>,
-    number: i64,
+    number: i128,
 ) -> Result<(), AllocError>
     ensures ok { OnOk result (text.new.items ≡ text.old.items ++ displays.key_row key.now number) }
 {

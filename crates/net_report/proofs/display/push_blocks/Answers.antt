@@ -9,7 +9,7 @@ use Rattle.net_report.proofs.display.push_blocks.Goals as goal
 pub loop-declaration-init : goal.loop-declaration-init
 loop-declaration-init c =
     let xs = c.declarations-declaration-items.result.now in
-    let numbers = c.args.assignment.now in
+    let numbers = c.args.numbers.now in
     let listed = c.declarations-declaration-items.ensures in
     let count : length numbers ≡ length (keyed_rows 0 xs) = c.requires ∙ ap (λ (l : Listed). length l.keys) listed in
     record {

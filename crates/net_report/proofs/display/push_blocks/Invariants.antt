@@ -7,6 +7,6 @@ use Rattle.net_report.proofs.display.push_blocks.Given as goal
 
 abbrev pub invariant-loop-declaration : goal.invariant-loop-declaration
 invariant-loop-declaration l = record {
-  text : l.text.items ++ declared_blocks (drop l.declaration-index l.declaration-items) l.left ≡ l.fn.text.items ++ blocks 0 l.arcs.declarations (zip l.arcs.keys l.assignment);
+  text : l.text.items ++ declared_blocks (drop l.declaration-index l.declaration-items) l.left ≡ l.fn.text.items ++ blocks 0 l.listed.declarations (zip l.listed.keys l.numbers);
   count : length l.left ≡ length (flat_map names_of (drop l.declaration-index l.declaration-items));
 }
