@@ -73,10 +73,10 @@ aim_of lean wanted m d c objective promise =
     let aim = objective wanted w ds (seen_as promise.made) promise.has_network in
     subst (λ o. IsObjectiveOf o (seen_as promise.made) (arcs w ds)) (some_same (chosen wanted (objectives w ds)) aim.0 promise.objective aim.1 promise.is_chosen) aim.2
 
-pub answers_of : (lean : Bool) (wanted : Option Name) (m d : List ℕ) (c : Compiled) (settled : Certificate) (outcome : Outcome) → HaveObjective → (promise : IsBuilt lean wanted m d c)
-    → IsCertificate c.problem settled → BoundsEachFlow c.problem settled → LeavesNoFlow c.problem settled → IsOutcomeOf c settled outcome → IsSolved lean wanted m d (record { compiled = c; outcome = outcome })
-answers_of lean wanted m d c settled outcome objective promise by bounds leaves is =
-    record { compiled = promise; outcome = go settled outcome by bounds leaves is }
+pub outcome_holds : (lean : Bool) (wanted : Option Name) (m d : List ℕ) (c : Compiled) (settled : Certificate) (outcome : Outcome) → HaveObjective → (promise : IsBuilt lean wanted m d c)
+    → IsCertificate c.problem settled → BoundsEachFlow c.problem settled → LeavesNoFlow c.problem settled → IsOutcomeOf c settled outcome
+    → IsOutcome c (nodes promise.world promise.declarations) (arcs promise.world promise.declarations) promise.objective outcome
+outcome_holds lean wanted m d c settled outcome objective promise by bounds leaves is = go settled outcome by bounds leaves is
   where
     aim : IsObjectiveOf promise.objective (seen_as promise.made) (arcs promise.world promise.declarations)
     aim = aim_of lean wanted m d c objective promise
@@ -101,3 +101,8 @@ answers_of lean wanted m d c settled outcome objective promise by bounds leaves 
           violated = subst (λ l. IsViolatedCut c.problem l on) (sym k.same_set) (subst (IsViolatedCut c.problem flags.items) (sym k.same_side) f);
           none = none promise.objective (nodes promise.world promise.declarations) (arcs promise.world promise.declarations) c promise.corresponds h;
         }
+
+pub answers_of : (lean : Bool) (wanted : Option Name) (m d : List ℕ) (c : Compiled) (settled : Certificate) (outcome : Outcome) → HaveObjective → (promise : IsBuilt lean wanted m d c)
+    → IsCertificate c.problem settled → BoundsEachFlow c.problem settled → LeavesNoFlow c.problem settled → IsOutcomeOf c settled outcome → IsSolved lean wanted m d (record { compiled = c; outcome = outcome })
+answers_of lean wanted m d c settled outcome objective promise by bounds leaves is =
+    record { compiled = promise; outcome = outcome_holds lean wanted m d c settled outcome objective promise by bounds leaves is }

@@ -23,13 +23,14 @@ use Rattle.net_inst.specs.Readings.{Objective}
 use Rattle.net_inst.specs.Represented.{ProblemsRepresent}
 use Rattle.net_inst.specs.Soundness as once
 use Rattle.net_inst.specs.Soundness.{IsSameNode, IsSameArc, HasNetwork, AssignmentsAreSound}
+use Rattle.net_driver.specs.declared.answer.Answer.{Answer}
 use Rattle.net_driver.specs.declared.answer.Outcome.{Outcome}
 use Rattle.net_driver.specs.declared.answer.Outcome.TheVariants.{Displayed, Infeasible}
 use Rattle.net_driver.specs.declared.compiled.Compiled.{Compiled}
-use Rattle.net_driver.specs.IsSolved.{IsOutcome}
+use Rattle.net_driver.specs.IsSolved.{IsSolved, IsOutcome}
 use Rattle.net_driver.specs.IsBuilt.{IsBuilt}
 use Rattle.net_driver.specs.Made.{profile_of}
-use Rattle.net_driver.specs.Meaning.{listed_label, node_declared, arc_declared, IsCompilation, IsPrinted}
+use Rattle.net_driver.specs.Meaning.{listed_label, node_declared, arc_declared, IsCompilation, IsSolution, IsPrinted}
 use Rattle.net_driver.specs.MeaningLaws.{CompilationsAreSound, SolutionsAreSound}
 use Rattle.net_driver.proofs.ModelMeaning.{sets_of, names_of, answers_solve, holds_moved}
 use Rattle.net_driver.proofs.ModelWorld.{is_world}
@@ -159,18 +160,29 @@ module _ (represent : ProblemsRepresent) (worlds : WorldsAreSound) (models : mod
   printed c ns xs p (Displayed text numbers value) h = h.displayed
   printed c ns xs p (Infeasible text flags side) h = (h.violated, h.reported)
 
-  pub solutions_sound : AssignmentsAreSound → HaveFeasible → HaveObjective → SolutionsAreSound
-  solutions_sound sound fits aims lean wanted m d a h =
+  -- the solved model, whose network is one of the declarations in the computed world
+  pub solution_of : AssignmentsAreSound → HaveFeasible → HaveObjective → (lean : Bool) (wanted : Option Name) (m d : List ℕ) (a : Answer) (h : IsSolved lean wanted m d a)
+      → (x : IsSolution wanted m d a) × IsNetwork wanted h.compiled.world (declarations h.compiled.declarations) x.compilation.nodes x.compilation.arcs x.compilation.objective
+  solution_of sound fits aims lean wanted m d a h =
       let own = compilation_of lean wanted m d a.compiled h.compiled in
-      let solved = answers_solve represent sound fits aims lean wanted m d a h in
-      record {
-        compilation = own.0;
-        holds = holds_moved wanted h.compiled.world (declarations h.compiled.declarations) _ own.0.nodes _ own.0.arcs _ own.0.objective a.outcome solved.network.is_network own.1 solved.holds;
-        printed = printed a.compiled (nodes h.compiled.world h.compiled.declarations) (arcs h.compiled.world h.compiled.declarations) h.compiled.objective a.outcome h.outcome;
-      }
+      let solved = answers_solve represent sound fits aims lean wanted m d a h in (
+        record {
+          compilation = own.0;
+          holds = holds_moved wanted h.compiled.world (declarations h.compiled.declarations) _ own.0.nodes _ own.0.arcs _ own.0.objective a.outcome solved.network.is_network own.1 solved.holds;
+          printed = printed a.compiled (nodes h.compiled.world h.compiled.declarations) (arcs h.compiled.world h.compiled.declarations) h.compiled.objective a.outcome h.outcome;
+        },
+        own.1,
+      )
+
+  pub solutions_sound : AssignmentsAreSound → HaveFeasible → HaveObjective → SolutionsAreSound
+  solutions_sound sound fits aims lean wanted m d a h = (solution_of sound fits aims lean wanted m d a h).0
 
 pub compilations_are_sound : CompilationsAreSound
 compilations_are_sound = compilations_sound problems_represent worlds_are_sound model-complete complete
 
 pub solutions_are_sound : SolutionsAreSound
 solutions_are_sound = solutions_sound problems_represent worlds_are_sound model-complete complete assignments_are_sound have_feasible have_objective
+
+pub solution_with_network : (lean : Bool) (wanted : Option Name) (m d : List ℕ) (a : Answer) (h : IsSolved lean wanted m d a)
+    → (x : IsSolution wanted m d a) × IsNetwork wanted h.compiled.world (declarations h.compiled.declarations) x.compilation.nodes x.compilation.arcs x.compilation.objective
+solution_with_network = solution_of problems_represent worlds_are_sound model-complete complete assignments_are_sound have_feasible have_objective

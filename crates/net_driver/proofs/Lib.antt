@@ -10,6 +10,7 @@ pub mod Promise
 pub mod Answering
 pub mod Solving
 pub mod Answered
+pub mod Priced
 pub mod Reading
 mod Running
 mod Writing
@@ -25,5 +26,11 @@ mod OneNetwork
 mod ModelWorld
 mod ModelMeaning
 mod Compilations
+mod Extremes
+mod PricedForms
+mod PriceBounds
+pub mod PlanProofs
+mod ModelPrices
+mod PricedModels
 mod TokenTexts
 mod LineNames

@@ -48,7 +48,7 @@ compiled_represent represent lean wanted m d c h =
 
 -- ---- answers
 
-flows_same : (xs : List written.WrittenArc) (all : List meaning.Arc) (x : meaning.Assignment) → AllZip IsSameArc xs all → map (flow_on x) all ≡ written.numbers_on x xs
+pub flows_same : (xs : List written.WrittenArc) (all : List meaning.Arc) (x : meaning.Assignment) → AllZip IsSameArc xs all → map (flow_on x) all ≡ written.numbers_on x xs
 flows_same [] [] x h = refl
 flows_same [] (a ∷ all) x h = absurd h
 flows_same (v ∷ xs) [] x h = absurd h
@@ -58,7 +58,7 @@ flows_same (v ∷ xs) (a ∷ all) x h =
     λ t. one t ∷ rest t
 
 -- the flows in order are one assignment by either labels
-by_same : (xs : List written.WrittenArc) (all : List meaning.Arc) (ys : List ℤ) → AllZip IsSameArc xs all → (n : Name) (key : Tuple) → by_label all ys n key ≡ by_arc xs ys n key
+pub by_same : (xs : List written.WrittenArc) (all : List meaning.Arc) (ys : List ℤ) → AllZip IsSameArc xs all → (n : Name) (key : Tuple) → by_label all ys n key ≡ by_arc xs ys n key
 by_same [] [] ys h n key = refl
 by_same [] (a ∷ all) ys h n key = absurd h
 by_same (v ∷ xs) [] ys h n key = absurd h

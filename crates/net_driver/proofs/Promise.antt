@@ -1,5 +1,5 @@
 -- The promise of a compiled model, from what its parts promise.
-use Rattle.std.proofs.Common.{◌≡◌, ℕ, Bool, ◌<◌, ◌≤◌, ◌^◌, List, [], ◌∷◌, ◌++◌, length, map, vec_len, Option, Some, Ok, neg_ℤ, sym, ap, subst, ◌∙◌, arith, length-append}
+use Rattle.std.proofs.Common.{◌≡◌, ℕ, Bool, ◌<◌, ◌≤◌, ◌^◌, List, [], ◌∷◌, ◌++◌, length, map, vec_len, Option, Some, Ok, neg_ℤ, refl, sym, ap, subst, ◌∙◌, arith, length-append}
 use Rattle.std.specs.List.{AllByRecursion, flat_map}
 use Rattle.std.proofs.lemmas.List.{length-map}
 use Rattle.net_dimacs.specs.Problems.{statements_of}
@@ -100,3 +100,8 @@ headline_of lean wanted m d c names ranges bounds objective correspond made =
           let by = correspond wanted w ds n c.problem c.link is.network.network apart made.corresponds in
           subst (λ o. CorrespondsByName (nodes w ds) (arcs w ds) o c.problem c.link) (some_same (chosen wanted (objectives w ds)) by.0 aim.0 by.1 aim.1) by.2;
     }
+
+-- the network of the promise is the one that was compiled
+pub headline_from : (lean : Bool) (wanted : Option Name) (m d : List ℕ) (c : Compiled) → HaveNames → HaveExactRanges → HaveBounds → HaveObjective → CorrespondAsWritten → (made : IsNormalFormOf lean wanted m d c) → (built : IsBuilt lean wanted m d c) × (built.made.instance ≡ made.named.instance)
+unfolding headline_of
+headline_from lean wanted m d c names ranges bounds objective correspond made = (headline_of lean wanted m d c names ranges bounds objective correspond made, refl)

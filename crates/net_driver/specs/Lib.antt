@@ -19,3 +19,5 @@ pub mod Meaning
 pub mod MeaningLaws
 pub mod LineNames
 pub mod SolvedOutcomes
+pub mod PricedPlans
+pub mod PlanProofs

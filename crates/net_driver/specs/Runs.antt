@@ -21,6 +21,8 @@ use Rattle.net_driver.specs.Settled.{Settles, settled_exit_kind}
 use Rattle.net_driver.specs.IsSolved.{IsSolved, text_of}
 use Rattle.net_driver.specs.IsSolved as answers
 use Rattle.net_driver.specs.IsBuilt.{IsBuilt}
+use Rattle.net_driver.specs.PricedPlans.{IsSolvedWithPrices}
+use Rattle.net_driver.specs.PlanProofs.{IsPricedSolution}
 use Rattle.net_driver.specs.Meaning.{IsCompilation, IsSolution}
 
 abbrev pub model_limit : ℕ
@@ -151,6 +153,12 @@ IsSolvedText lean wanted texts exit_kind text =
     (a : Answer) × IsSolved lean wanted (texts Model) (texts Data) a × IsSolution wanted (texts Model) (texts Data) a
     × (exit_kind ≡ answers.exit_kind_of a.outcome) × (text ≡ text_of a.outcome)
 
+-- the same with prices after a plan: they prove it
+abbrev pub IsPricedText : Bool → Option Name → Texts → ExitKind → List ℕ → Type 0
+IsPricedText lean wanted texts exit_kind text =
+    (a : Answer) × IsSolvedWithPrices lean wanted (texts Model) (texts Data) a text × IsPricedSolution wanted (texts Model) (texts Data) a text
+    × (exit_kind ≡ answers.exit_kind_of a.outcome)
+
 -- the line of the verdict on a certificate
 abbrev pub IsVerdictText : Texts → ExitKind → List ℕ → Type 0
 IsVerdictText texts exit_kind text = (v : Verdict) × Judges (texts Problem) (texts Certificate) v × (exit_kind ≡ exit_kind_of v) × (text ≡ verdict_line v)
@@ -164,12 +172,15 @@ abbrev pub IsModelRun : {A M D W : Type 0} → Option Name → (Texts → A → 
 IsModelRun wanted IsText model data' output result =
     IsRun (input Model model_limit model ∷ input Data data_limit data' ∷ []) output IsText (λ texts. IsRejection wanted (texts Model) (texts Data)) result
 
--- the four runs
+-- the five runs
 abbrev pub IsCompileRun : {M D W : Type 0} → Bool → Option Name → Source M → Source D → Sink W → Result (Unit {0}) Fault → Type 0
 IsCompileRun lean wanted model data' output result = IsModelRun wanted (IsCompiledText lean wanted) model data' output result
 
 abbrev pub IsSolveRun : {M D W : Type 0} → Bool → Option Name → Source M → Source D → Sink W → Result ExitKind Fault → Type 0
 IsSolveRun lean wanted model data' output result = IsModelRun wanted (IsSolvedText lean wanted) model data' output result
+
+abbrev pub IsPricedRun : {M D W : Type 0} → Bool → Option Name → Source M → Source D → Sink W → Result ExitKind Fault → Type 0
+IsPricedRun lean wanted model data' output result = IsModelRun wanted (IsPricedText lean wanted) model data' output result
 
 abbrev pub IsCheckRun : {P C W : Type 0} → Source P → Source C → Sink W → Result ExitKind Fault → Type 0
 IsCheckRun problem certificate output result =

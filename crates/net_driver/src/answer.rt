@@ -143,7 +143,7 @@ fn outcome_of(
 }
 
 /// Returns the plan that corresponds to a feasible flow. Fails only if memory runs out.
-fn displayed(
+pub(crate) fn displayed(
     alloc: Global,
     network: &CompiledNetwork<'_>,
     cost: i128,
@@ -165,7 +165,7 @@ fn displayed(
 }
 
 /// Returns the explanation of a violated cut. Fails only if memory runs out.
-fn infeasible(
+pub(crate) fn infeasible(
     alloc: Global,
     network: &CompiledNetwork<'_>,
     flags: Vec<bool>,

@@ -8,6 +8,7 @@ ghost use Rattle.net_inst.specs.Instances.{seen_as};
 ghost use Rattle.net_normal.specs.NormalForm.{IsFormIn};
 ghost use Rattle.net_normal.specs.Correspondence.{CorrespondsOneToOne};
 ghost use Rattle.net_driver.specs.IsBuilt.{IsBuilt};
+ghost use Rattle.net_driver.specs.PricedPlans.{IsBuiltFrom};
 ghost use Rattle.net_driver.specs.CompiledNetwork.{written};
 ghost use Rattle.net_driver.specs.Made.{SizesAgree, profile_of};
 ghost use Rattle.net_driver.specs.Reading.{IsNetworkOf};
@@ -37,12 +38,32 @@ pub(crate) fn compile_network(
     ensures { (wanted : Option Name) (m d : List ℕ) → IsNetworkOf wanted m d (seen_as network.entry)
         → IfOk result (λ u. IsBuilt lean wanted m d (written u)) }
 {
-    let (problem, link) = form_of(alloc, lean, &network.instance)?;
-    Ok(CompiledNetwork {
-        problem,
-        link,
-        names: network.names,
-    })
+    match compile_with_instance(alloc, lean, network) {
+        Ok((compiled, _instance)) => Ok(compiled),
+        Err(fault) => Err(fault),
+    }
+}
+
+/// Compiles a network as `compile_network` does; returns also the network without names, which
+/// prices need.
+pub(crate) fn compile_with_instance(
+    alloc: Global,
+    lean: bool,
+    network: Named<'_>,
+) -> Result<(CompiledNetwork<'_>, Instance), AllocError>
+    ensures { (wanted : Option Name) (m d : List ℕ) → IsNetworkOf wanted m d (seen_as network.entry)
+        → IfOk result (λ made. IsBuiltFrom lean wanted m d made.1 (written made.0)) }
+{
+    let Named { instance, names } = network;
+    let (problem, link) = form_of(alloc, lean, &instance)?;
+    Ok((
+        CompiledNetwork {
+            problem,
+            link,
+            names,
+        },
+        instance,
+    ))
 }
 
 /// Returns the normal form of a network, or its lean form if requested. Fails only if memory runs

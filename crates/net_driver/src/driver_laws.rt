@@ -23,6 +23,7 @@ ghost use Rattle.net_driver.specs.OneAnswer.{IsOneAnswer, IsSolvedAsCompiled, Is
 ghost use Rattle.net_driver.specs.LineNames.{BuiltNamesAreExact, NamesAreExact};
 ghost use Rattle.net_bind.specs.Binding as binding;
 ghost use Rattle.net_base.specs.declared.diagnostic.Language.TheVariants as languages;
+ghost use Rattle.net_driver.specs.PlanProofs.{PricedPlansAreProved, PricesProve};
 ghost use Rattle.net_driver.specs.MeaningLaws.{CompilationsAreSound, SolutionsAreSound, AnswersSolveModels, CompiledProblemsRepresent, NetworksAreUnique};
 
 /// Theorem: a model without name errors declares no name of nodes twice, and no name of arcs.
@@ -125,4 +126,17 @@ pub fn compilations_are_sound()
 /// inputs mean: a displayed plan is optimal in it, and with a cut no assignment is feasible.
 pub fn solutions_are_sound()
     ensures value { SolutionsAreSound }
+{}
+
+/// Theorem: prices prove a plan. If the reduced costs of its arcs and the prices of its nodes say
+/// which arcs are at a bound and which nodes at a side of their condition, no feasible assignment
+/// has a better value. No two nodes have the same name and key.
+pub fn prices_prove_plans()
+    ensures value { PricesProve }
+{}
+
+/// Theorem: the prices that a run prints after a plan prove it, in the network that the two inputs
+/// mean.
+pub fn printed_prices_prove_plans()
+    ensures value { PricedPlansAreProved }
 {}

@@ -10,6 +10,7 @@ mod driver_fault;
 mod driver_laws;
 mod line_runs;
 mod network_reader;
+mod priced_run;
 mod problem_source;
 mod reporting;
 mod solve_run;
@@ -23,8 +24,8 @@ pub use driver_laws::{
     answers_are_accepted, answers_solve_models, compilations_are_sound,
     compiled_problems_represent_models, first_error_is_in_its_file, line_names_are_exact,
     models_have_one_network, names_are_declared_once, nodes_and_arcs_are_apart, one_first_fault,
-    one_of_network_and_error, read_or_rejected, solutions_are_sound, texts_have_one_answer,
-    well_named,
+    one_of_network_and_error, prices_prove_plans, printed_prices_prove_plans, read_or_rejected,
+    solutions_are_sound, texts_have_one_answer, well_named,
 };
 pub use line_runs::{run_check, run_min, solve_min};
 pub use net_base::{ErrorCode, Span};
@@ -35,5 +36,6 @@ pub use net_io::{Failed, Sink, Source};
 pub use net_normal::{Link, Problem};
 pub use net_solve::Settled;
 pub use network_reader::read_network;
+pub use priced_run::run_solve_with_prices;
 pub use solve_run::{ExitKind, run_solve, run_solve_with};
 pub use std::alloc::AllocError as OutOfMemory;

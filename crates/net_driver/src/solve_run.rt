@@ -17,7 +17,8 @@ use net_io::{Sink, Source, write_whole};
 use net_lex::{DATA_LIMIT, MODEL_LIMIT};
 use std::alloc::Global;
 
-fn exit_kind_of(outcome: &Outcome) -> ExitKind
+/// Returns the result of a run with this outcome.
+pub(crate) fn exit_kind_of(outcome: &Outcome) -> ExitKind
     ensures { result ≡ exit_kind_of outcome.now }
 {
     match outcome {
