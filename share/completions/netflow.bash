@@ -47,7 +47,8 @@ _netflow() {
     fi
     case ${COMP_WORDS[1]} in
         help) COMPREPLY=($(compgen -W "solve compile min check" -- "$word")) ;;
-        solve | compile) _netflow_rest "--objective --lean" $suffix ;;
+        solve) _netflow_rest "--objective --lean --prices" $suffix ;;
+        compile) _netflow_rest "--objective --lean" $suffix ;;
         *) _netflow_rest "" min sol ;;
     esac
 }
@@ -64,7 +65,7 @@ _netflow_companion() {
         netflow-convert) _netflow_rest "--output --force --version" $suffix ;;
         netflow-explain)
             [ "$COMP_CWORD" -gt 1 ] || COMPREPLY=($(compgen -W "solve compile min check --version" -- "$word"))
-            [ ${#COMPREPLY[@]} -gt 0 ] && [ -n "$word" ] || _netflow_rest "$question --lean --json" mod dat min sol ;;
+            [ ${#COMPREPLY[@]} -gt 0 ] && [ -n "$word" ] || _netflow_rest "$question --lean --prices --json" mod dat min sol ;;
         netflow-sheet)
             if [ "$COMP_CWORD" -eq 1 ]; then
                 COMPREPLY=($(compgen -W "plan scenarios diff set list grid data --help --version" -- "$word"))

@@ -8,9 +8,9 @@ use Rattle.net_driver.specs.declared.driver_fault.Fault.{Fault}
 use Rattle.net_driver.specs.declared.driver_fault.Fault.TheVariants.{Unread}
 use Rattle.net_driver.specs.declared.driver_fault.TextName.{TextName}
 use Rattle.net_driver.specs.declared.driver_fault.TextName.TheVariants.{Model, Data, Problem, Certificate}
-use Rattle.net_driver.specs.Runs.{IsCompileRun, IsSolveRun, IsMinRun, IsCheckRun, Sink, Source}
+use Rattle.net_driver.specs.Runs.{IsCompileRun, IsSolveRun, IsPricedRun, IsMinRun, IsCheckRun, Sink, Source}
 use Rattle.netflow.specs.declared.call.Call.{Call}
-use Rattle.netflow.specs.declared.call.Call.TheVariants.{Compile, Solve, Min, Check}
+use Rattle.netflow.specs.declared.call.Call.TheVariants.{Compile, Solve, SolveWithPrices, Min, Check}
 use Rattle.netflow.specs.declared.words.Words.{Words}
 use Rattle.netflow.specs.declared.status.Status.{Status}
 use Rattle.netflow.specs.declared.status.Status.TheVariants as statuses
@@ -60,6 +60,8 @@ IsCallRun files output (Compile model other options) result =
     (ran : Result (Unit {0}) Fault) × IsCompileRun options.lean (option_copied options.objective) m d output ran × (result ≡ compiled_exit_kind ran))
 IsCallRun files output (Solve model other options) result =
     OnFiles files output result model.now Model other.now Data (λ m d. IsSolveRun options.lean (option_copied options.objective) m d output result)
+IsCallRun files output (SolveWithPrices model other options) result =
+    OnFiles files output result model.now Model other.now Data (λ m d. IsPricedRun options.lean (option_copied options.objective) m d output result)
 IsCallRun files output (Min problem) result =
     OnFile files output result problem.now Problem (λ p. IsMinRun p output result)
 IsCallRun files output (Check problem certificate) result =

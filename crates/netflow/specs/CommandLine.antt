@@ -27,6 +27,10 @@ objective_rule = record (new_rule (codes "NAME")) { long = Some (codes "objectiv
 abbrev pub lean_rule : Rule
 lean_rule = record (new_rule (codes "lean")) { long = Some (codes "lean"); action = Some SetTrue }
 
+-- `--prices`, a flag without a value
+abbrev pub prices_rule : Rule
+prices_rule = record (new_rule (codes "prices")) { long = Some (codes "prices"); action = Some SetTrue }
+
 abbrev pub model_app : Text → App
 model_app name = with_rule (with_rule (with_rule (with_rule (new_app name) (path_rule (codes "MODEL"))) (path_rule (codes "DATA"))) objective_rule) lean_rule
 
@@ -34,7 +38,7 @@ abbrev pub compile_app : App
 compile_app = model_app (codes "compile")
 
 abbrev pub solve_app : App
-solve_app = model_app (codes "solve")
+solve_app = with_rule (model_app (codes "solve")) prices_rule
 
 abbrev pub min_app : App
 min_app = with_rule (new_app (codes "min")) (path_rule (codes "PROBLEM"))
@@ -93,6 +97,13 @@ asked_lean Solve rows = is_set rows (codes "lean")
 asked_lean Min rows = false
 asked_lean Check rows = false
 
+-- prices are requested; only `solve` has this flag
+abbrev pub asked_prices : Action → List Row → Bool
+asked_prices Compile rows = false
+asked_prices Solve rows = is_set rows (codes "prices")
+asked_prices Min rows = false
+asked_prices Check rows = false
+
 -- clap accepts these arguments, and this is the subcommand that it parses from them, with the values
 -- of its path arguments in order
 pub record IsAskedBy (words : List Text) (asked : Words) : Type 0 where
@@ -102,6 +113,7 @@ pub record IsAskedBy (words : List Text) (asked : Words) : Type 0 where
   pub paths : map string_bytes asked.paths.items ≡ map (given rows) (path_names asked.command)
   pub objective : option_map string_bytes asked.objective ≡ asked_objective asked.command rows
   pub lean : asked.lean ≡ asked_lean asked.command rows
+  pub prices : asked.prices ≡ asked_prices asked.command rows
 
 -- clap accepts these arguments, and their subcommand is one of the four
 pub record IsValid (words : List Text) : Type 0 where
@@ -134,6 +146,8 @@ abbrev pub IsCallOf : Words → Call → Type 0
 IsCallOf asked (calls.Compile model other options) =
     (asked.command ≡ Compile) × (model.now ≡ path_at asked 0) × (other.now ≡ path_at asked 1) × (options.lean ≡ asked.lean) × (option_copied options.objective ≡ option_map string_bytes asked.objective)
 IsCallOf asked (calls.Solve model other options) =
-    (asked.command ≡ Solve) × (model.now ≡ path_at asked 0) × (other.now ≡ path_at asked 1) × (options.lean ≡ asked.lean) × (option_copied options.objective ≡ option_map string_bytes asked.objective)
+    (asked.command ≡ Solve) × (asked.prices ≡ false) × (model.now ≡ path_at asked 0) × (other.now ≡ path_at asked 1) × (options.lean ≡ asked.lean) × (option_copied options.objective ≡ option_map string_bytes asked.objective)
+IsCallOf asked (calls.SolveWithPrices model other options) =
+    (asked.command ≡ Solve) × (asked.prices ≡ true) × (model.now ≡ path_at asked 0) × (other.now ≡ path_at asked 1) × (options.lean ≡ asked.lean) × (option_copied options.objective ≡ option_map string_bytes asked.objective)
 IsCallOf asked (calls.Min problem) = (asked.command ≡ Min) × (problem.now ≡ path_at asked 0)
 IsCallOf asked (calls.Check problem certificate) = (asked.command ≡ Check) × (problem.now ≡ path_at asked 0) × (certificate.now ≡ path_at asked 1)

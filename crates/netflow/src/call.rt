@@ -18,6 +18,8 @@ pub enum Call<'w> {
     Compile(&'w str, &'w str, Options<'w>),
     /// The model, the data, and the options.
     Solve(&'w str, &'w str, Options<'w>),
+    /// The model, the data, and the options; a plan is printed with prices.
+    SolveWithPrices(&'w str, &'w str, Options<'w>),
     /// The problem.
     Min(&'w str),
     /// The problem and the certificate.
@@ -55,13 +57,28 @@ fn options_in(words: &Words) -> Options<'_>
     }
 }
 
+/// Returns the call of the subcommand `solve`.
+fn solve_call(words: &Words) -> Call<'_>
+    requires { words.now.command ≡ Action.Solve }
+    ensures { IsCallOf words.now result }
+{
+    let model = path_at(words, 0);
+    let data = path_at(words, 1);
+    let options = options_in(words);
+    if words.prices {
+        Call::SolveWithPrices(model, data, options)
+    } else {
+        Call::Solve(model, data, options)
+    }
+}
+
 /// Returns the call that the arguments request.
 pub fn call_of(words: &Words) -> Call<'_>
     ensures value { IsCallOf words.now result }
 {
     match words.command {
         Action::Compile => Call::Compile(path_at(words, 0), path_at(words, 1), options_in(words)),
-        Action::Solve => Call::Solve(path_at(words, 0), path_at(words, 1), options_in(words)),
+        Action::Solve => solve_call(words),
         Action::Min => Call::Min(path_at(words, 0)),
         Action::Check => Call::Check(path_at(words, 0), path_at(words, 1)),
     }

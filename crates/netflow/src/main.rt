@@ -2,6 +2,7 @@
 #![tactic(auto)]
 
 mod call;
+mod matched;
 mod program;
 mod status;
 mod words;

@@ -10,6 +10,7 @@ use crate::status::Status;
 use crate::words::{WordsFault, words_of};
 use net_driver::{
     ExitKind, Fault, Options, TextName, run_check, run_compile_with, run_min, run_solve_with,
+    run_solve_with_prices,
 };
 use net_io::Sink;
 use std::alloc::Global;
@@ -65,6 +66,30 @@ fn solve_files<F: InputFiles, W: Sink>(
         return Err(Fault::Unread(TextName::Data));
     };
     run_solve_with(alloc, options, &mut model, &mut data, output)
+}
+
+/// Solves the model and data of two files, and writes the plan with its prices.
+fn price_files<F: InputFiles, W: Sink>(
+    alloc: Global,
+    files: &F,
+    output: &mut W,
+    model: &str,
+    data: &str,
+    options: &Options<'_>,
+) -> Result<ExitKind, Fault>
+    requires { W.failed output.old ≡ false }
+    ensures { IsCallRun
+        (record { opens = F.opens files.now; remaining = F.Input.remaining; failed = F.Input.failed; reads = F.Input.reads })
+        (record { taken = W.taken; failed = W.failed; old = output.old; new = output.new })
+        (Call.SolveWithPrices model.entry «data».entry options.now) result }
+{
+    let Some(mut model) = files.open(model) else {
+        return Err(Fault::Unread(TextName::Model));
+    };
+    let Some(mut data) = files.open(data) else {
+        return Err(Fault::Unread(TextName::Data));
+    };
+    run_solve_with_prices(alloc, options, &mut model, &mut data, output)
 }
 
 /// Solves the problem of a file, and writes its certificate.
@@ -132,6 +157,9 @@ pub fn run_program<R: Runtime + AllocGlobal, F: InputFiles, W: Sink>(
         }
         Call::Solve(model, data, options) => {
             solve_files(rt.alloc(), files, output, model, data, &options)
+        }
+        Call::SolveWithPrices(model, data, options) => {
+            price_files(rt.alloc(), files, output, model, data, &options)
         }
         Call::Min(problem) => min_file(rt.alloc(), files, output, problem),
         Call::Check(problem, certificate) => {

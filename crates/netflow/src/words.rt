@@ -1,16 +1,15 @@
-//! The command line. Only this file depends on clap.
+//! The command line. Only this file and `matched.rt` depend on clap.
 
-ghost use Rattle.std.specs.Prelude.{◌≡◌, false, [], ◌∷◌, map, option_map, string_bytes, codes, IfOk, IfErr, IfSome, IfNone};
-ghost use Rattle.clap.specs.Words.{App, first_of, rule_of, with_subcommand};
-ghost use Rattle.clap.specs.Matches.{found_of};
-ghost use Rattle.clap.specs.Walk.{rows_of};
-ghost use Rattle.netflow.specs.CommandLine.{path_rule, objective_rule, lean_rule, solve_app, compile_app, min_app, check_app, netflow_app, bare_app};
-ghost use Rattle.netflow.specs.CommandLine.{action_word, path_names, asked_objective, asked_lean, is_set, given, IsApp, IsAskedBy};
+ghost use Rattle.std.specs.Prelude.{◌≡◌, false, map, string_bytes, IfOk, IfErr, IfSome, IfNone};
+ghost use Rattle.clap.specs.Words.{App, rule_of, with_subcommand};
+ghost use Rattle.netflow.specs.CommandLine.{path_rule, objective_rule, lean_rule, prices_rule, action_word, IsApp, IsAskedBy};
+ghost use Rattle.netflow.specs.CommandLine.{solve_app, compile_app, min_app, check_app, netflow_app, bare_app};
 ghost use Rattle.netflow.specs.CommandLine.{IsMissing, IsNoAction, IsRejection};
 ghost use Rattle.netflow.specs.declared.words.WordsFault.TheVariants as words_faults;
 
+use crate::matched::{lean_of, objective_of, paths_of, prices_of};
 use clap::error::ErrorKind;
-use clap::{Arg, ArgAction, ArgMatches, Command};
+use clap::{Arg, ArgAction, Command};
 use std::alloc::{AllocError, Global};
 use thiserror::Error;
 
@@ -37,6 +36,8 @@ pub struct Words {
     pub objective: Option<String>,
     /// Whether the lean form of the problem is requested.
     pub lean: bool,
+    /// Whether prices are requested with a plan.
+    pub prices: bool,
 }
 
 /// Why arguments are not a valid request.
@@ -103,10 +104,12 @@ const SOLVE_ABOUT: &str = "Solves a model and prints its plan, or why there is n
 const SOLVE_HELP: &str =
     "The plan is the objective's value and the value of each arc. If there is no
 plan, netflow prints a set of nodes that supplies more than its arcs can carry,
-or less than they must (status 2).
+or less than they must (status 2). With --prices it also prints the price of
+each node and the reduced cost of each arc, which prove the plan.
 
 Example:
   netflow solve transport.mod transport.dat
+  netflow solve transport.mod transport.dat --prices
   netflow solve transport.mod transport.dat --objective Profit";
 
 const MIN_ABOUT: &str = "Solves a DIMACS problem and prints a certificate";
@@ -158,6 +161,17 @@ fn lean<'a>(alloc: Global) -> Arg<'a>
         .help("Build a problem without lower bounds or fixed arcs")
 }
 
+/// Builds the flag that requests prices.
+fn prices<'a>(alloc: Global) -> Arg<'a>
+    ensures rule { rule_of result ≡ prices_rule }
+    ensures local { result.global ≡ false }
+{
+    Arg::new(alloc, "prices")
+        .long("prices")
+        .action(ArgAction::SetTrue)
+        .help("Print the prices that prove the plan after it")
+}
+
 fn compile_command<'a>(alloc: Global) -> Result<Command<'a>, AllocError>
     ensures { IfOk result (IsApp compile_app) }
 {
@@ -179,7 +193,8 @@ fn solve_command<'a>(alloc: Global) -> Result<Command<'a>, AllocError>
         .arg(path(alloc, "MODEL", "The model: its objective, nodes and arcs"))?
         .arg(path(alloc, "DATA", "The model's data; /dev/null if it has none"))?
         .arg(objective(alloc))?
-        .arg(lean(alloc))
+        .arg(lean(alloc))?
+        .arg(prices(alloc))
 }
 
 fn min_command<'a>(alloc: Global) -> Result<Command<'a>, AllocError>
@@ -253,100 +268,6 @@ fn action_of(name: &str) -> Option<Action>
     }
 }
 
-/// Returns the value of a path argument.
-#[tactic(auto, using(crate::proofs::Rows::first_given))]
-fn path_of(alloc: Global, matches: &ArgMatches<'_>, name: &str) -> Result<String, AllocError>
-    ensures { IfOk result (λ path. string_bytes path ≡ given (rows_of (found_of matches.now)) name.now) }
-{
-    String::from_str(alloc, matches.get_str(name).unwrap_or(""))
-}
-
-fn one_path(alloc: Global, matches: &ArgMatches<'_>, name: &str) -> Result<Vec<String>, AllocError>
-    ensures { IfOk result (λ paths. map string_bytes paths.items ≡ given (rows_of (found_of matches.now)) name.now ∷ []) }
-{
-    let mut paths = Vec::new(alloc);
-    paths.push(path_of(alloc, matches, name)?)?;
-    Ok(paths)
-}
-
-fn two_paths(
-    alloc: Global,
-    matches: &ArgMatches<'_>,
-    first: &str,
-    second: &str,
-) -> Result<Vec<String>, AllocError>
-    ensures { IfOk result (λ paths. map string_bytes paths.items
-        ≡ given (rows_of (found_of matches.now)) first.now ∷ given (rows_of (found_of matches.now)) second.now ∷ []) }
-{
-    let mut paths = Vec::new(alloc);
-    paths.push(path_of(alloc, matches, first)?)?;
-    paths.push(path_of(alloc, matches, second)?)?;
-    Ok(paths)
-}
-
-/// Returns the values of a subcommand's path arguments, in order.
-fn paths_of(
-    alloc: Global,
-    action: Action,
-    matches: &ArgMatches<'_>,
-) -> Result<Vec<String>, AllocError>
-    ensures { IfOk result (λ paths.
-        map string_bytes paths.items ≡ map (given (rows_of (found_of matches.now))) (path_names action)) }
-{
-    match action {
-        Action::Compile => two_paths(alloc, matches, "MODEL", "DATA"),
-        Action::Solve => two_paths(alloc, matches, "MODEL", "DATA"),
-        Action::Min => one_path(alloc, matches, "PROBLEM"),
-        Action::Check => two_paths(alloc, matches, "PROBLEM", "CERTIFICATE"),
-    }
-}
-
-/// Returns the value of `--objective`.
-#[tactic(auto, using(crate::proofs::Rows::first_given))]
-fn name_of(alloc: Global, matches: &ArgMatches<'_>) -> Result<Option<String>, AllocError>
-    ensures { IfOk result (λ name. option_map string_bytes name ≡ first_of (codes "NAME") (rows_of (found_of matches.now))) }
-{
-    match matches.get_str("NAME") {
-        None => Ok(None),
-        Some(name) => Ok(Some(String::from_str(alloc, name)?)),
-    }
-}
-
-/// Returns the value of `--objective`, for a subcommand that has this option.
-fn objective_of(
-    alloc: Global,
-    action: Action,
-    matches: &ArgMatches<'_>,
-) -> Result<Option<String>, AllocError>
-    ensures { IfOk result (λ name. option_map string_bytes name ≡ asked_objective action (rows_of (found_of matches.now))) }
-{
-    match action {
-        Action::Compile | Action::Solve => name_of(alloc, matches),
-        Action::Min | Action::Check => Ok(None),
-    }
-}
-
-/// Returns whether a flag is set; a flag that is not given has no value, or `false`.
-#[tactic(auto, using(crate::proofs::Rows::first_given))]
-fn flag_of(matches: &ArgMatches<'_>, name: &str) -> bool
-    ensures { result ≡ is_set (rows_of (found_of matches.now)) name.now }
-{
-    match matches.get_str(name) {
-        Some(value) => value == "true",
-        None => false,
-    }
-}
-
-/// Returns whether the lean form is requested, for a subcommand that has this flag.
-fn lean_of(action: Action, matches: &ArgMatches<'_>) -> bool
-    ensures { result ≡ asked_lean action (rows_of (found_of matches.now)) }
-{
-    match action {
-        Action::Compile | Action::Solve => flag_of(matches, "lean"),
-        Action::Min | Action::Check => false,
-    }
-}
-
 /// Returns the usage error for a subcommand that is not the program's own. clap reports all of them
 /// itself, but its contract does not say so.
 fn no_command(command: &mut Command<'_>) -> WordsFault
@@ -381,10 +302,12 @@ pub fn words_of(alloc: Global, words: &[String]) -> Result<Words, WordsFault>
     let paths = paths_of(alloc, action, found)?;
     let objective = objective_of(alloc, action, found)?;
     let lean = lean_of(action, found);
+    let prices = prices_of(action, found);
     Ok(Words {
         command: action,
         paths,
         objective,
         lean,
+        prices,
     })
 }

@@ -1,7 +1,7 @@
 use Rattle.std.proofs.Common.{inl, inr, refl, map, string_bytes, ◌∙◌, ap, sym}
 use Rattle.netflow.specs.Calls.{status_of}
 use Rattle.netflow.proofs.program.run_program.Goals as goal
-use Rattle.netflow.proofs.program.run_program.Goals.{in-Compile, in-Solve, in-Min, in-Check}
+use Rattle.netflow.proofs.program.run_program.Goals.{in-Compile, in-Solve, in-SolveWithPrices, in-Min, in-Check}
 
 pub returns-in-Err : goal.returns-in-Err
 returns-in-Err g c = inr (record { idle = c.print_usage.ensures (map string_bytes c.args.words.now) c.in-Err.ensures.rejected; unwritten = refl })
@@ -16,6 +16,7 @@ returns-in-Ok-ran g c = inl (record {
   run = elim c.match-call_of.branch [
     | in-Compile w ↦ rw (w.output-is, w.in-Compile.is, w.ran-is) w.compile_files-ran.ensures
     | in-Solve w ↦ rw (w.output-is, w.in-Solve.is, w.ran-is) w.solve_files-ran.ensures
+    | in-SolveWithPrices w ↦ rw (w.output-is, w.in-SolveWithPrices.is, w.ran-is) w.price_files-ran.ensures
     | in-Min w ↦ rw (w.output-is, w.in-Min.is, w.ran-is) w.min_file-ran.ensures
     | in-Check w ↦ rw (w.output-is, w.in-Check.is, w.ran-is) w.check_files-ran.ensures
   ];
@@ -32,6 +33,7 @@ returns g c = inl (record {
   run = elim c.match-call_of.branch [
     | in-Compile w ↦ rw (w.output-is, w.in-Compile.is, w.ran-is) w.compile_files-ran.ensures
     | in-Solve w ↦ rw (w.output-is, w.in-Solve.is, w.ran-is) w.solve_files-ran.ensures
+    | in-SolveWithPrices w ↦ rw (w.output-is, w.in-SolveWithPrices.is, w.ran-is) w.price_files-ran.ensures
     | in-Min w ↦ rw (w.output-is, w.in-Min.is, w.ran-is) w.min_file-ran.ensures
     | in-Check w ↦ rw (w.output-is, w.in-Check.is, w.ran-is) w.check_files-ran.ensures
   ];

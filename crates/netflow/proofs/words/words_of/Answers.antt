@@ -17,6 +17,7 @@ returns-clause-value c = record {
   paths = c.in_ok-paths.ensures;
   objective = c.in_ok-objective.ensures;
   lean = c.lean_of-lean.ensures;
+  prices = c.prices_of-prices.ensures;
 }
 
 pub returns-in-Err-2-clause-rejected : goal.returns-in-Err-2-clause-rejected
