@@ -9,7 +9,7 @@ use std::alloc::{AllocError, Global};
 
 /// The total capacity above the lower bounds of the arcs out of each node, and of those into it.
 #[derive(Drop)]
-struct Residuals {
+struct NodeResiduals {
     out: Vec<i128>,
     into: Vec<i128>,
 }
@@ -19,13 +19,11 @@ fn add_room(rooms: &mut Vec<i128>, node: u32, room: i128) {
     put(rooms, node, sum);
 }
 
-fn rooms_of(alloc: Global, problem: &Problem) -> Result<Residuals, AllocError> {
+fn rooms_of(alloc: Global, problem: &Problem) -> Result<NodeResiduals, AllocError> {
     let count = problem.supplies.len();
     let out = vec![in alloc; 0i128; count]?;
-    let Ok(into) = vec![in alloc; 0i128; count] else {
-        return Err(AllocError);
-    };
-    let mut rooms = Residuals { out, into };
+    let into = vec![in alloc; 0i128; count]?;
+    let mut rooms = NodeResiduals { out, into };
     rooms.add_arcs(problem);
     Ok(rooms)
 }
@@ -37,7 +35,7 @@ struct Neck {
     side: Side,
 }
 
-impl Residuals {
+impl NodeResiduals {
     /// Adds the capacity above the lower bound of each arc that is not a loop.
     fn add_arcs(&mut self, problem: &Problem) {
         for arc in &problem.arcs {
@@ -62,7 +60,7 @@ impl Residuals {
 }
 
 /// Returns the first node that is a cut by itself.
-fn first_neck(rooms: &Residuals, excess: &[i128]) -> Option<Neck> {
+fn first_neck(rooms: &NodeResiduals, excess: &[i128]) -> Option<Neck> {
     let mut node = 0u32;
     for excess in excess {
         if let Some(side) = rooms.side(node, *excess) {
@@ -81,9 +79,7 @@ pub fn bottleneck(
     problem: &Problem,
     excess: &[i128],
 ) -> Result<Option<Cut>, AllocError> {
-    let Ok(rooms) = rooms_of(alloc, problem) else {
-        return Err(AllocError);
-    };
+    let rooms = rooms_of(alloc, problem)?;
     match first_neck(&rooms, excess) {
         Some(neck) => cut_at(alloc, problem, neck),
         None => Ok(None),
@@ -92,9 +88,7 @@ pub fn bottleneck(
 
 /// Returns the cut of a single node. Fails only if memory runs out.
 fn cut_at(alloc: Global, problem: &Problem, neck: Neck) -> Result<Option<Cut>, AllocError> {
-    let Ok(mut flags) = vec![in alloc; false; problem.supplies.len()] else {
-        return Err(AllocError);
-    };
+    let mut flags = vec![in alloc; false; problem.supplies.len()]?;
     put(&mut flags, neck.node, true);
     let side = neck.side;
     Ok(Some(Cut { flags, side }))

@@ -62,10 +62,8 @@ impl CheapestPaths {
             order: Vec::with_capacity(alloc, node_count)?,
             waiting: BinaryHeap::new(alloc),
         };
-        match ways.make_room(alloc, node_count, arc_count) {
-            Ok(()) => Ok(ways),
-            Err(fault) => Err(fault),
-        }
+        ways.make_room(alloc, node_count, arc_count)?;
+        Ok(ways)
     }
 
     fn make_room(
@@ -74,15 +72,9 @@ impl CheapestPaths {
         node_count: usize,
         arc_count: usize,
     ) -> Result<(), AllocError> {
-        let Ok(()) = fill(alloc, &mut self.starts, 0, node_count.saturating_add(1)) else {
-            return Err(AllocError);
-        };
-        let Ok(()) = fill(alloc, &mut self.arrivals, Arrival::NONE, arc_count) else {
-            return Err(AllocError);
-        };
-        let Ok(()) = fill(alloc, &mut self.costs, FAR, node_count) else {
-            return Err(AllocError);
-        };
+        fill(alloc, &mut self.starts, 0, node_count.saturating_add(1))?;
+        fill(alloc, &mut self.arrivals, Arrival::NONE, arc_count)?;
+        fill(alloc, &mut self.costs, FAR, node_count)?;
         fill(alloc, &mut self.firsts, NO_PLACE, node_count)
     }
 

@@ -69,12 +69,8 @@ impl Incidence {
         let count = problem.arcs.len().saturating_mul(2);
         let none = Incident { head: 0, place: 0 };
         let starts = row_ends(alloc, problem)?;
-        let Ok(ends) = vec![in alloc; none; count] else {
-            return Err(AllocError);
-        };
-        let Ok(rooms) = vec![in alloc; 0i64; count] else {
-            return Err(AllocError);
-        };
+        let ends = vec![in alloc; none; count]?;
+        let rooms = vec![in alloc; 0i64; count]?;
         let mut incidence = Incidence {
             starts,
             ends,

@@ -18,12 +18,8 @@ pub struct NodeQueue {
 impl NodeQueue {
     /// Creates an empty queue with space for this many nodes. Fails only if memory runs out.
     pub fn with_room(alloc: Global, node_count: usize) -> Result<NodeQueue, AllocError> {
-        let Ok(nodes) = vec![in alloc; 0u32; node_count] else {
-            return Err(AllocError);
-        };
-        let Ok(is_waiting) = vec![in alloc; false; node_count] else {
-            return Err(AllocError);
-        };
+        let nodes = vec![in alloc; 0u32; node_count]?;
+        let is_waiting = vec![in alloc; false; node_count]?;
         Ok(NodeQueue {
             nodes,
             is_waiting,

@@ -2,7 +2,7 @@
 
 use crate::attaching::Attachment;
 use crate::guess::Halt;
-use crate::prices::Part;
+use crate::prices::Segment;
 use crate::simplex::Simplex;
 use crate::tree::Residuals;
 use crate::unchecked_lists::{at, index, try_at};
@@ -168,20 +168,20 @@ impl Simplex {
         let others = all.saturating_sub(node.size);
         self.block.take_move(node.size.min(others), self.looked);
         if others < node.size && self.prices.may_move(all.wrapping_sub(1)) {
-            let part = Part {
+            let segment = Segment {
                 first: self.tree.thread(node.last).next,
                 last: self.tree.thread(top).previous,
                 count: others,
             };
             let amount = amount.wrapping_neg();
-            self.prices.raise(&self.tree.threads, part, amount)
+            self.prices.raise(&self.tree.threads, segment, amount)
         } else {
-            let part = Part {
+            let segment = Segment {
                 first: top,
                 last: node.last,
                 count: node.size,
             };
-            self.prices.raise(&self.tree.threads, part, amount)
+            self.prices.raise(&self.tree.threads, segment, amount)
         }
     }
 }

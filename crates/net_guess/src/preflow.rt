@@ -79,18 +79,10 @@ impl Preflow {
 
     /// Copies the excess of each node and allocates the other lists.
     fn make_room(&mut self, alloc: Global, excess: &[i128]) -> Result<(), AllocError> {
-        let Ok(()) = self.excess.extend_from_slice(excess) else {
-            return Err(AllocError);
-        };
-        let Ok(()) = fill(alloc, &mut self.levels, NO_LEVEL, excess.len()) else {
-            return Err(AllocError);
-        };
-        let Ok(()) = fill(alloc, &mut self.firsts, NO_NODE, excess.len()) else {
-            return Err(AllocError);
-        };
-        let Ok(()) = fill(alloc, &mut self.nexts, NO_NODE, excess.len()) else {
-            return Err(AllocError);
-        };
+        self.excess.extend_from_slice(excess)?;
+        fill(alloc, &mut self.levels, NO_LEVEL, excess.len())?;
+        fill(alloc, &mut self.firsts, NO_NODE, excess.len())?;
+        fill(alloc, &mut self.nexts, NO_NODE, excess.len())?;
         fill(alloc, &mut self.current, 0, excess.len())
     }
 

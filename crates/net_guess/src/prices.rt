@@ -76,7 +76,7 @@ fn place_in(length: usize, from: usize, offset: usize) -> Option<u32> {
 
 /// Consecutive nodes in the cyclic order: the first and the last, and their number.
 #[derive(Clone, Copy)]
-pub struct Part {
+pub struct Segment {
     pub first: u32,
     pub last: u32,
     pub count: u32,
@@ -108,10 +108,8 @@ impl Prices {
             wide_arcs: Vec::new(alloc),
             wide_potentials: Vec::new(alloc),
         };
-        match prices.make_room(alloc, node_count, arc_count) {
-            Ok(()) => Ok(prices),
-            Err(fault) => Err(fault),
-        }
+        prices.make_room(alloc, node_count, arc_count)?;
+        Ok(prices)
     }
 
     fn make_room(
@@ -121,14 +119,10 @@ impl Prices {
         arc_count: usize,
     ) -> Result<(), AllocError> {
         if self.is_narrow {
-            let Ok(()) = fill(alloc, &mut self.narrow_arcs, NarrowArc::NONE, arc_count) else {
-                return Err(AllocError);
-            };
+            fill(alloc, &mut self.narrow_arcs, NarrowArc::NONE, arc_count)?;
             fill(alloc, &mut self.narrow_potentials, 0, node_count)
         } else {
-            let Ok(()) = fill(alloc, &mut self.wide_arcs, PricedArc::NONE, arc_count) else {
-                return Err(AllocError);
-            };
+            fill(alloc, &mut self.wide_arcs, PricedArc::NONE, arc_count)?;
             fill(alloc, &mut self.wide_potentials, 0, node_count)
         }
     }
@@ -204,32 +198,42 @@ impl Prices {
 
     /// Adds to the potentials of consecutive nodes, from both ends, since each step depends on the
     /// one before it.
-    pub fn raise(&mut self, threads: &Vec<Thread>, part: Part, amount: i64) -> Result<(), Halt> {
+    pub fn raise(
+        &mut self,
+        threads: &Vec<Thread>,
+        segment: Segment,
+        amount: i64,
+    ) -> Result<(), Halt> {
         if self.is_narrow {
-            return self.raise_narrow(threads, part, narrow(amount));
+            return self.raise_narrow(threads, segment, narrow(amount));
         }
-        let (mut first, mut last) = (part.first, part.last);
-        for _ in 0..part.count / 2 {
+        let (mut first, mut last) = (segment.first, segment.last);
+        for _ in 0..segment.count / 2 {
             add_wide(&mut self.wide_potentials, first, amount)?;
             add_wide(&mut self.wide_potentials, last, amount)?;
             first = try_at(threads, first)?.next;
             last = try_at(threads, last)?.previous;
         }
-        if part.count % 2 == 1 {
+        if segment.count % 2 == 1 {
             add_wide(&mut self.wide_potentials, first, amount)?;
         }
         Ok(())
     }
 
-    fn raise_narrow(&mut self, threads: &Vec<Thread>, part: Part, amount: i32) -> Result<(), Halt> {
-        let (mut first, mut last) = (part.first, part.last);
-        for _ in 0..part.count / 2 {
+    fn raise_narrow(
+        &mut self,
+        threads: &Vec<Thread>,
+        segment: Segment,
+        amount: i32,
+    ) -> Result<(), Halt> {
+        let (mut first, mut last) = (segment.first, segment.last);
+        for _ in 0..segment.count / 2 {
             add_narrow(&mut self.narrow_potentials, first, amount)?;
             add_narrow(&mut self.narrow_potentials, last, amount)?;
             first = try_at(threads, first)?.next;
             last = try_at(threads, last)?.previous;
         }
-        if part.count % 2 == 1 {
+        if segment.count % 2 == 1 {
             add_narrow(&mut self.narrow_potentials, first, amount)?;
         }
         Ok(())

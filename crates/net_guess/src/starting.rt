@@ -135,9 +135,7 @@ impl Simplex {
     /// Returns the shortest paths over arcs with residual capacity.
     fn ways(&self, alloc: Global, excess: &[i128]) -> Result<CheapestPaths, AllocError> {
         let count = self.numbers.len();
-        let Ok(mut ways) = CheapestPaths::with_room(alloc, excess.len(), count) else {
-            return Err(AllocError);
-        };
+        let mut ways = CheapestPaths::with_room(alloc, excess.len(), count)?;
         for place in 0..index(count) {
             ways.count_arrival(self.prices.arc(place).dst);
         }
@@ -145,10 +143,8 @@ impl Simplex {
         for place in 0..index(count) {
             ways.put_arrival(place, self.prices.arc(place));
         }
-        match ways.find(excess) {
-            Ok(()) => Ok(ways),
-            Err(fault) => Err(fault),
-        }
+        ways.find(excess)?;
+        Ok(ways)
     }
 
     /// Attaches a leaf of the root by the arc with this index, without flow.

@@ -84,18 +84,10 @@ impl Tree {
     /// Creates this many nodes, including the root, which still have to be placed. Fails only if
     /// memory runs out.
     pub fn of_size(alloc: Global, count: usize) -> Result<Tree, AllocError> {
-        let Ok(nodes) = vec![in alloc; TreeNode::NONE; count] else {
-            return Err(AllocError);
-        };
-        let Ok(rooms) = vec![in alloc; Residuals::NONE; count] else {
-            return Err(AllocError);
-        };
-        let Ok(marks) = vec![in alloc; 0u32; count] else {
-            return Err(AllocError);
-        };
-        let Ok(threads) = vec![in alloc; Thread::NONE; count] else {
-            return Err(AllocError);
-        };
+        let nodes = vec![in alloc; TreeNode::NONE; count]?;
+        let rooms = vec![in alloc; Residuals::NONE; count]?;
+        let marks = vec![in alloc; 0u32; count]?;
+        let threads = vec![in alloc; Thread::NONE; count]?;
         Ok(Tree {
             nodes,
             rooms,

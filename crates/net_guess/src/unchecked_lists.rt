@@ -63,13 +63,8 @@ pub fn fill<T: Copy>(
     item: T,
     count: usize,
 ) -> Result<(), AllocError> {
-    match vec![in alloc; item; count] {
-        Ok(made) => {
-            *items = made;
-            Ok(())
-        }
-        Err(fault) => Err(fault),
-    }
+    *items = vec![in alloc; item; count]?;
+    Ok(())
 }
 
 /// Returns the positions of a node's items, given the start of each node's and the end of the last.
