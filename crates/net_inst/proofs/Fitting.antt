@@ -80,10 +80,10 @@ numbered_below count at d first (Some p) n h = among_below count at d (first + p
 
 node_at_below : (count : ℕ) (at : Span) (name : Name) (k : Option KeyNumbers) (key : Tuple) (n : ℕ) → node_at count at name k key ≡ Ok n → n < count
 node_at_below count at name None key n h = cc
-node_at_below count at name (Some k) key n h = step (nat_eq (length key) (key_count k.keys)) h
+node_at_below count at name (Some k) key n h = step (nat_eq (length key) (key_count k.count)) h
   where
-    step : (b : Bool) → (if b then numbered count at (reference name k.keys key) k.first (place_of k.index key) else rejected Arity at) ≡ Ok n → n < count
-    step true h = numbered_below count at (reference name k.keys key) k.first (place_of k.index key) n h
+    step : (b : Bool) → (if b then numbered count at (reference name k.count key) k.first (place_of k.keys key) else rejected Arity at) ≡ Ok n → n < count
+    step true h = numbered_below count at (reference name k.count key) k.first (place_of k.keys key) n h
     step false h = cc
 
 node_below : (d : BuiltNodes) (w : World) (s : Scope) (t : Tree) (n : ℕ) → node_named d w s t ≡ Ok n → n < length d.ranges

@@ -88,7 +88,7 @@ two = record {
       declarations = (record { name = codes "N"; indexed = true }) ∷ [];
       keys = (record { declaration = 0; tuple = Number (pos 1) ∷ [] }) ∷ (record { declaration = 0; tuple = Number (pos 2) ∷ [] }) ∷ [];
     };
-    numbers = (codes "N", record { keys = Some 1; first = 0; index = (Number (pos 1) ∷ []) ∷ (Number (pos 2) ∷ []) ∷ [] }) ∷ [];
+    numbers = (codes "N", record { count = Some 1; first = 0; keys = (Number (pos 1) ∷ []) ∷ (Number (pos 2) ∷ []) ∷ [] }) ∷ [];
   };
 }
 
@@ -107,7 +107,7 @@ one_arc : with_arcs (arc_env None two []) (name (codes "X") 36 37) None (least �
     ≡ Ok (record {
       arcs = (record { lower = pos 0; upper = pos 3; tail = Some 1; head = None }) ∷ [];
       form = record { constant = pos 0; products = [] };
-      group = record { list = record { declarations = (record { name = codes "X"; indexed = false }) ∷ []; keys = (record { declaration = 0; tuple = [] }) ∷ [] }; numbers = (codes "X", record { keys = None; first = 0; index = [] ∷ [] }) ∷ [] };
+      group = record { list = record { declarations = (record { name = codes "X"; indexed = false }) ∷ []; keys = (record { declaration = 0; tuple = [] }) ∷ [] }; numbers = (codes "X", record { count = None; first = 0; keys = [] ∷ [] }) ∷ [] };
     })
 unfolding role_of marks keys operations operation reduction is_minus is_small number_in numeral_at mantissa_at power_at whole_value span_of span_between braces_span is_outflow sense_of
 one_arc = refl

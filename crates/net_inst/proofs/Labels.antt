@@ -38,7 +38,7 @@ pub record IsRun (labels : List WrittenLabel) (name : Name) (k : KeyNumbers) : T
   pub after : List WrittenLabel
   pub whole : labels ≡ before ++ (map (label_of name flag) keys ++ after)
   pub first : k.first ≡ length before
-  pub index : k.index ≡ union [] keys
+  pub known : k.keys ≡ union [] keys
 
 pub record Finds (labels : List WrittenLabel) (numbers : Numbers) : Type 0 where
   pub runs : (name : Name) (k : KeyNumbers) → declared numbers name ≡ Some k → IsRun labels name k
@@ -54,7 +54,7 @@ longer labels more name k r = record {
       ∙ append_assoc r.before (map (label_of name r.flag) r.keys ++ r.after) more
       ∙ ap (λ (l : List WrittenLabel). r.before ++ l) (append_assoc (map (label_of name r.flag) r.keys) r.after more);
   first = r.first;
-  index = r.index;
+  known = r.known;
 }
 
 declared_last : (a : Numbers) (name : Name) (k : KeyNumbers) (q : Name) (j : KeyNumbers) → declared (a ++ (name, k) ∷ []) q ≡ Some j → (declared a q ≡ Some j) ⊎ ((name ≡ q) × (k ≡ j))
@@ -74,7 +74,7 @@ finds_more : (labels : List WrittenLabel) (a : Numbers) (name : Name) (flag : Bo
 finds_more labels a name flag first i finds at = record { runs = λ q k e. go q k (is_arc a name) e }
   where
     new : KeyNumbers
-    new = record { keys = i.count; first = first; index = union [] (keys_of i.rows) }
+    new = record { count = i.count; first = first; keys = union [] (keys_of i.rows) }
 
     run : List WrittenLabel
     run = map (label_of name flag) (keys_of i.rows)
@@ -87,7 +87,7 @@ finds_more labels a name flag first i finds at = record { runs = λ q k e. go q 
       after = [];
       whole = ap (λ (l : List WrittenLabel). labels ++ l) (sym (append-nil run));
       first = at;
-      index = refl;
+      known = refl;
     }
 
     either : (q : Name) (k : KeyNumbers) → (declared a q ≡ Some k) ⊎ ((name ≡ q) × (new ≡ k)) → IsRun (labels ++ run) q k
@@ -127,7 +127,7 @@ keys_distinct name flag keys h = distinct_of same_tuple same_label (label_of nam
     both x y e = rw ((bytes_eq-Decides name name).1 refl) e
 
 -- a number that is found is the place of the label
-pub found_label : (labels : List WrittenLabel) (numbers : Numbers) (name : Name) (k : KeyNumbers) (key : Tuple) (p v : ℕ) → Finds labels numbers → IsDistinct same_label labels → declared numbers name ≡ Some k → place_of k.index key ≡ Some p → v ≡ k.first + p
+pub found_label : (labels : List WrittenLabel) (numbers : Numbers) (name : Name) (k : KeyNumbers) (key : Tuple) (p v : ℕ) → Finds labels numbers → IsDistinct same_label labels → declared numbers name ≡ Some k → place_of k.keys key ≡ Some p → v ≡ k.first + p
     → (l : WrittenLabel) × (slice_get labels v ≡ Some l) × (l.name ≡ name) × (l.key ≡ key)
 found_label labels numbers name k key p v finds distinct e at same = (label_of name r.flag key, there, refl, refl)
   where
@@ -144,7 +144,7 @@ found_label labels numbers name k key p v finds distinct e at same = (label_of n
     each_once = all_last [] r.keys (keys_distinct name r.flag r.keys run_distinct) (λ t h. refl)
 
     in_keys : slice_get r.keys p ≡ Some key
-    in_keys = key_at key r.keys p (ap (λ (ts : List Tuple). place_of ts key) (sym each_once) ∙ ap (λ (ts : List Tuple). place_of ts key) (sym r.index) ∙ at)
+    in_keys = key_at key r.keys p (ap (λ (ts : List Tuple). place_of ts key) (sym each_once) ∙ ap (λ (ts : List Tuple). place_of ts key) (sym r.known) ∙ at)
 
     there : slice_get labels v ≡ Some (label_of name r.flag key)
     there =
@@ -168,7 +168,7 @@ known_more : (a : Numbers) (ds : List Declared) (d : Declared) (first : ℕ) (i 
 known_more a ds d first i h = record { alike = λ q. go q (is_arc a d.name) refl ∙ sym (all q) }
   where
     new : KeyNumbers
-    new = record { keys = i.count; first = first; index = union [] (keys_of i.rows) }
+    new = record { count = i.count; first = first; keys = union [] (keys_of i.rows) }
 
     all : (q : Name) → is_arc (map name_alone (ds ++ d ∷ [])) q ≡ (is_arc a q || is_arc (name_alone d ∷ []) q)
     all q = ap (λ (l : Numbers). is_arc l q) (map_join name_alone ds (d ∷ [])) ∙ known_join (map name_alone ds) (name_alone d ∷ []) q ∙ ap (λ (t : Bool). t || is_arc (name_alone d ∷ []) q) (sym (h.alike q))

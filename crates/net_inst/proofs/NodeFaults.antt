@@ -50,7 +50,7 @@ module _ (P : Places) (at : Span) (h : P Model at) where
   finds_node_at : (count : ℕ) (name : Name) (k : Option KeyNumbers) (key : Tuple) → Finds P (node_at count at name k key)
   finds_node_at count name None key = h
   finds_node_at count name (Some k) key =
-      finds_if P (nat_eq (length key) (key_count k.keys)) _ _ (finds_numbered count (reference name k.keys key) k.first (place_of k.index key)) h
+      finds_if P (nat_eq (length key) (key_count k.count)) _ _ (finds_numbered count (reference name k.count key) k.first (place_of k.keys key)) h
 
   finds_indexed_node : (d : BuiltNodes) (w : World) (s : Scope) (n : Token) (x : Tree) (l : Links) → Stands (P Model) x → LinksStand (P Model) l → Finds P (indexed_node d w s at n x l)
   finds_indexed_node d w s n x l j k =

@@ -43,7 +43,7 @@ place_is : (labels : List WrittenLabel) (numbers : Numbers) (name : Name) (key :
     → node_at count at name (declared numbers name) key ≡ Ok v → Stands labels name key v
 place_is labels numbers name key v count at finds distinct e = by_keys (declared numbers name) refl e
   where
-    by_place : (k : KeyNumbers) → declared numbers name ≡ Some k → (o : Option ℕ) → place_of k.index key ≡ o → (d : Detail) → numbered count at d k.first o ≡ Ok v → Stands labels name key v
+    by_place : (k : KeyNumbers) → declared numbers name ≡ Some k → (o : Option ℕ) → place_of k.keys key ≡ o → (d : Detail) → numbered count at d k.first o ≡ Ok v → Stands labels name key v
     by_place k h None i d j = cc
     by_place k h (Some p) i d j = go (nat_lt (k.first + p) count) j
       where
@@ -55,10 +55,10 @@ place_is labels numbers name key v count at finds distinct e = by_keys (declared
 
     by_keys : (o : Option KeyNumbers) → declared numbers name ≡ o → node_at count at name o key ≡ Ok v → Stands labels name key v
     by_keys None h i = cc
-    by_keys (Some k) h i = go (nat_eq (length key) (key_count k.keys)) i
+    by_keys (Some k) h i = go (nat_eq (length key) (key_count k.count)) i
       where
-        go : (b : Bool) → (if b then numbered count at (reference name k.keys key) k.first (place_of k.index key) else rejected Arity at) ≡ Ok v → Stands labels name key v
-        go true f = by_place k h (place_of k.index key) refl (reference name k.keys key) f
+        go : (b : Bool) → (if b then numbered count at (reference name k.count key) k.first (place_of k.keys key) else rejected Arity at) ≡ Ok v → Stands labels name key v
+        go true f = by_place k h (place_of k.keys key) refl (reference name k.count key) f
         go false f = cc
 
 as_place : (labels : List WrittenLabel) (name : Name) (key : Tuple) (v : ℕ) → Stands labels name key v → IsPlaceOf labels (Some (name, key)) (Some v)

@@ -171,22 +171,22 @@ arcs_add all g dn w n b ps d new front after l whole e =
 pub read_alike : (all front after : List WrittenArc) (x : Assignment) (a : Numbers) → Finds (map (λ v. v.label) front) a → IsDistinct same_label (map (λ v. v.label) front) → all ≡ front ++ after → ReadAlike a (by_place all x) x
 read_alike all front after x a finds distinct whole = record { alike = λ at n key v e. by_keys at n key v (declared a n) refl e }
   where
-    placed : (n : Name) (key : Tuple) (v : ℕ) (k : KeyNumbers) (p : ℕ) → declared a n ≡ Some k → place_of k.index key ≡ Some p → v ≡ k.first + p → by_place all x v ≡ x n key
+    placed : (n : Name) (key : Tuple) (v : ℕ) (k : KeyNumbers) (p : ℕ) → declared a n ≡ Some k → place_of k.keys key ≡ Some p → v ≡ k.first + p → by_place all x v ≡ x n key
     placed n key v k p e i j =
         let found = found_label (map (λ v. v.label) front) a n k key p v finds distinct e i j in
         let there : slice_get (map (λ u. u.label) all) v ≡ Some found.0 = ap (λ (l : List WrittenArc). slice_get (map (λ u. u.label) l) v) whole ∙ ap (λ (l : List WrittenLabel). slice_get l v) (map_join (λ (u : WrittenArc). u.label) front after) ∙ get_front (map (λ u. u.label) front) (map (λ u. u.label) after) v found.0 found.1 in
         number_of_label x all v found.0 there ∙ ap (λ (m : Name). x m found.0.key) found.2 ∙ ap (x n) found.3
 
-    by_number : (at : Span) (n : Name) (key : Tuple) (v : ℕ) (k : KeyNumbers) → declared a n ≡ Some k → (o : Option ℕ) → place_of k.index key ≡ o → (r : Detail) → numbered at r k.first o ≡ Ok v → by_place all x v ≡ x n key
+    by_number : (at : Span) (n : Name) (key : Tuple) (v : ℕ) (k : KeyNumbers) → declared a n ≡ Some k → (o : Option ℕ) → place_of k.keys key ≡ o → (r : Detail) → numbered at r k.first o ≡ Ok v → by_place all x v ≡ x n key
     by_number at n key v k e None i r j = cc
     by_number at n key v k e (Some p) i r j = placed n key v k p e i (let same : k.first + p ≡ v = cc in sym same)
 
     by_keys : (at : Span) (n : Name) (key : Tuple) (v : ℕ) (o : Option KeyNumbers) → declared a n ≡ o → arc_at at n o key ≡ Ok v → by_place all x v ≡ x n key
     by_keys at n key v None e i = cc
-    by_keys at n key v (Some k) e i = go (nat_eq (length key) (key_count k.keys)) i
+    by_keys at n key v (Some k) e i = go (nat_eq (length key) (key_count k.count)) i
       where
-        go : (b : Bool) → (if b then numbered at (reference n k.keys key) k.first (place_of k.index key) else rejected Arity at) ≡ Ok v → by_place all x v ≡ x n key
-        go true h = by_number at n key v k e (place_of k.index key) refl (reference n k.keys key) h
+        go : (b : Bool) → (if b then numbered at (reference n k.count key) k.first (place_of k.keys key) else rejected Arity at) ≡ Ok v → by_place all x v ≡ x n key
+        go true h = by_number at n key v k e (place_of k.keys key) refl (reference n k.count key) h
         go false h = cc
 
 -- what is said of the arcs before

@@ -19,7 +19,7 @@ unless_known false a b = b
 
 -- adds a declared name, unless it is already there
 abbrev pub numbers_with : Numbers → Name → ℕ → Indexing → Numbers
-numbers_with a name first i = unless_known (numbers.is_arc a name) a (a ++ (name, record { keys = i.count; first = first; index = union [] (keys_of i.rows) }) ∷ [])
+numbers_with a name first i = unless_known (numbers.is_arc a name) a (a ++ (name, record { count = i.count; first = first; keys = union [] (keys_of i.rows) }) ∷ [])
 
 abbrev pub no_group : Group
 no_group = record { list = no_names; numbers = [] }

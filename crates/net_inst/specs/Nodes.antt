@@ -74,7 +74,7 @@ numbered count at d first (Some place) = index_within count at d (first + place)
 abbrev pub node_at : ℕ → Span → Name → Option KeyNumbers → Tuple → Outcome ℕ
 node_at count at name None key = rejected_of NoSuchNode at (Reported name)
 node_at count at name (Some k) key =
-    if nat_eq (length key) (key_count k.keys) then numbered count at (reference name k.keys key) k.first (place_of k.index key) else rejected Arity at
+    if nat_eq (length key) (key_count k.count) then numbered count at (reference name k.count key) k.first (place_of k.keys key) else rejected Arity at
 
 abbrev pub indexed_node : BuiltNodes → World → Scope → Span → Token → Tree → Links → Outcome ℕ
 indexed_node d w s at n x l = and_then (key_of w s at x l) (node_at (length d.ranges) at n.text (declared d.group.numbers n.text))

@@ -52,7 +52,7 @@ abbrev mutual
 
 -- a name of arcs without their keys
 abbrev pub name_alone : Declared → Name × KeyNumbers
-name_alone d = (d.name, record { keys = None; first = 0; index = [] })
+name_alone d = (d.name, record { count = None; first = 0; keys = [] })
 
 -- the tree contains one of these arcs
 abbrev pub stands_in : List Declared → Tree → Bool

@@ -49,14 +49,14 @@ impl<'s> Model for ArcDraft<'s> {
 }
 
 impl<'s> ArcDraft<'s> {
-    /// Creates a draft without arcs. The key has to be that of the run.
-    pub(crate) fn new(alloc: Global, key: HashKey) -> ArcDraft<'s>
+    /// Creates a draft without arcs. The hash key has to be that of the run.
+    pub(crate) fn new(alloc: Global, hash_key: HashKey) -> ArcDraft<'s>
         ensures { result ≡ found.no_arcs }
     {
         ArcDraft {
             arcs: Vec::new(alloc),
             form: Affine::zero(alloc),
-            group: Group::new(alloc, key),
+            group: Group::new(alloc, hash_key),
         }
     }
 

@@ -81,14 +81,14 @@ fn is_chosen<'s>(
 }
 
 impl<'s> Draft<'s> {
-    /// Creates an empty draft. The key has to be that of the run.
-    pub(crate) fn new(alloc: Global, key: HashKey) -> Draft<'s>
+    /// Creates an empty draft. The hash key has to be that of the run.
+    pub(crate) fn new(alloc: Global, hash_key: HashKey) -> Draft<'s>
         ensures { result ≡ found.nothing }
     {
         Draft {
             known: 0,
-            nodes: NodeDraft::new(alloc, key),
-            arcs: ArcDraft::new(alloc, key),
+            nodes: NodeDraft::new(alloc, hash_key),
+            arcs: ArcDraft::new(alloc, hash_key),
             goal: None,
             has_objective: false,
         }

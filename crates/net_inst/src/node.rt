@@ -116,13 +116,13 @@ fn push_ranges<'s>(
 }
 
 impl<'s> NodeDraft<'s> {
-    /// Creates a draft without nodes. The key has to be that of the run.
-    pub(crate) fn new(alloc: Global, key: HashKey) -> NodeDraft<'s>
+    /// Creates a draft without nodes. The hash key has to be that of the run.
+    pub(crate) fn new(alloc: Global, hash_key: HashKey) -> NodeDraft<'s>
         ensures { result ≡ nodes.no_nodes }
     {
         NodeDraft {
             ranges: Vec::new(alloc),
-            group: Group::new(alloc, key),
+            group: Group::new(alloc, hash_key),
         }
     }
 

@@ -73,21 +73,21 @@ fn numbered<'s>(
     count: usize,
     at: Span,
     name: &Excerpt<'s>,
-    keys: &KeyNumbers<'s>,
+    numbers: &KeyNumbers<'s>,
     key: Tuple<'s>,
 ) -> Result<u32, Fault>
     requires { count ≤ node_limit }
-    ensures value { Refines (found.numbered count at (worlds.reference name.now keys.now.keys key.entry) keys.now.first (place_of keys.now.index
+    ensures value { Refines (found.numbered count at (worlds.reference name.now numbers.now.count key.entry) numbers.now.first (place_of numbers.now.keys
         key.entry)) result }
 {
     let reference = Reference {
         at,
         name,
-        count: keys.keys,
+        count: numbers.count,
         key: &key,
     };
-    match keys.index.position(&key) {
-        Some(place) => among(alloc, count, &reference, keys.at(place)),
+    match numbers.keys.position(&key) {
+        Some(place) => among(alloc, count, &reference, numbers.at(place)),
         None => Err(no_such_node(alloc, &reference)?),
     }
 }
@@ -98,20 +98,20 @@ fn node_at<'s>(
     count: usize,
     whole: &Expr<'s>,
     name: &Excerpt<'s>,
-    keys: Option<&KeyNumbers<'s>>,
+    numbers: Option<&KeyNumbers<'s>>,
     key: Tuple<'s>,
 ) -> Result<u32, Fault>
     requires { count ≤ node_limit }
-    ensures value { Refines (found.node_at count (trees.span_of (tree whole.now)) name.now (option_copied keys.entry) key.entry) result }
+    ensures value { Refines (found.node_at count (trees.span_of (tree whole.now)) name.now (option_copied numbers.entry) key.entry) result }
 {
-    match keys {
+    match numbers {
         None => {
             let detail = Detail::of_name(alloc, name)?;
             Err(reject(ErrorCode::NoSuchNode, span_of(whole), detail))
         }
-        Some(keys) => {
-            if key.len() == key_count(keys.keys) {
-                numbered(alloc, count, span_of(whole), name, keys, key)
+        Some(numbers) => {
+            if key.len() == key_count(numbers.count) {
+                numbered(alloc, count, span_of(whole), name, numbers, key)
             } else {
                 Err(reject_tree(ErrorCode::Arity, whole))
             }
@@ -190,11 +190,15 @@ pub(crate) struct Group<'s> {
 }
 
 /// Returns the distinct keys of rows. Fails only if memory runs out.
-fn keys_in<'s>(alloc: Global, key: HashKey, rows: &RowList<'s>) -> Result<KeyList<'s>, AllocError>
+fn keys_in<'s>(
+    alloc: Global,
+    hash_key: HashKey,
+    rows: &RowList<'s>,
+) -> Result<KeyList<'s>, AllocError>
     requires { length rows.now ≤ tuples_limit }
     ensures { IfOk result (λ keys. keys ≡ union [] (keys_of rows.now)) }
 {
-    match rows.keys(alloc, key) {
+    match rows.keys(alloc, hash_key) {
         Ok(keys) => Ok(keys),
         Err(SetFault::OutOfMemory) => Err(AllocError),
         Err(SetFault::TooMany) => unreachable!(),
@@ -215,22 +219,22 @@ fn declare_number<'s>(
     if numbers.has(name) {
         return Ok(());
     }
-    let keys = KeyNumbers {
-        keys: indexing.count,
+    let added = KeyNumbers {
+        count: indexing.count,
         first,
-        index: keys_in(alloc, numbers.key(), &indexing.rows)?,
+        keys: keys_in(alloc, numbers.hash_key(), &indexing.rows)?,
     };
-    numbers.add(name, keys)
+    numbers.add(name, added)
 }
 
 impl<'s> Group<'s> {
-    /// Creates a group without declarations. The key has to be that of the run.
-    pub(crate) fn new(alloc: Global, key: HashKey) -> Group<'s>
+    /// Creates a group without declarations. The hash key has to be that of the run.
+    pub(crate) fn new(alloc: Global, hash_key: HashKey) -> Group<'s>
         ensures { result ≡ groups.no_group }
     {
         Group {
             list: NameList::new(alloc),
-            numbers: NumberedNames::new(alloc, key),
+            numbers: NumberedNames::new(alloc, hash_key),
         }
     }
 

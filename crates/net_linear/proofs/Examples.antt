@@ -33,7 +33,7 @@ mark t a b = record { kind = kinds.Mark; text = t; span = record { start = a; en
 
 -- X and Y, without braces
 abbrev two : Arcs
-two = (codes "X", record { keys = None; first = 0; index = [] ∷ [] }) ∷ (codes "Y", record { keys = None; first = 1; index = [] ∷ [] }) ∷ []
+two = (codes "X", record { count = None; first = 0; keys = [] ∷ [] }) ∷ (codes "Y", record { count = None; first = 1; keys = [] ∷ [] }) ∷ []
 
 -- nothing said: net inflow 0
 nothing_said : range_in [] [] unsaid ≡ Ok (Some (record { low = Some (pos 0); high = Some (pos 0) }))

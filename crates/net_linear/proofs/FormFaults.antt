@@ -87,4 +87,4 @@ module _ (P : Places) (at : Span) (h : P Model at) where
   pub finds_arc_at : (name : Name) (a : Option KeyNumbers) (key : Tuple) → Finds P (arc_at at name a key)
   finds_arc_at name None key = h
   finds_arc_at name (Some a) key =
-      finds_if P (nat_eq (length key) (key_count a.keys)) _ _ (finds_numbered (reference name a.keys key) a.first (place_of a.index key)) h
+      finds_if P (nat_eq (length key) (key_count a.count)) _ _ (finds_numbered (reference name a.count key) a.first (place_of a.keys key)) h

@@ -29,4 +29,4 @@ numbered at d first (Some place) = Ok (first + place)
 abbrev pub arc_at : Span → Name → Option KeyNumbers → Tuple → Outcome ℕ
 arc_at at name None key = rejected NotLinear at
 arc_at at name (Some a) key =
-    if nat_eq (length key) (key_count a.keys) then numbered at (reference name a.keys key) a.first (place_of a.index key) else rejected Arity at
+    if nat_eq (length key) (key_count a.count) then numbered at (reference name a.count key) a.first (place_of a.keys key) else rejected Arity at

@@ -17,11 +17,11 @@ use std::marker::Model;
 #[derive(Drop)]
 pub struct KeyNumbers<'s> {
     /// The number of subscripts of the name; `None` without indexing.
-    pub keys: Option<u8>,
+    pub count: Option<u8>,
     /// The number of the first one; the others follow it in key order.
     pub first: u32,
     /// The keys; a declaration without indexing has one empty key.
-    pub index: KeyList<'s>,
+    pub keys: KeyList<'s>,
 }
 
 /// Declarations of arcs, or nodes, in order, each with its name.
@@ -40,17 +40,17 @@ impl<'s> Model for NumberedNames<'s> {
 }
 
 impl<'s> NumberedNames<'s> {
-    /// Creates an empty list. The key has to be that of the run.
-    pub fn new(alloc: Global, key: HashKey) -> NumberedNames<'s>
+    /// Creates an empty list. The hash key has to be that of the run.
+    pub fn new(alloc: Global, hash_key: HashKey) -> NumberedNames<'s>
         ensures { result ≡ [] }
     {
         NumberedNames {
-            declarations: NameMap::new(alloc, key),
+            declarations: NameMap::new(alloc, hash_key),
         }
     }
 
-    /// Returns the key of the run.
-    pub fn key(&self) -> HashKey {
+    /// Returns the hash key of the run.
+    pub fn hash_key(&self) -> HashKey {
         self.declarations.key()
     }
 
@@ -81,10 +81,10 @@ impl<'s> NumberedNames<'s> {
 impl<'s> KeyNumbers<'s> {
     /// Returns the number of the arc, or node, whose key has this index.
     pub fn at(&self, place: usize) -> usize
-        requires { place < length self.now.index }
+        requires { place < length self.now.keys }
         ensures { result ≡ self.now.first + place }
     {
-        let count = self.index.len();
+        let count = self.keys.len();
         prove!(place < count);
         self.first as usize + place
     }
@@ -98,12 +98,12 @@ fn numbered<'s>(
     arcs: &KeyNumbers<'s>,
     key: Tuple<'s>,
 ) -> Result<usize, Fault>
-    ensures { Refines (lookup.numbered at (worlds.reference name.now arcs.now.keys key.entry) arcs.now.first (place_of arcs.now.index key.entry)) result }
+    ensures { Refines (lookup.numbered at (worlds.reference name.now arcs.now.count key.entry) arcs.now.first (place_of arcs.now.keys key.entry)) result }
 {
-    match arcs.index.position(&key) {
+    match arcs.keys.position(&key) {
         Some(place) => Ok(arcs.at(place)),
         None => {
-            let detail = reported_reference(alloc, name, arcs.keys, &key)?;
+            let detail = reported_reference(alloc, name, arcs.count, &key)?;
             Err(Fault::of_text(Language::Model, ErrorCode::OutsideSet, at, detail))
         }
     }
@@ -122,7 +122,7 @@ pub(crate) fn arc_at<'s>(
     match arcs {
         None => Err(Fault::of_model(ErrorCode::NotLinear, at)),
         Some(arcs) => {
-            if key.len() == key_count(arcs.keys) {
+            if key.len() == key_count(arcs.count) {
                 numbered(alloc, at, name, arcs, key)
             } else {
                 Err(Fault::of_model(ErrorCode::Arity, at))

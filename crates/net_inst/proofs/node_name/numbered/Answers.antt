@@ -4,7 +4,7 @@ use Rattle.net_inst.proofs.Steps.{place_below}
 use Rattle.net_inst.proofs.node_name.numbered.Goals as goal
 
 pub at-requires : goal.at-requires
-at-requires c = place_below c.args.keys.now.index c.args.key c.in-Some.place c.in-Some.ensures
+at-requires c = place_below c.args.numbers.now.keys c.args.key c.in-Some.place c.in-Some.ensures
 
 pub returns-in-Some : goal.returns-in-Some
 returns-in-Some c = grind (arith, common_steps)
