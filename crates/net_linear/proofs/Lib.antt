@@ -6,6 +6,7 @@ pub mod Rings
 pub mod FormLaws
 mod WorthLaws
 pub mod Coefficients
+mod Storage
 mod Adding
 pub mod FormSizes
 mod Naming

@@ -4,6 +4,7 @@ pub mod NetTerms
 pub mod Conditions
 pub mod Arcs
 pub mod Forms
+pub mod Storage
 pub mod Objectives
 pub mod ObjectiveValues
 pub mod Laws

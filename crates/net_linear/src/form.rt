@@ -7,17 +7,17 @@ ghost use Rattle.net_linear.specs.Forms as forms;
 ghost use Rattle.net_linear.specs.Laws.{HaveValue};
 ghost use Rattle.net_linear.specs.Soundness.{ConditionsAreSound, ObjectivesAreSound};
 
-use crate::products::{add_times, are_small, both, coefficient_of, product_of, sum_of};
-use indexmap::IndexMap;
+use crate::coefficient_list::Coefficients;
+use crate::products::{add_times, are_small, both, product_of, sum_of};
 use net_expr::is_small_wide;
-use std::alloc::{AllocError, AllocFailed, Global};
+use std::alloc::{AllocError, Global};
 use std::marker::Model;
 
 /// A constant plus products of arcs and coefficients.
 #[derive(Drop)]
 pub(crate) struct Sum {
     constant: i128,
-    products: IndexMap<usize, i128>,
+    products: Coefficients,
 }
 
 impl Model for Sum {
@@ -26,9 +26,9 @@ impl Model for Sum {
 
     ghost Value = { Linear };
 
-    ghost view = { λ s. record { constant = s.constant; products = s.products.entries } };
+    ghost view = { λ s. record { constant = s.constant; products = s.products } };
 
-    ghost invariant = { λ s. all_apart s.products.entries ≡ true };
+    ghost invariant = { λ s. all_apart s.products ≡ true };
 }
 
 /// Returns `constant + factor * other`.
@@ -58,15 +58,15 @@ impl Sum {
     {
         Sum {
             constant: *number,
-            products: IndexMap::new(alloc),
+            products: Coefficients::new(alloc),
         }
     }
 
     /// Builds the sum of one arc with coefficient 1. Fails only if memory runs out.
-    fn arc(alloc: Global, arc: usize) -> Result<Sum, AllocFailed<(usize, i128)>>
+    fn arc(alloc: Global, arc: usize) -> Result<Sum, AllocError>
         ensures { IfOk result (λ sum. sum ≡ forms.one_arc arc) }
     {
-        let mut products = IndexMap::new(alloc);
+        let mut products = Coefficients::new(alloc);
         products.insert(arc, 1)?;
         Ok(Sum {
             constant: 0,
@@ -76,11 +76,7 @@ impl Sum {
 
     /// Adds `factor * form`; also returns whether all numbers are within the limit, if they were
     /// before. Fails only if memory runs out.
-    pub(crate) fn with(
-        self,
-        factor: &i128,
-        form: &Affine,
-    ) -> Result<(Sum, bool), AllocFailed<(usize, i128)>>
+    pub(crate) fn with(self, factor: &i128, form: &Affine) -> Result<(Sum, bool), AllocError>
         requires factor { unsigned_abs factor.now ≤ 2 ^ 40 }
         requires room { forms.AreWithin (2 ^ 125) self }
         ensures value { IfOk result (λ r. r.0 ≡ forms.combined self factor.now form.now) }
@@ -101,7 +97,7 @@ impl Sum {
     fn coefficient(&self, arc: usize) -> i128
         ensures { result ≡ forms.coefficient self.now.products arc }
     {
-        coefficient_of(&self.products, arc)
+        self.products.get(arc)
     }
 
     /// Returns whether all numbers are within the limit.
@@ -150,7 +146,7 @@ impl Affine {
     }
 
     /// Builds the form of one arc with coefficient 1. Fails only if memory runs out.
-    pub(crate) fn arc(alloc: Global, arc: usize) -> Result<Affine, AllocFailed<(usize, i128)>>
+    pub(crate) fn arc(alloc: Global, arc: usize) -> Result<Affine, AllocError>
         ensures { IfOk result (λ form. form ≡ forms.one_arc arc) }
     {
         Ok(Affine {
@@ -170,11 +166,7 @@ impl Affine {
     }
 
     /// Adds `factor * other`. Returns `None` if a number exceeds the limit.
-    pub(crate) fn plus(
-        self,
-        factor: &i128,
-        other: &Affine,
-    ) -> Result<Option<Affine>, AllocFailed<(usize, i128)>>
+    pub(crate) fn plus(self, factor: &i128, other: &Affine) -> Result<Option<Affine>, AllocError>
         requires { is_small factor.now ≡ true }
         ensures { IfOk result (λ r. r ≡ forms.if_sized (forms.combined self factor.now other.now)) }
     {

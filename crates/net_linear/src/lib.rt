@@ -3,6 +3,7 @@
 #![tactic(auto)]
 
 mod arc_names;
+mod coefficient_list;
 mod condition;
 mod form;
 mod key_numbers;

@@ -4,7 +4,7 @@ use Rattle.net_linear.proofs.FormSizes.{apart_new}
 use Rattle.net_linear.proofs.form.Sum.with.Goals as goal
 
 pub invariant_of-result : goal.invariant_of-result
-invariant_of-result c = apart_new c.self.inside.products.entries c.args.factor.now c.form-inside.inside.0.0.products.entries _ c.in_ok-small.ensures.adds c.self.invariant
+invariant_of-result c = apart_new c.self.inside.products c.args.factor.now c.form-inside.inside.0.0.products _ c.in_ok-small.ensures.adds c.self.invariant
 
 pub returns-clause-other : goal.returns-clause-other
 returns-clause-other c = grind (arith, common_steps)
