@@ -28,8 +28,9 @@ def keeping(crate, words):
 def main(words):
     from lib.prover import RT  # it loads the toolchain
 
-    prove = RT.Crate.prove
-    RT.Crate.prove = lambda crate, *commands: prove(crate, *(keeping(crate, it) for it in commands))
+    prove = getattr(RT.Crate, "prove", None)
+    if prove:  # Without it, a toolchain checks in another way, and scripts/web proves net_web itself.
+        RT.Crate.prove = lambda crate, *commands: prove(crate, *(keeping(crate, it) for it in commands))
     return RT.main(["ci", *words])
 
 
