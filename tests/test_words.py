@@ -28,7 +28,7 @@ LOOK = script(TOP / "scripts" / "first_look")
 LISTS = (
     ("python/pyproject.toml", r"^(netflow-\w+) ="),
     ("python/README.md", r"helper tools ([^\n]*)"),
-    ("crates/netflow/src/words.rt", r"^  (netflow-\w+)  +\w"),
+    ("crates/netflow/src/command_words.rt", r"^  (netflow-\w+)  +\w"),
     ("docs/guide/tools.md", r"^## (netflow-\w+):"),
     ("share/netflow-companions.1", r"^(netflow-\w+, .*) \\-"),
     ("share/completions/netflow.bash", r"^complete .* _netflow_companion (.*)"),

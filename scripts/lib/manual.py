@@ -3,7 +3,7 @@ import re
 
 from lib.command import TOP
 
-PAGE, WORDS = "share/netflow.1", "crates/netflow/src/words.rt"
+PAGE, WORDS = "share/netflow.1", "crates/netflow/src/command_words.rt"
 
 
 def help_words(text):

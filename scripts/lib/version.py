@@ -17,7 +17,7 @@ LICENSE_FILES = ("LICENSE-MIT", "LICENSE-APACHE")
 RELEASE = re.compile(r"(?m)^## \[(\d+\.\d+\.\d+)\] - (\d{4}-\d\d-\d\d)$")
 # The files that repeat the version, and how they write it.
 COPIES = {
-    "crates/netflow/src/words.rt": 'const VERSION: &str = "{}";',
+    "crates/netflow/src/command_words.rt": 'const VERSION: &str = "{}";',
     "python/netflow/__init__.py": '__version__ = "{}"',
     "share/editors/vscode/package.json": '"version": "{}",',
     "share/netflow.1": '.TH NETFLOW 1 {date} "netflow {}" "User commands"',

@@ -9,8 +9,8 @@ use Rattle.clap.specs.declared.builder.command.Command.{Command}
 use Rattle.clap.specs.declared.parser.matches.ArgMatches.{ArgMatches}
 use Rattle.clap.proofs.OnLiterals.{clap_on_literals}
 use Rattle.netflow.specs.CommandLine.{IsApp, IsMissing, IsRejection, IsValid, netflow_app}
-use Rattle.netflow.specs.declared.words.WordsFault.{WordsFault}
-use Rattle.netflow.specs.declared.words.WordsFault.TheVariants.{OutOfMemory, Usage}
+use Rattle.netflow.specs.declared.command_words.WordsFault.{WordsFault}
+use Rattle.netflow.specs.declared.command_words.WordsFault.TheVariants.{OutOfMemory, Usage}
 
 pub with_arg : (old new : Command) (a : Arg) (app : App) (rule : Rule) → IsApp app old → rule_of a ≡ rule → a.global ≡ false → AddsArg old a new → IsApp (with_rule app rule) new
 with_arg old new a app rule is same local adds = (adds.shape local ∙ ap₂ with_rule is.0 same, adds.globals ∙ ap₂ (λ (x y : Bool). x || y) is.1 local)

@@ -11,7 +11,7 @@ use Rattle.net_driver.specs.declared.driver_fault.TextName.TheVariants.{Model, D
 use Rattle.net_driver.specs.Runs.{IsCompileRun, IsSolveRun, IsPricedRun, IsMinRun, IsCheckRun, Sink, Source}
 use Rattle.netflow.specs.declared.call.Call.{Call}
 use Rattle.netflow.specs.declared.call.Call.TheVariants.{Compile, Solve, SolveWithPrices, Min, Check}
-use Rattle.netflow.specs.declared.words.Words.{Words}
+use Rattle.netflow.specs.declared.command_words.CommandWords.{CommandWords}
 use Rattle.netflow.specs.declared.status.Status.{Status}
 use Rattle.netflow.specs.declared.status.Status.TheVariants as statuses
 use Rattle.netflow.specs.CommandLine.{AsksForHelp, IsAskedBy, IsCallOf, IsValid}
@@ -74,7 +74,7 @@ status_of (Err fault) = status_of_fault fault
 
 -- the call that the arguments request was run, and the status is that of its result
 pub record RunsCall {S W : Type 0} (files : Files S) (output : Sink W) (words : List Text) (status : Status) : Type 0 where
-  pub asked : Words
+  pub asked : CommandWords
   pub call : Call
   pub result : Result ExitKind Fault
   pub requested : IsAskedBy words asked

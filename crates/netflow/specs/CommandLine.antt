@@ -7,11 +7,11 @@ use Rattle.clap.specs.declared.builder.command.Command.{Command}
 use Rattle.clap.specs.declared.builder.command.Command.TheViews.{out-Command}
 use Rattle.clap.specs.declared.builder.ArgAction.TheVariants.{Set, SetTrue}
 use Rattle.clap.specs.declared.error.kind.ErrorKind.TheVariants as kinds
-use Rattle.netflow.specs.declared.words.Action.{Action}
-use Rattle.netflow.specs.declared.words.Action.TheVariants.{Compile, Solve, Min, Check}
-use Rattle.netflow.specs.declared.words.Words.{Words}
-use Rattle.netflow.specs.declared.words.WordsFault.{WordsFault}
-use Rattle.netflow.specs.declared.words.WordsFault.TheVariants as faults
+use Rattle.netflow.specs.declared.command_words.Action.{Action}
+use Rattle.netflow.specs.declared.command_words.Action.TheVariants.{Compile, Solve, Min, Check}
+use Rattle.netflow.specs.declared.command_words.CommandWords.{CommandWords}
+use Rattle.netflow.specs.declared.command_words.WordsFault.{WordsFault}
+use Rattle.netflow.specs.declared.command_words.WordsFault.TheVariants as faults
 use Rattle.netflow.specs.declared.call.Call.{Call}
 use Rattle.netflow.specs.declared.call.Call.TheVariants as calls
 
@@ -106,7 +106,7 @@ asked_prices Check rows = false
 
 -- clap accepts these arguments, and this is the subcommand that it parses from them, with the values
 -- of its path arguments in order
-pub record IsAskedBy (words : List Text) (asked : Words) : Type 0 where
+pub record IsAskedBy (words : List Text) (asked : CommandWords) : Type 0 where
   pub accepted : fault_of netflow_app words ≡ []
   pub rows : List Row
   pub subcommand : subcommand_of netflow_app words ≡ Some (action_word asked.command, rows)
@@ -138,11 +138,11 @@ IsRejection words faults.OutOfMemory = ⊤
 IsRejection words (faults.Usage error) = IsAmong (kind_of error) (fault_of netflow_app words) ⊎ ((kind_of error ≡ kinds.MissingSubcommand) × (¬ IsValid words))
 
 -- the path with this index
-abbrev pub path_at : Words → ℕ → Text
+abbrev pub path_at : CommandWords → ℕ → Text
 path_at asked at = unwrap_or (option_map string_bytes (slice_get asked.paths.items at)) []
 
 -- the call of the requested subcommand, with its paths in order
-abbrev pub IsCallOf : Words → Call → Type 0
+abbrev pub IsCallOf : CommandWords → Call → Type 0
 IsCallOf asked (calls.Compile model other options) =
     (asked.command ≡ Compile) × (model.now ≡ path_at asked 0) × (other.now ≡ path_at asked 1) × (options.lean ≡ asked.lean) × (option_copied options.objective ≡ option_map string_bytes asked.objective)
 IsCallOf asked (calls.Solve model other options) =

@@ -4,7 +4,7 @@ ghost use Rattle.netflow.specs.CommandLine.{IsCallOf, path_at};
 ghost use Rattle.std.specs.Option.{option_copied};
 ghost use Rattle.std.specs.Prelude.{◌≡◌, string_bytes, option_map, ℕ, List, Option, false, ⊤, IfSome};
 
-use crate::words::{Action, Words};
+use crate::command_words::{Action, CommandWords};
 use either::{Either, Left, Right};
 use net_driver::Options;
 use net_io::{OfRead, Source};
@@ -27,7 +27,7 @@ pub enum Call<'w> {
 }
 
 /// Returns the path with this index, counted from 0, or an empty path if there is none.
-fn path_at(words: &Words, at: usize) -> &str
+fn path_at(words: &CommandWords, at: usize) -> &str
     ensures { result.now ≡ path_at words.now at }
 {
     match words.paths.get(at) {
@@ -37,7 +37,7 @@ fn path_at(words: &Words, at: usize) -> &str
 }
 
 /// Returns the name of the chosen objective, or `None` if none was given.
-fn objective_in(words: &Words) -> Option<&str>
+fn objective_in(words: &CommandWords) -> Option<&str>
     ensures { option_copied result ≡ option_map string_bytes words.now.objective }
 {
     match &words.objective {
@@ -47,7 +47,7 @@ fn objective_in(words: &Words) -> Option<&str>
 }
 
 /// Returns the options.
-fn options_in(words: &Words) -> Options<'_>
+fn options_in(words: &CommandWords) -> Options<'_>
     ensures lean { result.lean ≡ words.now.lean }
     ensures objective { option_copied result.objective ≡ option_map string_bytes words.now.objective }
 {
@@ -58,7 +58,7 @@ fn options_in(words: &Words) -> Options<'_>
 }
 
 /// Returns the call of the subcommand `solve`.
-fn solve_call(words: &Words) -> Call<'_>
+fn solve_call(words: &CommandWords) -> Call<'_>
     requires { words.now.command ≡ Action.Solve }
     ensures { IsCallOf words.now result }
 {
@@ -73,7 +73,7 @@ fn solve_call(words: &Words) -> Call<'_>
 }
 
 /// Returns the call that the arguments request.
-pub fn call_of(words: &Words) -> Call<'_>
+pub fn call_of(words: &CommandWords) -> Call<'_>
     ensures value { IsCallOf words.now result }
 {
     match words.command {

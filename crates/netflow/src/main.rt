@@ -2,10 +2,10 @@
 #![tactic(auto)]
 
 mod call;
+mod command_words;
 mod matched;
 mod program;
 mod status;
-mod words;
 
 use crate::call::RuntimeFiles;
 use crate::program::{called_words, run_program};

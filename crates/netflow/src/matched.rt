@@ -6,7 +6,7 @@ ghost use Rattle.clap.specs.Matches.{found_of};
 ghost use Rattle.clap.specs.Walk.{rows_of};
 ghost use Rattle.netflow.specs.CommandLine.{path_names, asked_objective, asked_lean, asked_prices, is_set, given};
 
-use crate::words::Action;
+use crate::command_words::Action;
 use clap::ArgMatches;
 use std::alloc::{AllocError, Global};
 

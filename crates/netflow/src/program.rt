@@ -6,8 +6,8 @@ ghost use Rattle.netflow.specs.CommandLine.{IsRejection};
 ghost use Rattle.netflow.specs.Statuses.{status_of_fault};
 
 use crate::call::{Call, InputFiles, call_of};
+use crate::command_words::{WordsFault, words_of};
 use crate::status::Status;
-use crate::words::{WordsFault, words_of};
 use net_driver::{
     ExitKind, Fault, Options, TextName, run_check, run_compile_with, run_min, run_solve_with,
     run_solve_with_prices,

@@ -5,7 +5,7 @@ ghost use Rattle.clap.specs.Words.{App, rule_of, with_subcommand};
 ghost use Rattle.netflow.specs.CommandLine.{path_rule, objective_rule, lean_rule, prices_rule, action_word, IsApp, IsAskedBy};
 ghost use Rattle.netflow.specs.CommandLine.{solve_app, compile_app, min_app, check_app, netflow_app, bare_app};
 ghost use Rattle.netflow.specs.CommandLine.{IsMissing, IsNoAction, IsRejection};
-ghost use Rattle.netflow.specs.declared.words.WordsFault.TheVariants as words_faults;
+ghost use Rattle.netflow.specs.declared.command_words.WordsFault.TheVariants as words_faults;
 
 use crate::matched::{lean_of, objective_of, paths_of, prices_of};
 use clap::error::ErrorKind;
@@ -28,7 +28,7 @@ pub enum Action {
 
 /// The request of a command line.
 #[derive(Drop)]
-pub struct Words {
+pub struct CommandWords {
     pub command: Action,
     /// The values of the path arguments, in order.
     pub paths: Vec<String>,
@@ -281,7 +281,7 @@ fn no_command(command: &mut Command<'_>) -> WordsFault
 
 /// Parses the arguments; the first is the program's name. Returns `Usage` with clap's message for
 /// invalid arguments and for a request for help or the version.
-pub fn words_of(alloc: Global, words: &[String]) -> Result<Words, WordsFault>
+pub fn words_of(alloc: Global, words: &[String]) -> Result<CommandWords, WordsFault>
     ensures value { IfOk result (IsAskedBy (map string_bytes words.now)) }
     ensures rejected { IfErr result (IsRejection (map string_bytes words.now)) }
 {
@@ -303,7 +303,7 @@ pub fn words_of(alloc: Global, words: &[String]) -> Result<Words, WordsFault>
     let objective = objective_of(alloc, action, found)?;
     let lean = lean_of(action, found);
     let prices = prices_of(action, found);
-    Ok(Words {
+    Ok(CommandWords {
         command: action,
         paths,
         objective,

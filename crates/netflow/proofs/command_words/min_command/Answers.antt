@@ -3,7 +3,7 @@ use Rattle.std.proofs.lemmas.Result.{IfOk-weaker}
 use Rattle.clap.specs.Simple.{app_of_fields, new_app}
 use Rattle.netflow.specs.CommandLine.{IsApp, path_rule}
 use Rattle.netflow.proofs.Commands.{with_arg}
-use Rattle.netflow.proofs.words.min_command.Goals as goal
+use Rattle.netflow.proofs.command_words.min_command.Goals as goal
 
 pub returns : goal.returns
 returns c =

@@ -2,7 +2,7 @@ use Rattle.std.proofs.Common.{rules}
 use Rattle.std.proofs.lemmas.Result.{IfOk-weaker}
 use Rattle.netflow.specs.CommandLine.{IsApp}
 use Rattle.netflow.proofs.Commands.{with_sub}
-use Rattle.netflow.proofs.words.with_subcommand.Goals as goal
+use Rattle.netflow.proofs.command_words.with_subcommand.Goals as goal
 
 pub returns : goal.returns
 returns c = λ app inner is has.

@@ -1,6 +1,6 @@
 use Rattle.std.proofs.Common.{◌≡◌, rules, ap, ◌∙◌, codes, true, false}
 use Rattle.clap.specs.Simple.{App, app_of, app_of_fields, new_app}
-use Rattle.netflow.proofs.words.bare_command.Goals as goal
+use Rattle.netflow.proofs.command_words.bare_command.Goals as goal
 
 pub returns : goal.returns
 returns c =

@@ -7,7 +7,7 @@ use Rattle.clap.specs.declared.parser.matches.ArgMatches.{ArgMatches}
 use Rattle.netflow.specs.CommandLine.{IsValid}
 use Rattle.netflow.proofs.Commands.{entered, fails_by, rejects}
 use Rattle.netflow.proofs.Rows.{both_rows, same_name}
-use Rattle.netflow.proofs.words.words_of.Goals as goal
+use Rattle.netflow.proofs.command_words.words_of.Goals as goal
 
 pub returns-clause-value : goal.returns-clause-value
 returns-clause-value c = record {

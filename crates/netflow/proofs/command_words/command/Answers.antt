@@ -1,5 +1,5 @@
 use Rattle.netflow.specs.CommandLine.{compile_app, solve_app, min_app, check_app, bare_app}
-use Rattle.netflow.proofs.words.command.Goals as goal
+use Rattle.netflow.proofs.command_words.command.Goals as goal
 
 pub returns : goal.returns
 returns c =
