@@ -9,6 +9,7 @@ from __future__ import annotations
 __version__ = "0.10.0"
 
 from .analysis.reasons import Reason
+from .certificate import Certificate, PricedArc, PricedNode
 from .errors import DataError, Infeasible, ModelError, NetflowError, ProgramError, ScaleError, Unbounded, Unreadable
 from .exact import Exact
 from .graphs import (
@@ -31,6 +32,7 @@ from .solution import Solution
 
 __all__ = [
     "Arc",
+    "Certificate",
     "DataError",
     "Exact",
     "Flows",
@@ -40,6 +42,8 @@ __all__ = [
     "NetflowError",
     "Node",
     "NodePrices",
+    "PricedArc",
+    "PricedNode",
     "Prices",
     "ProgramError",
     "Reason",

@@ -163,9 +163,9 @@ def solve(
 
 
 def answer_of(instance: Instance) -> Network:
-    """Returns the network with its plan or a cut; raises the exceptions of `solve`."""
+    """Returns the network with its plan or a cut, and the text of its prices; raises the exceptions of `solve`."""
     try:
-        return instance.network()[1]
+        return instance.network(with_prices=True)[1]
     except ProgramError as problem:
         raise model_error(problem, instance) from None
 

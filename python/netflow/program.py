@@ -105,9 +105,9 @@ class Session:
             copy.write(text)
         return copy.name
 
-    def ask(self, command: str) -> Answer:
-        """Calls `solve` or `compile` with the files and options."""
-        return call([command, *self.files, *self.options])
+    def ask(self, command: str, *options: str) -> Answer:
+        """Calls `solve` or `compile` with the files and options, and with these options of the command alone."""
+        return call([command, *self.files, *self.options, *options])
 
 
 class Patience:

@@ -6,10 +6,10 @@ from html import escape
 from typing import TYPE_CHECKING, Dict, Iterator, Mapping, Sequence, Union
 
 from .analysis.sensitivity import Marginal
+from .certificate import Certificate
 from .inputs.instance import Instance
 from .keyed import FlowKey, Flows
 from .prices import Prices, number_of
-from .program import call
 from .reading.network import Arc, Network, Node
 from .reading.output import read_prices
 from .report.json_objects import arc_rows, dumps, plan_json
@@ -81,11 +81,16 @@ class Solution(Mapping[str, Union[Flows, Number]]):
         ]
         return pandas.DataFrame(rows)
 
-    def _priced(self) -> Marginal:
-        """Adds prices to the network, if there are none, and returns what one unit more costs at each node."""
+    def _priced(self) -> Network:
+        """Returns the network with its prices, which are read when they are first used."""
+        if self.network.prices_text:
+            read_prices(self.network)
+        return self.network
+
+    def _margins(self) -> Marginal:
+        """Returns what one unit more costs at each node."""
         if self._marginal is None:
-            read_prices(call(["min", "/dev/stdin"], self.network.problem).text, self.network)
-            self._marginal = Marginal(self.network)
+            self._marginal = Marginal(self._priced())
         return self._marginal
 
     @property
@@ -98,28 +103,33 @@ class Solution(Mapping[str, Union[Flows, Number]]):
         """By how much the value changes if a node requires one more unit, by declaration and key. Of a node whose need
         cannot change alone the price is the potential: `price_range` is 0 there, and `pair_price` the exact price."""
         if self._prices is None:
-            self._prices = Prices(self.network, self._priced().more)
+            self._prices = Prices(self.network, self._margins().more)
         return self._prices
 
     def price_range(self, node: str, *key: Member) -> Amount:
         """For how many more required units at a node, such as `"Shop", "hill"`, its price holds; infinity for any
         number, 0 if the need of the node cannot change alone."""
-        return self._priced().units_more(number_of(self.network, node, key))
+        return self._margins().units_more(number_of(self.network, node, key))
 
     def pair_price(self, node: str, *key: Member) -> tuple[str, Number] | None:
         """By how much the value changes if a node requires one more unit and the best node that supplies units has one
         more: that node, and the exact change. None if there is no plan with such a pair."""
-        pair = self._priced().pair(number_of(self.network, node, key))
+        pair = self._margins().pair(number_of(self.network, node, key))
         return None if pair is None else (self.network.nodes[pair[0]].text, self.network.sign * pair[1])
 
     @property
     def reduced_costs(self) -> dict[str, dict[FlowKey, Number]]:
-        """The reduced cost of each arc, by declaration and key, at prices that prove the plan."""
+        """The reduced cost of each arc, by declaration and key: by how much one more unit on it makes the value worse,
+        at the prices of `certificate`."""
         self._priced()
         costs: Dict[str, Dict[FlowKey, Number]] = {}
         for arc in self.arcs:
             costs.setdefault(arc.name, {})[arc.key[0] if len(arc.key) == 1 else tuple(arc.key)] = arc.worth
         return costs
+
+    def certificate(self) -> Certificate:
+        """Returns the prices that prove the plan, with what a check of them needs."""
+        return Certificate.of(self._priced())
 
     def report(self) -> str:
         """Returns the page of `netflow-report` as HTML."""

@@ -9,13 +9,12 @@ from fractions import Fraction
 from typing import Any, Mapping, Sequence
 
 from ..errors import DataError, ProgramError, ScaleError
-from ..program import UNREADABLE_FILE, Answer, Session, call
+from ..program import UNREADABLE_FILE, Answer, Session
 from ..reading.conditions import mark_open_sides
 from ..reading.edits import EditedText
-from ..reading.headings import objective_of
 from ..reading.model import Unparsed
 from ..reading.network import Network
-from ..reading.output import read_certificate, read_compiled, read_cut, read_cut_of_problem, read_plan, read_prices
+from ..reading.output import read_compiled, read_cut, read_plan, read_prices, split_prices
 from ..types import Key, Value
 from .decimals import CERTAIN, GRAMMAR, is_decimal, next_error
 from .python_data import PythonData
@@ -152,19 +151,19 @@ class Instance:
             for source in (self.model, data)
         ]
 
-    def ask(self, command: str) -> Answer:
-        """Calls `solve` or `compile`. When the program meets a decimal, the texts are scaled, or have another error,
-        which is reported."""
+    def ask(self, command: str, *options: str) -> Answer:
+        """Calls `solve` or `compile` with options of its own. When the program meets a decimal, the texts are scaled,
+        or have another error, which is reported."""
         self.prepare()
         try:
-            return self.session.ask(command)
+            return self.session.ask(command, *options)
         except ProgramError as problem:
             if not is_decimal(problem):
                 raise self.placed(problem) from None
             is_first = not self.is_rewritten
             failed = self.failed_rewrite() if is_first else None
             if is_first and failed is None:
-                return self.ask(command)
+                return self.ask(command, *options)
             # A forgotten ; can give a parameter values of another one.
             found = next_error(self.session, GRAMMAR if isinstance(failed, ScaleError) else CERTAIN)
             if isinstance(failed, ScaleError) and found is None and not failed.is_numeral:
@@ -262,16 +261,18 @@ class Instance:
         key_text = f"[{', '.join(map(repr, key))}]" if key else ""
         return f"{name}{key_text} = {str(value) if isinstance(value, Fraction) else repr(value)}"
 
-    def network(self) -> tuple[Answer, Network]:
-        """Returns the answer of `solve`, and the network with its plan, or with a cut if there is none."""
+    def network(self, with_prices: bool = False) -> tuple[Answer, Network]:
+        """Returns the answer of `solve`, and the network with its plan, or with a cut if there is none. With prices the
+        network keeps their text, which `read_prices` reads."""
         self.prepare()
         was_rewritten = self.is_rewritten
+        options = ["--prices"] if with_prices else []
         with ThreadPoolExecutor(1) as calls:
             # The program solves the model while this process reads the network.
-            solving = calls.submit(self.session.ask, "solve")
+            solving = calls.submit(self.session.ask, "solve", *options)
             compiled = self.ask("compile").text
             if self.is_rewritten != was_rewritten:
-                solving = calls.submit(self.session.ask, "solve")
+                solving = calls.submit(self.session.ask, "solve", *options)
             net = read_compiled(compiled)
             mark_open_sides(net, self.model.text())
             try:
@@ -279,7 +280,9 @@ class Instance:
             except ProgramError as problem:
                 raise self.placed(problem) from None
         if answer.status == 0:
-            read_plan(answer.text, net)
+            plan, net.prices_text = split_prices(answer.text)
+            answer = Answer(answer.status, plan)
+            read_plan(plan, net)
             self.check_bounds(net)
         else:
             net.cut = read_cut(answer.text, net)
@@ -287,25 +290,10 @@ class Instance:
         return answer, net
 
     def priced_network(self) -> Network:
-        """Returns the network with its plan and prices, or with a cut.
-
-        The program reads the model once, and then solves the compiled problem: `solve` prints no prices.
-        """
-        compiled = self.ask("compile").text
-        with ThreadPoolExecutor(1) as calls:
-            solving = calls.submit(call, ["min", "/dev/stdin"], compiled)
-            net = read_compiled(compiled)
-            mark_open_sides(net, self.model.text())
-            answer = solving.result()
-        if answer.status == 0:
-            net.objective = self.objective or objective_of(self.model.text())
-            read_certificate(answer.text, net)
-            self.check_bounds(net)
-        else:
-            net.cut = read_cut_of_problem(answer.text, net)
-        net.divide(self.factors)
-        if answer.status == 0:
-            read_prices(answer.text, net)
+        """Returns the network with its plan and prices, or with a cut."""
+        net = self.network(with_prices=True)[1]
+        if net.cut is None:
+            read_prices(net)
         return net
 
     def check_bounds(self, net: Network) -> None:

@@ -75,12 +75,6 @@ def headings(text: str, name: str, count: int) -> list[str]:
     )
 
 
-def objective_of(text: str) -> str:
-    """Returns the name of the first objective that a model declares; an empty text without one."""
-    words = [token.text for token in tokens(text)]
-    return next((name for word, name in zip(words, words[1:]) if word in ("minimize", "maximize")), "")
-
-
 def compared_texts(model: str, data: Iterable[str]) -> list[str]:
     """Returns what a reader may miss: a numeral in quotes that the model compares with something, and that no data text
     has in quotes. Such a text equals no number, and netflow accepts such texts."""

@@ -59,7 +59,7 @@ class Node:
     """A node of the model: its net inflow is from `low` to `high`, and its arcs allow from `fewest` to `greatest`.
     If the model leaves a side open, the compiled model has what the arcs allow in its place; `is_low_open` and
     `is_high_open` say so if the text of the model is known. `worth` is the node's price: by how much one more required
-    unit makes the value worse, at least.
+    unit makes the value worse, to first order.
     """
 
     text: str
@@ -105,14 +105,16 @@ def between(low: Number, high: Number) -> str:
 
 class Network:
     """Nodes and arcs with the model's own bounds and prices. `problem` is the problem's text without comments;
-    `declarations` are the names of a plan's declarations of arcs, each a table or not; `factors` are those
-    of a scaled model."""
+    `declarations` are the names of a plan's declarations of arcs, each a table or not, and `node_declarations` those
+    of the nodes once prices are read; `factors` are those of a scaled model; `prices_text` has the prices that were
+    printed after the plan, until they are read."""
 
     def __init__(self) -> None:
         self.nodes: list[Node] = []
         self.arcs: list[Arc] = []
-        self.problem = ""
+        self.problem = self.prices_text = ""
         self.declarations: list[tuple[str, bool]] = []
+        self.node_declarations: list[tuple[str, bool]] = []
         self.constant, self.sign, self.objective = 0, 1, ""
         self.offsets: list[int] = []  # what a flow of the problem lacks to that of its arc
         self.value: Number = 0

@@ -1,4 +1,4 @@
-"""Reads what netflow prints: compiled models, plans, cuts and certificates, by the documented grammar.
+"""Reads what netflow prints: compiled models, plans, prices and cuts, by the documented grammar.
 
 Output that does not follow the grammar raises Unreadable; nothing is guessed.
 """
@@ -10,9 +10,13 @@ from typing import Iterable, Sequence
 
 from ..errors import Unreadable
 from ..exact import divided
+from ..types import Member, Number
 from .keys import NUMBER, references, shown
 from .network import Arc, Network, Node
 from .text import lines_of
+
+# The lines before the prices of nodes, and before the reduced costs of arcs.
+PRICES, REDUCED_COSTS = "prices", "reduced costs"
 
 
 def numbers(words: Sequence[str]) -> list[int]:
@@ -112,49 +116,91 @@ def place_nodes(net: Network, supplies: dict[int, int], rooms: Iterable[tuple[in
         net.nodes[src - 1].high += cap
 
 
+def split_prices(text: str) -> tuple[str, str]:
+    """Returns a plan and the prices that are printed after it; without prices an empty text."""
+    plan, heading, rest = text.partition(f"\n{PRICES}\n")
+    return (f"{plan}\n", f"{PRICES}\n{rest}") if heading else (text, "")
+
+
 def read_plan(text: str, net: Network) -> None:
     """Sets the network's objective, value and flows; every line has to be that of the expected arc."""
-    lines, line = lines_of(text), 1
+    lines = lines_of(text)
     net.objective, net.value = valued(lines[0])
-    arcs, at = net.arcs, 0
+    net.declarations, flows = read_blocks(lines[1:], *columns_of_arcs(net))
+    take_flows(net, flows)
+
+
+def read_prices(net: Network) -> None:
+    """Sets the worths of nodes and arcs from the prices that were printed after the plan. The network is divided."""
+    lines = lines_of(net.prices_text)
+    if lines[:1] != [PRICES] or REDUCED_COSTS not in lines:
+        raise Unreadable("prices were expected after the plan")
+    middle = lines.index(REDUCED_COSTS)
+    nodes = [node.text for node in net.nodes]
+    declared, prices = read_blocks(lines[1:middle], nodes, *references(nodes))
+    costs = read_blocks(lines[middle + 1 :], *columns_of_arcs(net))[1]
+    net.node_declarations = declared
+    for node, price in zip(net.nodes, prices):
+        node.worth = divided(net.sign * price, net.factors.cost)
+    for arc, cost in zip(net.arcs, costs):
+        arc.worth = divided(net.sign * cost, net.factors.cost)
+    net.prices_text = ""
+
+
+def columns_of_arcs(net: Network) -> tuple[list[str], list[str], list[list[Member]]]:
+    """Returns the texts, the names and the keys of all arcs."""
+    arcs = net.arcs
+    return [arc.text for arc in arcs], [arc.name for arc in arcs], [arc.key for arc in arcs]
+
+
+def read_blocks(
+    lines: list[str], texts: list[str], names: list[str], keys: list[list[Member]]
+) -> tuple[list[tuple[str, bool]], list[int]]:
+    """Returns the declarations of a plan or of prices, each with whether it is a table, and all numbers; every line has
+    to be that of the expected arc or node."""
+    declared: list[tuple[str, bool]] = []
+    result: list[int] = []
+    line, at = 0, 0
     while line < len(lines):
         name, is_table = lines[line][:-3], lines[line].endswith(" :=")
         if is_table:
-            count = next((here for here in range(at, len(arcs)) if arcs[here].name != name), len(arcs)) - at
-            result = [row.rpartition(" ") for row in lines[line + 1 : line + 1 + count]]
-            keys, flows = [row[0] for row in result], [row[2] for row in result]
+            count = next((here for here in range(at, len(names)) if names[here] != name), len(names)) - at
+            rows = [row.rpartition(" ") for row in lines[line + 1 : line + 1 + count]]
+            printed, values = [row[0] for row in rows], [row[2] for row in rows]
             if lines[line + 1 + count : line + 2 + count] != [";"]:
-                raise Unreadable(f"the table of {name} does not end after {count} arcs")
+                raise Unreadable(f"the table of {name} does not end after {count} lines")
         else:
-            name, flow = valued(lines[line])
-            count, keys, flows = 1, [""], [str(flow)]
+            name, value = valued(lines[line])
+            count, printed, values = 1, [""], [str(value)]
+        end = at + count
         if (
-            "\n".join(keys) != plan_keys(arcs[at : at + count])
+            "\n".join(printed) != printed_keys(name, texts[at:end], keys[at:end])
             or not is_table
-            and [arc.name for arc in arcs[at : at + 1]] != [name]
+            and names[at : at + 1] != [name]
         ):
-            raise Unreadable(f"the plan has other arcs of {name} than the model")
-        net.declarations.append((name, is_table))
-        take_flows(net, arcs[at : at + count], numbers(flows))
-        at, line = at + count, line + (count + 2 if is_table else 1)
-    if at != len(arcs):
-        raise Unreadable("the plan ends before its last arc")
+            raise Unreadable(f"{name} has other keys than in the model")
+        declared.append((name, is_table))
+        result += numbers(values)
+        at, line = end, line + (count + 2 if is_table else 1)
+    if at != len(names):
+        raise Unreadable("the answer ends before the last arc or node")
+    return declared, result
 
 
-def plan_keys(arcs: list[Arc]) -> str:
-    """Returns the keys of a declaration's arcs as a plan prints them, one a line."""
-    start = len(arcs[0].name) + 1 if arcs else 0
-    keys = "\n".join([arc.text[start:-1] for arc in arcs])
-    if keys.count(",") <= sum([len(arc.key) for arc in arcs]) - len(arcs):
-        return keys.replace(",", " ")
+def printed_keys(name: str, texts: list[str], keys: list[list[Member]]) -> str:
+    """Returns the keys of a declaration as a plan prints them, one a line."""
+    start = len(name) + 1
+    result = "\n".join([text[start:-1] for text in texts])
+    if result.count(",") <= sum(map(len, keys)) - len(keys):
+        return result.replace(",", " ")
     # A comma inside a member stays a comma.
-    return "\n".join([" ".join(map(shown, arc.key)) for arc in arcs])
+    return "\n".join([" ".join(map(shown, key)) for key in keys])
 
 
-def take_flows(net: Network, arcs: list[Arc], flows: list[int]) -> None:
-    """Sets the flows of arcs, and adds them to the net inflows of their ends."""
+def take_flows(net: Network, flows: list[int]) -> None:
+    """Sets the flows of all arcs, and adds them to the net inflows of their ends."""
     nodes = net.nodes
-    for arc, flow in zip(arcs, flows):
+    for arc, flow in zip(net.arcs, flows):
         if flow:
             arc.flow = flow
             if arc.src is not None:
@@ -190,28 +236,6 @@ def read_cut(text: str, net: Network) -> tuple[str, set[int]]:
     return from_inside(side, inside | {len(net.nodes)} if lines[-1] == "outside" else inside, net)
 
 
-def read_certificate(certificate: str, net: Network) -> None:
-    """Sets the value and the flows of a network from a certificate of the compiled problem."""
-    cost, _, _ = certificate.partition("\n")
-    if not cost.startswith("s "):
-        raise Unreadable("a certificate was expected")
-    net.value = net.constant + net.sign * numbers([cost[2:]])[0]
-    first = beginning(certificate, "f ")
-    flows = columns(certificate[first : beginning(certificate, "v ", first)], "f", 3)[2][: len(net.arcs)]
-    if len(flows) < len(net.arcs):
-        raise Unreadable("the certificate has fewer flows than the model has arcs")
-    take_flows(net, net.arcs, list(map(operator.add, flows, net.offsets)))
-
-
-def read_cut_of_problem(text: str, net: Network) -> tuple[str, set[int]]:
-    """Returns the side and the node indices of a cut of the compiled problem, as `read_cut` does."""
-    first, *lines = lines_of(text)
-    if first not in ("x over", "x under") or not all(line.startswith("m ") for line in lines):
-        raise Unreadable("a cut was expected")
-    inside = {number - 1 for number in numbers([line[2:] for line in lines])}
-    return from_inside(first[2:], inside, net)
-
-
 def from_inside(side: str, inside: set[int], net: Network) -> tuple[str, set[int]]:
     """Returns a cut without the outside: the set itself, or its complement, which shows the same from its side."""
     if len(net.nodes) not in inside:
@@ -219,42 +243,37 @@ def from_inside(side: str, inside: set[int], net: Network) -> tuple[str, set[int
     return {"over": "under", "under": "over"}[side], set(range(len(net.nodes))) - inside
 
 
-def read_prices(certificate: str, net: Network) -> None:
-    """Sets the worth of nodes and arcs from the potentials of a certificate; that of the outside is 0. The network is
-    divided."""
-    found = columns(certificate[beginning(certificate, "v ") :], "v", 2)[1]
-    if len(found) != len(net.nodes) + 1:
-        raise Unreadable("the certificate has another number of potentials than there are nodes")
-    worths = [divided(potential - found[-1], net.factors.cost) for potential in found]
-    for number, (node, worth) in enumerate(zip(net.nodes, worths)):
-        # A side that is open limits nothing: all arcs of the node are at a bound there, so that a price of 0 proves the
-        # plan as well.
-        is_at_most, is_at_least = (
-            node.is_high_open and node.inflow == node.high,
-            node.is_low_open and node.inflow == node.low,
-        )
-        worths[number] = node.worth = 0 if worth < 0 and is_at_most or worth > 0 and is_at_least else worth
-    sign = net.sign
-    for arc in net.arcs:
-        src, dst = arc.src, arc.dst
-        arc.worth = sign * arc.price + worths[-1 if src is None else src] - worths[-1 if dst is None else dst]
-
-
 def written(net: Network, used_only: bool = False) -> str:
     """Returns the plan in netflow's form; with `used_only` without the rows of arcs that carry nothing."""
-    lines, declared = [f"{net.objective} = {net.value}"], net.declared()
-    for name, is_table in net.declarations:
-        arcs = declared.get(name, [])
+    rows = [(arc.name, arc.key, arc.flow) for arc in net.arcs]
+    return block_text([f"{net.objective} = {net.value}"], net.declarations, rows, used_only)
+
+
+def written_prices(net: Network) -> str:
+    """Returns the prices of nodes and the reduced costs of arcs in netflow's form."""
+    names, keys = references([node.text for node in net.nodes])
+    nodes = list(zip(names, keys, [net.sign * node.worth for node in net.nodes]))
+    arcs = [(arc.name, arc.key, net.sign * arc.worth) for arc in net.arcs]
+    return block_text([PRICES], net.node_declarations, nodes) + block_text([REDUCED_COSTS], net.declarations, arcs)
+
+
+def block_text(
+    lines: list[str],
+    declared: list[tuple[str, bool]],
+    rows: list[tuple[str, list[Member], Number]],
+    used_only: bool = False,
+) -> str:
+    """Returns these lines and then the declarations with their rows, as a plan has them; with `used_only` without the
+    rows of tables that have a 0."""
+    found: dict[str, list[tuple[list[Member], Number]]] = {}
+    for name, key, number in rows:
+        found.setdefault(name, []).append((key, number))
+    for name, is_table in declared:
+        own = found.get(name, [])
         if is_table:
-            lines += [
-                f"{name} :=",
-                *(
-                    "".join(f"{shown(member)} " for member in arc.key) + str(arc.flow)
-                    for arc in arcs
-                    if arc.flow or not used_only
-                ),
-                ";",
-            ]
+            printed = [(key, number) for key, number in own if number or not used_only]
+            keyed = ("".join(f"{shown(member)} " for member in key) + str(number) for key, number in printed)
+            lines += [f"{name} :=", *keyed, ";"]
         else:
-            lines.append(f"{name} = {arcs[0].flow}")
+            lines.append(f"{name} = {own[0][1]}")
     return "".join(f"{line}\n" for line in lines)

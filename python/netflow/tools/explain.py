@@ -24,7 +24,7 @@ from ..hints.later_errors import further_errors
 from ..inputs.grouped_digits import grouped_lines, grouped_lines_of
 from ..inputs.instance import Instance
 from ..program import USAGE, Session, program
-from ..reading.output import divided_cut, written
+from ..reading.output import divided_cut, read_prices, written, written_prices
 from ..reading.text import read
 from ..report.json_objects import dump_lines, error_json
 from .command import ToolParser, instance_of, print_error
@@ -96,6 +96,7 @@ def explain_rewritten(words: list[str], is_json: bool) -> int:
     """Asks for the answer as the other tools do, and explains the error if there is one."""
     parser = ToolParser(__doc__ or "", prog="netflow-explain").add_instance()
     parser.add_argument("--lean", action="store_true", help="with compile: no lower bounds in the problem")
+    parser.add_argument("--prices", action="store_true", help="with solve: the prices that prove the plan after it")
     parsed = parser.parse_args(words[1:])
     with instance_of(parsed) as instance:
         instance.options += ["--lean"] if parsed.lean else []
@@ -103,8 +104,8 @@ def explain_rewritten(words: list[str], is_json: bool) -> int:
             if words[0] == "compile":
                 sys.stdout.write(instance.ask("compile").text)
                 return 0
-            answer = instance.ask("solve")
-            sys.stdout.write(answer.text if instance.factors.is_plain() else divided_text(instance))
+            answer = instance.ask("solve", *(["--prices"] if parsed.prices else []))
+            sys.stdout.write(answer.text if instance.factors.is_plain() else divided_text(instance, parsed.prices))
             write_hints([*instance.notes, *grouped_lines_of(instance)])
             return answer.status
         except ProgramError as problem:
@@ -124,10 +125,15 @@ def write_hints(lines: list[str]) -> None:
     sys.stderr.write("".join(f"Hint: {line}\n" for line in lines))
 
 
-def divided_text(instance: Instance) -> str:
+def divided_text(instance: Instance, with_prices: bool) -> str:
     """Returns the answer to a scaled question in netflow's form, its numbers divided again."""
-    answer, net = instance.network()
-    return written(net) if net.cut is None else divided_cut(answer.text, net)
+    answer, net = instance.network(with_prices)
+    if net.cut is not None:
+        return divided_cut(answer.text, net)
+    if not with_prices:
+        return written(net)
+    read_prices(net)
+    return written(net) + written_prices(net)
 
 
 def main(arguments: Sequence[str]) -> int:
