@@ -9,8 +9,8 @@ from lib.examples import rows
 from models.model import Model
 from netflow.inputs.instance import Instance
 from netflow.inputs.source import Input
-from netflow.reading.headings import objective_of
 from netflow.reading.model import Unparsed
+from netflow.reading.text import tokens
 from support import BREAD, TOP, run, write
 
 DEFAULT = """set S; param need {S}; param cost; minimize C;
@@ -70,6 +70,12 @@ def test_rows_of_the_examples_can_be_rewritten(tmp_path):
             count += 1
             assert compiled(model, data, "") == out, place
     assert count > 100
+
+
+def objective_of(text):
+    """Returns the name of the first objective that a model declares."""
+    words = [token.text for token in tokens(text)]
+    return next(name for word, name in zip(words, words[1:]) if word in ("minimize", "maximize"))
 
 
 def test_random_models_can_be_rewritten(seed):

@@ -5,6 +5,7 @@ from lib.examples import folders, rows
 from models.instance import reference
 from models.model import Model
 from netflow.analysis import reasons as netflow_reasons
+from netflow.certificate import Certificate
 from netflow.reading import output
 from support import TOP, run, solved, write
 
@@ -31,18 +32,19 @@ def test_random_model(tmp_path, seed):
         check_reasons(instance, net, text)
 
 
-def test_certificate_has_the_plan_of_solve(tmp_path, seed):
-    """`compile` and `min` give the plan, or the cut, that `solve` gives for the model."""
+def test_prices_follow_the_plan(tmp_path, seed):
+    """`solve --prices` prints the plan of `solve` and then prices that prove it; after a cut it prints nothing."""
     words = write_model(tmp_path, seed + 1)[1]
     net, status, text = solved(*words)
-    compiled = run("netflow", "compile", *words)[1]
-    other, certificate = output.read_compiled(compiled), run("netflow", "min", "/dev/stdin", text=compiled)[1]
-    if status == 0:
-        output.read_certificate(certificate, other)
-        assert other.value == net.value
-        assert [arc.flow for arc in other.arcs] == [arc.flow for arc in net.arcs]
+    with_prices = run("netflow", "solve", "--prices", *words)
+    assert with_prices[0] == status
+    plan, net.prices_text = output.split_prices(with_prices[1])
+    assert plan == text
+    if status:
+        assert net.prices_text == ""
     else:
-        assert output.read_cut_of_problem(certificate, other) == output.read_cut(text, net)
+        output.read_prices(net)
+        assert Certificate.of(net).faults() == []
 
 
 def test_some_random_models_have_no_plan(tmp_path):

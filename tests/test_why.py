@@ -114,10 +114,11 @@ def test_prices(tmp_path, seed):
     words, answer = Plain(seed).solve(tmp_path)
     if answer[0]:
         return
-    text = run("netflow", "compile", *words)[1]
-    net = output.read_compiled(text)
-    output.read_plan(answer[1], net)
-    output.read_prices(run("netflow", "min", "/dev/stdin", text=text)[1], net)
+    net = output.read_compiled(run("netflow", "compile", *words)[1])
+    plan, net.prices_text = output.split_prices(run("netflow", "solve", "--prices", *words)[1])
+    assert plan == answer[1]
+    output.read_plan(plan, net)
+    output.read_prices(net)
     marginal = sensitivity.Marginal(net)
     for number, node in enumerate(net.nodes):
         check_place(tmp_path, seed, net, node, marginal.more[number], marginal.less[number])
