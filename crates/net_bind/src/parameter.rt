@@ -274,7 +274,12 @@ pub(crate) fn bound_parameter<'s>(
 {
     let indexing = kept_indexing_of(alloc, &earlier.env, braces)?;
     let rows = &indexing.rows;
-    let index = index_list(alloc, earlier.env.key(), span_or(name.span, braces), rows)?;
+    let index = index_list(
+        alloc,
+        earlier.env.hash_key(),
+        span_or(name.span, braces),
+        rows,
+    )?;
     let parameter = Parameter {
         name,
         keys: indexing.count,

@@ -180,7 +180,7 @@ fn with_statement<'s>(
     if is_given(is_assigned, &found) {
         Err(doubled(alloc, &named.word)?)
     } else {
-        Ok(Some(members_of(alloc, earlier.env.key(), &named.word, rows.as_slice())?))
+        Ok(Some(members_of(alloc, earlier.env.hash_key(), &named.word, rows.as_slice())?))
     }
 }
 

@@ -11,7 +11,7 @@ use Rattle.net_tree.specs.Spans.{span_between}
 use Rattle.net_tree.specs.Tree.{Links, Braces, empty, filled, none, link}
 use Rattle.net_base.specs.declared.error_code.ErrorCode.TheVariants.{KindMismatch, Arity, TooMany}
 use Rattle.net_expr.specs.declared.row.Keys.{Keys}
-use Rattle.net_expr.specs.declared.row.Place.{Place}
+use Rattle.net_expr.specs.declared.row.PartialRow.{PartialRow}
 use Rattle.net_expr.specs.declared.row.Row.{Row}
 use Rattle.net_expr.specs.declared.value.Value.{Value}
 use Rattle.net_expr.specs.Items.{has_in, any_in, has_part, tuples_of, Opening, walking, listing, opened, open_with}
@@ -65,7 +65,7 @@ row_alike at s (Some key) found rows h e = go (same_arity key found) (nat_lt (le
     go true false f k = cc
     go false c f k = cc
 
-pub each_alike : (lead : Tuple → Place → Outcome (Option Place)) (next : Place → List Row → Outcome (List Row)) → ((q : Place) (found rows : List Row) → AreAlike found → next q found ≡ Ok rows → AreAlike rows) → (p : Place) (ts : List Tuple) (found rows : List Row)
+pub each_alike : (lead : Tuple → PartialRow → Outcome (Option PartialRow)) (next : PartialRow → List Row → Outcome (List Row)) → ((q : PartialRow) (found rows : List Row) → AreAlike found → next q found ≡ Ok rows → AreAlike rows) → (p : PartialRow) (ts : List Tuple) (found rows : List Row)
     → AreAlike found → each (onward lead next p) ts found ≡ Ok rows → AreAlike rows
 each_alike lead next step p [] found rows h e = subst AreAlike (is_ok found rows e) h
 each_alike lead next step p (t ∷ ts) found rows h e =
@@ -74,11 +74,11 @@ each_alike lead next step p (t ∷ ts) found rows h e =
     one : (mid : List Row) → onward lead next p t found ≡ Ok mid → AreAlike mid
     one mid i = then_ok (lead t p) (go_on next found) mid i (λ o l m. by_place o m)
       where
-        by_place : (o : Option Place) → go_on next found o ≡ Ok mid → AreAlike mid
+        by_place : (o : Option PartialRow) → go_on next found o ≡ Ok mid → AreAlike mid
         by_place None m = subst AreAlike (is_ok found mid m) h
         by_place (Some q) m = step q found mid h m
 
-pub walk_alike : (at : Span) (w : World) (l : Links) (p : Place) (found rows : List Row) → AreAlike found → walk at w l p found ≡ Ok rows → AreAlike rows
+pub walk_alike : (at : Span) (w : World) (l : Links) (p : PartialRow) (found rows : List Row) → AreAlike found → walk at w l p found ≡ Ok rows → AreAlike rows
 walk_alike at w none p found rows h e = row_alike at p.scope p.key found rows h e
 walk_alike at w (link o i is) p found rows h e =
     then_ok (if has_in i then set_after w p.scope i else and_then (value w p.scope i) (tuples_of at)) (λ ts. each (onward (place w i) (walk at w is) p) ts found) rows e (λ ts j k.

@@ -27,7 +27,7 @@ use Rattle.net_tree.specs.View.{tree, braces_of, links_of, option_part}
 use Rattle.net_tree.proofs.Views.{braces_of-filled, links_of-cons}
 use Rattle.net_tree.specs.Tree.{Tree, Links, leaf, tuple, none, link, absent, filled}
 use Rattle.net_expr.specs.declared.indexing.Indexing.{Indexing}
-use Rattle.net_expr.specs.declared.row.Place.{Place}
+use Rattle.net_expr.specs.declared.row.PartialRow.{PartialRow}
 use Rattle.net_expr.specs.declared.row.Row.{Row}
 use Rattle.net_expr.specs.declared.value.Value.{Value}
 use Rattle.net_expr.specs.declared.value.Value.TheVariants.{Many}
@@ -165,7 +165,7 @@ one_bound at w x l before after s k m ms rest h only short = go (bare x) refl h
         ≡ Ok (Some (record { scope = bound_to (name_or d ∷ names_in l) (m ∷ ms) s; key = Some (k ++ m ∷ ms) }))
     go None is j = absurd j
     go (Some n) is j =
-        let p : Place = record { scope = s; key = Some k } in
+        let p : PartialRow = record { scope = s; key = Some k } in
         let size : length (k ++ m ∷ []) ≡ length k + 1 = length-append k (m ∷ []) in
         ap (λ d. and_then (match_component at d (value w s x) m p) (if_fits (places at w l ms))) (dummy_new w s before x n is j.0 j.1 only)
         ∙ ap (λ q. places at w l ms (record { scope = with_dummy n m s; key = q })) (longer_one k m (omega (arith, short)))
@@ -262,7 +262,7 @@ inner : (w : World) (at : Span) (x : Tree) (before after : List Name) (ts : List
     → each (onward (place w x) (walk at w none) (record { scope = s; key = Some k })) ys found ≡ Ok (found ++ map (row_behind (item_names x) s k) ys)
 inner w at x before after ts m n s k [] found h only long whole short begins room = ap Ok (sym (append-nil found))
 inner w at x before after ts m n s k (y ∷ ys) found h only long whole short begins room =
-    let p : Place = record { scope = s; key = Some k } in
+    let p : PartialRow = record { scope = s; key = Some k } in
     let row : Row = row_behind (item_names x) s k y in
     let one = long.0 in
     let wide : length (k ++ y) ≡ n = length-append k y ∙ omega (arith, one, whole) in
@@ -347,7 +347,7 @@ outer w at i j q mid after n m ts ys (x ∷ xs) found h k joined long short begi
     let more = item_names j in
     let one = long.0 in
     let s : Scope = bound_to ns x [] in
-    let p : Place = record { scope = s; key = Some x } in
+    let p : PartialRow = record { scope = s; key = Some x } in
     let size : length (joined_to x ys ++ product xs ys) ≡ length ys + length (product xs ys) = length-append (joined_to x ys) (product xs ys) ∙ ap (λ k. k + length (product xs ys)) (joined_size x ys) in
     let only : OnlyBinds mid s = subst (λ (k : List Name). OnlyBinds k s) (sym (names_are w i [] mid ts h.item)) (binds_all ns x [] [] only_none) in
     let placed : place w i x (start []) ≡ Ok (Some p) = placed_so w i [] mid n ts [] [] x h only_none one (omega (arith, short)) in

@@ -11,7 +11,7 @@ use Rattle.net_base.specs.declared.diagnostic.Fault.{Fault}
 use Rattle.net_base.specs.declared.diagnostic.Fault.TheVariants as faults
 use Rattle.net_base.specs.declared.diagnostic.Diagnostic.{Diagnostic}
 use Rattle.net_expr.specs.declared.keys.Frame.{Frame}
-use Rattle.net_expr.specs.declared.row.Place.{Place}
+use Rattle.net_expr.specs.declared.row.PartialRow.{PartialRow}
 use Rattle.net_expr.specs.declared.row.Row.{Row}
 use Rattle.net_expr.specs.Frames.{still, steps, steps_next, steps_of, of_tuples, steps_still, weight_of, Leads}
 use Rattle.net_base.specs.Outcomes.{Outcome, Refines, Updates, and_then, each}
@@ -73,18 +73,18 @@ after_first f = record f { left = drop 1 f.left }
 
 -- an item gives what its next tuple leads to, and what comes behind it
 pub first_gives : (at : Span) (w : World) (f : Frame) (t : Tuple) (found : List Row) → f.left ≡ t ∷ drop 1 f.left
-    → still at w f found ≡ and_then (and_then (place w (tree f.item.now) t f.place) (go_on (walk at w (links_of f.more.now)) found)) (still at w (after_first f))
-first_gives at w f t found e = ap (λ ts. each (onward (place w (tree f.item.now)) (walk at w (links_of f.more.now)) f.place) ts found) e
+    → still at w f found ≡ and_then (and_then (place w (tree f.item.now) t f.partial) (go_on (walk at w (links_of f.more.now)) found)) (still at w (after_first f))
+first_gives at w f t found e = ap (λ ts. each (onward (place w (tree f.item.now)) (walk at w (links_of f.more.now)) f.partial) ts found) e
 
 pub first_steps : (at : Span) (w : World) (f : Frame) (t : Tuple) → f.left ≡ t ∷ drop 1 f.left
-    → steps_still at w f ≡ 1 + steps_next (steps at w (links_of f.more.now)) (place w (tree f.item.now) t f.place) + steps_still at w (after_first f)
-first_steps at w f t e = ap (steps_of (λ t. place w (tree f.item.now) t f.place) (steps at w (links_of f.more.now))) e
+    → steps_still at w f ≡ 1 + steps_next (steps at w (links_of f.more.now)) (place w (tree f.item.now) t f.partial) + steps_still at w (after_first f)
+first_steps at w f t e = ap (steps_of (λ t. place w (tree f.item.now) t f.partial) (steps at w (links_of f.more.now))) e
 
 -- at the end
 pub ended : (at : Span) (w : World) (f : Frame) (fs : List Frame) (found : List Row) (wanted : Outcome (List Row)) → and_then (still at w f found) (still_below at w fs) ≡ wanted → f.left ≡ [] → fs ≡ [] → wanted ≡ Ok found
 ended at w f fs found wanted same e h =
     sym same
-    ∙ ap (λ ts. and_then (each (onward (place w (tree f.item.now)) (walk at w (links_of f.more.now)) f.place) ts found) (still_below at w fs)) e
+    ∙ ap (λ ts. and_then (each (onward (place w (tree f.item.now)) (walk at w (links_of f.more.now)) f.partial) ts found) (still_below at w fs)) e
     ∙ ap (λ gs. still_below at w gs found) h
 
 -- an item without tuples gives way to the one that was left last
@@ -93,12 +93,12 @@ pub gives_way : (at : Span) (w : World) (f g : Frame) (fs left : List Frame) (fo
 gives_way at w f g fs left found wanted same e h =
     sym (below_last at w left g found)
     ∙ ap (λ gs. still_below at w gs found) (sym h)
-    ∙ sym (ap (λ ts. and_then (each (onward (place w (tree f.item.now)) (walk at w (links_of f.more.now)) f.place) ts found) (still_below at w fs)) e)
+    ∙ sym (ap (λ ts. and_then (each (onward (place w (tree f.item.now)) (walk at w (links_of f.more.now)) f.partial) ts found) (still_below at w fs)) e)
     ∙ same
 
 -- a tuple that leads somewhere, or nowhere
-pub led : (at : Span) (w : World) (f : Frame) (t : Tuple) (next : Option Place) (fs : List Frame) (found : List Row) (wanted : Outcome (List Row))
-    → and_then (still at w f found) (still_below at w fs) ≡ wanted → f.left ≡ t ∷ drop 1 f.left → place w (tree f.item.now) t f.place ≡ Ok next
+pub led : (at : Span) (w : World) (f : Frame) (t : Tuple) (next : Option PartialRow) (fs : List Frame) (found : List Row) (wanted : Outcome (List Row))
+    → and_then (still at w f found) (still_below at w fs) ≡ wanted → f.left ≡ t ∷ drop 1 f.left → place w (tree f.item.now) t f.partial ≡ Ok next
     → wanted ≡ and_then (and_then (go_on (walk at w (links_of f.more.now)) found next) (still at w (after_first f))) (still_below at w fs)
 led at w f t next fs found wanted same e p =
     sym same
@@ -122,7 +122,7 @@ to_item at w f g o (Some k) fs more found wanted e h is pushed =
 
 -- faults
 pub fault_of_place : (at : Span) (w : World) (f : Frame) (t : Tuple) (fs : List Frame) (found last : List Row) (wanted : Outcome (List Row)) (e : Fault)
-    → and_then (still at w f found) (still_below at w fs) ≡ wanted → f.left ≡ t ∷ drop 1 f.left → Refines (place w (tree f.item.now) t f.place) (Err e) → Updates wanted (Err e) last
+    → and_then (still at w f found) (still_below at w fs) ≡ wanted → f.left ≡ t ∷ drop 1 f.left → Refines (place w (tree f.item.now) t f.partial) (Err e) → Updates wanted (Err e) last
 fault_of_place at w f t fs found last wanted faults.OutOfMemory same e h = tt
 fault_of_place at w f t fs found last wanted (faults.At r) same e h =
     sym same
@@ -130,7 +130,7 @@ fault_of_place at w f t fs found last wanted (faults.At r) same e h =
     ∙ ap (λ o. and_then (and_then (and_then o (go_on (walk at w (links_of f.more.now)) found)) (still at w (after_first f))) (still_below at w fs)) h
 
 -- an item is entered at a place
-pub entering : (at : Span) (w : World) (ls : List LinkedOperand) (l : LinkedOperand) (o : Option Place) (p : Place) (found : List Row) → o ≡ Some p → 1 ≤ length ls → l ≡ get_or ls 0 l
+pub entering : (at : Span) (w : World) (ls : List LinkedOperand) (l : LinkedOperand) (o : Option PartialRow) (p : PartialRow) (found : List Row) → o ≡ Some p → 1 ≤ length ls → l ≡ get_or ls 0 l
     → go_on (walk at w (links_of ls)) found o
     ≡ and_then (item_tuples at w p.scope (tree (out-LinkedOperand l).operand)) (λ ts. each (onward (place w (tree (out-LinkedOperand l).operand)) (walk at w (links_of (take (length ls - 1) (drop 1 ls)))) p) ts found)
 entering at w ls l o p found is h e =
@@ -143,7 +143,7 @@ made : (o : Outcome (List Tuple)) (make : List Tuple → Frame) (f : Frame) → 
 made (Ok ts) make f e = (ts, refl, is_ok (make ts) f e)
 made (Err r) make f e = cc
 
-pub entering_stops : (at : Span) (w : World) (ls : List LinkedOperand) (l : LinkedOperand) (o : Option Place) (p : Place) (found : List Row) (make : List Tuple → Frame) (e : Fault) → o ≡ Some p → 1 ≤ length ls → l ≡ get_or ls 0 l
+pub entering_stops : (at : Span) (w : World) (ls : List LinkedOperand) (l : LinkedOperand) (o : Option PartialRow) (p : PartialRow) (found : List Row) (make : List Tuple → Frame) (e : Fault) → o ≡ Some p → 1 ≤ length ls → l ≡ get_or ls 0 l
     → Refines (and_then (item_tuples at w p.scope (tree (out-LinkedOperand l).operand)) (λ ts. Ok (make ts))) (Err e) → Leads at w (go_on (walk at w (links_of ls)) found o) (Err e) found
 entering_stops at w ls l o p found make faults.OutOfMemory is h i a = tt
 entering_stops at w ls l o p found make (faults.At r) is h i a = go (item_tuples at w p.scope (tree (out-LinkedOperand l).operand)) _ (entering at w ls l o p found is h i) a
@@ -152,7 +152,7 @@ entering_stops at w ls l o p found make (faults.At r) is h i a = go (item_tuples
     go (Ok us) f e a = cc
     go (Err s) f e a = let same : s ≡ r = cc in e ∙ ap (λ (k : Diagnostic). let stopped : Outcome (List Row) = Err k in stopped) same
 
-pub entering_leads : (at : Span) (w : World) (ls : List LinkedOperand) (l : LinkedOperand) (o : Option Place) (p : Place) (found : List Row) (make : List Tuple → Frame) (f : Frame) → o ≡ Some p → 1 ≤ length ls → l ≡ get_or ls 0 l
+pub entering_leads : (at : Span) (w : World) (ls : List LinkedOperand) (l : LinkedOperand) (o : Option PartialRow) (p : PartialRow) (found : List Row) (make : List Tuple → Frame) (f : Frame) → o ≡ Some p → 1 ≤ length ls → l ≡ get_or ls 0 l
     → ((ts : List Tuple) → still at w (make ts) found ≡ each (onward (place w (tree (out-LinkedOperand l).operand)) (walk at w (links_of (take (length ls - 1) (drop 1 ls)))) p) (sought (selecting w p.scope (tree (out-LinkedOperand l).operand)) ts) found)
     → and_then (item_tuples at w p.scope (tree (out-LinkedOperand l).operand)) (λ ts. Ok (make ts)) ≡ Ok f → go_on (walk at w (links_of ls)) found o ≡ still at w f found
 entering_leads at w ls l o p found make f is h i same a =
@@ -163,7 +163,7 @@ entering_leads at w ls l o p found make f is h i same a =
     ∙ sym (same m.0)
     ∙ ap (λ (g : Frame). still at w g found) m.2
 
-pub entering_lighter : (at : Span) (w : World) (ls : List LinkedOperand) (l : LinkedOperand) (p : Place) (make : List Tuple → Frame) (f : Frame) → 1 ≤ length ls → l ≡ get_or ls 0 l
+pub entering_lighter : (at : Span) (w : World) (ls : List LinkedOperand) (l : LinkedOperand) (p : PartialRow) (make : List Tuple → Frame) (f : Frame) → 1 ≤ length ls → l ≡ get_or ls 0 l
     → ((ts : List Tuple) → weight_of (make ts) ≡ weight (tree (out-LinkedOperand l).operand) + weights (links_of (take (length ls - 1) (drop 1 ls))))
     → and_then (item_tuples at w p.scope (tree (out-LinkedOperand l).operand)) (λ ts. Ok (make ts)) ≡ Ok f → weight_of f ≤ weights (links_of ls)
 entering_lighter at w ls l p make f h i same a =
@@ -173,12 +173,12 @@ entering_lighter at w ls l p make f h i same a =
     let all = ap weights (rest_first ls l h i) in
     omega (arith, here, is, all)
 
-pub entering_steps : (at : Span) (w : World) (ls : List LinkedOperand) (l : LinkedOperand) (o : Option Place) (p : Place) (make : List Tuple → Frame) (f : Frame) → o ≡ Some p → 1 ≤ length ls → l ≡ get_or ls 0 l
+pub entering_steps : (at : Span) (w : World) (ls : List LinkedOperand) (l : LinkedOperand) (o : Option PartialRow) (p : PartialRow) (make : List Tuple → Frame) (f : Frame) → o ≡ Some p → 1 ≤ length ls → l ≡ get_or ls 0 l
     → ((ts : List Tuple) → steps_still at w (make ts) ≡ steps_of (λ t. place w (tree (out-LinkedOperand l).operand) t p) (steps at w (links_of (take (length ls - 1) (drop 1 ls)))) (sought (selecting w p.scope (tree (out-LinkedOperand l).operand)) ts))
     → and_then (item_tuples at w p.scope (tree (out-LinkedOperand l).operand)) (λ ts. Ok (make ts)) ≡ Ok f → steps_still at w f ≡ steps_next (steps at w (links_of ls)) (Ok o)
 entering_steps at w ls l o p make f is h i same a =
     let m = made (item_tuples at w p.scope (tree (out-LinkedOperand l).operand)) make f a in
-    sym (ap (λ (q : Option Place). steps_next (steps at w (links_of ls)) (Ok q)) is
+    sym (ap (λ (q : Option PartialRow). steps_next (steps at w (links_of ls)) (Ok q)) is
     ∙ ap (λ k. steps at w k p) (rest_first ls l h i)
     ∙ ap (of_tuples (λ ts. steps_of (λ t. place w (tree (out-LinkedOperand l).operand) t p) (steps at w (links_of (take (length ls - 1) (drop 1 ls)))) (sought (selecting w p.scope (tree (out-LinkedOperand l).operand)) ts))) m.1
     ∙ sym (same m.0)
@@ -187,11 +187,11 @@ entering_steps at w ls l o p make f is h i same a =
 -- each turn leaves less to do
 pub way_shorter : (at : Span) (w : World) (f g : Frame) (fs left : List Frame) → f.left ≡ [] → fs ≡ left ++ g ∷ [] → steps_still at w g + steps_below at w left < steps_still at w f + steps_below at w fs
 way_shorter at w f g fs left e h =
-    let here : steps_still at w f ≡ 1 = ap (steps_of (λ t. place w (tree f.item.now) t f.place) (steps at w (links_of f.more.now))) e in
+    let here : steps_still at w f ≡ 1 = ap (steps_of (λ t. place w (tree f.item.now) t f.partial) (steps at w (links_of f.more.now))) e in
     let below = ap (steps_below at w) h ∙ steps_last at w left g in
     omega (arith, here, below)
 
-pub item_shorter : (at : Span) (w : World) (f g : Frame) (t : Tuple) (next : Option Place) (o : Option Frame) (fs more : List Frame) → f.left ≡ t ∷ drop 1 f.left → place w (tree f.item.now) t f.place ≡ Ok next
+pub item_shorter : (at : Span) (w : World) (f g : Frame) (t : Tuple) (next : Option PartialRow) (o : Option Frame) (fs more : List Frame) → f.left ≡ t ∷ drop 1 f.left → place w (tree f.item.now) t f.partial ≡ Ok next
     → IfSome o (λ k. steps_still at w k ≡ steps_next (steps at w (links_of f.more.now)) (Ok next)) → o ≡ Some g → more ≡ fs ++ after_first f ∷ []
     → steps_still at w g + steps_below at w more < steps_still at w f + steps_below at w fs
 item_shorter at w f g t next None fs more e p s is pushed = cc

@@ -202,7 +202,7 @@ module _ (P : Places) (at : Span) (h : P Model at) where
   finds_entry_at name None key = h
   finds_entry_at name (Some (Set d ts)) [] = tt
   finds_entry_at name (Some (Set d ts)) (m ∷ ms) = h
-  finds_entry_at name (Some (Parameter n index values)) key = finds_if P (nat_eq (length key) (key_count n)) _ _ (finds_value_at _ _ _) h
+  finds_entry_at name (Some (Parameter n keys values)) key = finds_if P (nat_eq (length key) (key_count n)) _ _ (finds_value_at _ _ _) h
 
   pub finds_name_at : (w : World) (name : Name) (m : Option Member) (key : Tuple) → Finds P (name_at at w name m key)
   finds_name_at w name None key = finds_entry_at name (entry_of w name) key

@@ -6,7 +6,7 @@ use Rattle.net_sets.specs.declared.member.Member.{Member}
 use Rattle.net_sets.specs.Sets.{Tuple, same_member, same_tuple}
 use Rattle.net_sets.proofs.Sames.{member_decides, tuple_decides}
 use Rattle.net_tree.specs.Tree.{Links, none, link}
-use Rattle.net_expr.specs.declared.row.Place.{Place}
+use Rattle.net_expr.specs.declared.row.PartialRow.{PartialRow}
 use Rattle.net_expr.specs.declared.value.Value.{Value}
 use Rattle.net_expr.specs.declared.value.Value.TheVariants.{One, Several, Many, Truth}
 use Rattle.net_sets.specs.Limits.{arity_limit}
@@ -142,30 +142,30 @@ on_then o u c d h k l = λ a b e f.
 
 -- ---- one component
 
-agreed : (at : Span) (m : Member) (p q : Place) (v : Value) → matches_member at m p v ≡ Ok (Some q) → (u : Member) × (v ≡ One u) × (same_member u m ≡ true) × (p ≡ q)
+agreed : (at : Span) (m : Member) (p q : PartialRow) (v : Value) → matches_member at m p v ≡ Ok (Some q) → (u : Member) × (v ≡ One u) × (same_member u m ≡ true) × (p ≡ q)
 agreed at m p q (One u) e = go (same_member u m) refl e
   where
-    go : (b : Bool) → same_member u m ≡ b → (let o : Outcome (Option Place) = Ok (if b then Some p else None) in o ≡ Ok (Some q)) → (z : Member) × (One u ≡ One z) × (same_member z m ≡ true) × (p ≡ q)
+    go : (b : Bool) → same_member u m ≡ b → (let o : Outcome (Option PartialRow) = Ok (if b then Some p else None) in o ≡ Ok (Some q)) → (z : Member) × (One u ≡ One z) × (same_member z m ≡ true) × (p ≡ q)
     go true f h = (u, refl, f, (let same : Some p ≡ Some q = is_ok (Some p) (Some q) h in cc))
     go false f h = cc
 agreed at m p q (Several t) e = cc
 agreed at m p q (Many d ts) e = cc
 agreed at m p q (Truth b) e = cc
 
-pub fitted_on : (at : Span) (d : Option Name) (own : Outcome Value) (m : Member) (p q : Place) → match_component at d own m p ≡ Ok (Some q) → OnFrom p.key q.key
+pub fitted_on : (at : Span) (d : Option Name) (own : Outcome Value) (m : Member) (p q : PartialRow) → match_component at d own m p ≡ Ok (Some q) → OnFrom p.key q.key
 fitted_on at (Some name) own m p q e =
     let same : Some (bind name m p) ≡ Some q = is_ok (Some (bind name m p)) (Some q) e in
     let is : bind name m p ≡ q = cc in
-    subst (λ (z : Place). OnFrom p.key z.key) is (on_longer (m ∷ []) p.key)
-fitted_on at None own m p q e = then_ok own (matches_member at m p) (Some q) e (λ v h i. let a = agreed at m p q v i in subst (λ (z : Place). OnFrom p.key z.key) a.3 (on_same p.key))
+    subst (λ (z : PartialRow). OnFrom p.key z.key) is (on_longer (m ∷ []) p.key)
+fitted_on at None own m p q e = then_ok own (matches_member at m p) (Some q) e (λ v h i. let a = agreed at m p q v i in subst (λ (z : PartialRow). OnFrom p.key z.key) a.3 (on_same p.key))
 
-fitted_parted : (at : Span) (d : Option Name) (own : Outcome Value) (m n : Member) (p q r : Place) → same_member m n ≡ false → match_component at d own m p ≡ Ok (Some q) → match_component at d own n p ≡ Ok (Some r) → PartedFrom q.key r.key
+fitted_parted : (at : Span) (d : Option Name) (own : Outcome Value) (m n : Member) (p q r : PartialRow) → same_member m n ≡ false → match_component at d own m p ≡ Ok (Some q) → match_component at d own n p ≡ Ok (Some r) → PartedFrom q.key r.key
 fitted_parted at (Some name) own m n p q r unlike e f =
     let same : Some (bind name m p) ≡ Some q = is_ok (Some (bind name m p)) (Some q) e in
     let other : Some (bind name n p) ≡ Some r = is_ok (Some (bind name n p)) (Some r) f in
     let first : bind name m p ≡ q = cc in
     let second : bind name n p ≡ r = cc in
-    subst (λ (z : Place). PartedFrom z.key r.key) first (subst (λ (z : Place). PartedFrom (longer (m ∷ []) p.key) z.key) second (longer_parted (m ∷ []) (n ∷ []) p.key (single m n unlike)))
+    subst (λ (z : PartialRow). PartedFrom z.key r.key) first (subst (λ (z : PartialRow). PartedFrom (longer (m ∷ []) p.key) z.key) second (longer_parted (m ∷ []) (n ∷ []) p.key (single m n unlike)))
 fitted_parted at None own m n p q r unlike e f =
     then_ok own (matches_member at m p) (Some q) e (λ v h i. then_ok own (matches_member at n p) (Some r) f (λ u j k.
     let a = agreed at m p q v i in
@@ -179,28 +179,28 @@ fitted_parted at None own m n p q r unlike e f =
 
 -- ---- several components
 
-pub fits_then : (o : Outcome (Option Place)) (next : Place → Outcome (Option Place)) (q : Place) → and_then o (if_fits next) ≡ Ok (Some q) → (p : Place) × (o ≡ Ok (Some p)) × (next p ≡ Ok (Some q))
+pub fits_then : (o : Outcome (Option PartialRow)) (next : PartialRow → Outcome (Option PartialRow)) (q : PartialRow) → and_then o (if_fits next) ≡ Ok (Some q) → (p : PartialRow) × (o ≡ Ok (Some p)) × (next p ≡ Ok (Some q))
 fits_then (Ok (Some p)) next q e = (p, refl, e)
 fits_then (Ok None) next q e = cc
 fits_then (Err r) next q e = cc
 
-pub places_on : (at : Span) (w : World) (l : Links) (ms : Tuple) (p q : Place) → places at w l ms p ≡ Ok (Some q) → OnFrom p.key q.key
-places_on at w none ms p q e = let same : Some p ≡ Some q = is_ok (Some p) (Some q) e in let is : p ≡ q = cc in subst (λ (z : Place). OnFrom p.key z.key) is (on_same p.key)
-places_on at w (link o x l) [] p q e = let same : Some p ≡ Some q = is_ok (Some p) (Some q) e in let is : p ≡ q = cc in subst (λ (z : Place). OnFrom p.key z.key) is (on_same p.key)
+pub places_on : (at : Span) (w : World) (l : Links) (ms : Tuple) (p q : PartialRow) → places at w l ms p ≡ Ok (Some q) → OnFrom p.key q.key
+places_on at w none ms p q e = let same : Some p ≡ Some q = is_ok (Some p) (Some q) e in let is : p ≡ q = cc in subst (λ (z : PartialRow). OnFrom p.key z.key) is (on_same p.key)
+places_on at w (link o x l) [] p q e = let same : Some p ≡ Some q = is_ok (Some p) (Some q) e in let is : p ≡ q = cc in subst (λ (z : PartialRow). OnFrom p.key z.key) is (on_same p.key)
 places_on at w (link o x l) (m ∷ ms) p q e =
     let s = fits_then (match_component at (new_dummy w p.scope x) (value w p.scope x) m p) (places at w l ms) q e in
     on_join p.key s.0.key q.key (fitted_on at (new_dummy w p.scope x) (value w p.scope x) m p s.0 s.1) (places_on at w l ms s.0 q s.2)
 
 -- two tuples that differ, at one component and those behind it
-pub pair_parted : (at : Span) (d : Option Name) (own : Outcome Value) (w : World) (l : Links) (m n : Member) (ms ns : Tuple) (p q r : Place)
-    → ((z : Place) → same_tuple ms ns ≡ false → places at w l ms z ≡ Ok (Some q) → places at w l ns z ≡ Ok (Some r) → PartedFrom q.key r.key)
+pub pair_parted : (at : Span) (d : Option Name) (own : Outcome Value) (w : World) (l : Links) (m n : Member) (ms ns : Tuple) (p q r : PartialRow)
+    → ((z : PartialRow) → same_tuple ms ns ≡ false → places at w l ms z ≡ Ok (Some q) → places at w l ns z ≡ Ok (Some r) → PartedFrom q.key r.key)
     → same_tuple (m ∷ ms) (n ∷ ns) ≡ false → and_then (match_component at d own m p) (if_fits (places at w l ms)) ≡ Ok (Some q) → and_then (match_component at d own n p) (if_fits (places at w l ns)) ≡ Ok (Some r) → PartedFrom q.key r.key
 pair_parted at d own w l m n ms ns p q r more unlike e f = go (same_member m n) refl unlike
   where
-    s : (z : Place) × (match_component at d own m p ≡ Ok (Some z)) × (places at w l ms z ≡ Ok (Some q))
+    s : (z : PartialRow) × (match_component at d own m p ≡ Ok (Some z)) × (places at w l ms z ≡ Ok (Some q))
     s = fits_then (match_component at d own m p) (places at w l ms) q e
 
-    t : (z : Place) × (match_component at d own n p ≡ Ok (Some z)) × (places at w l ns z ≡ Ok (Some r))
+    t : (z : PartialRow) × (match_component at d own n p ≡ Ok (Some z)) × (places at w l ns z ≡ Ok (Some r))
     t = fits_then (match_component at d own n p) (places at w l ns) r f
 
     go : (b : Bool) → same_member m n ≡ b → b && same_tuple ms ns ≡ false → PartedFrom q.key r.key
@@ -211,7 +211,7 @@ pair_parted at d own w l m n ms ns p q r more unlike e f = go (same_member m n) 
         more s.0 i s.2 (ap (places at w l ns) same ∙ t.2)
     go false h i = on_then s.0.key t.0.key q.key r.key (fitted_parted at d own m n p s.0 t.0 h s.1 t.1) (places_on at w l ms s.0 q s.2) (places_on at w l ns t.0 r t.2)
 
-pub places_parted : (at : Span) (w : World) (l : Links) (ms ns : Tuple) (p q r : Place) → length ms ≡ size l → length ns ≡ size l → same_tuple ms ns ≡ false → places at w l ms p ≡ Ok (Some q) → places at w l ns p ≡ Ok (Some r) → PartedFrom q.key r.key
+pub places_parted : (at : Span) (w : World) (l : Links) (ms ns : Tuple) (p q r : PartialRow) → length ms ≡ size l → length ns ≡ size l → same_tuple ms ns ≡ false → places at w l ms p ≡ Ok (Some q) → places at w l ns p ≡ Ok (Some r) → PartedFrom q.key r.key
 places_parted at w none [] [] p q r i j unlike e f = absurd (let h = unlike in cc)
 places_parted at w none (m ∷ ms) ns p q r i j unlike e f = absurd (let h = i in omega arith)
 places_parted at w none [] (n ∷ ns) p q r i j unlike e f = absurd (let h = j in omega arith)

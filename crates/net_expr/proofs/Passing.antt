@@ -19,7 +19,7 @@ use Rattle.net_tree.specs.declared.expr.LinkedOperand.{LinkedOperand, out-Linked
 use Rattle.net_tree.specs.Tree.{Tree, Links, leaf, tuple, none, link}
 use Rattle.net_tree.specs.View.{tree, links_of}
 use Rattle.net_tree.proofs.Views.{next_link}
-use Rattle.net_expr.specs.declared.row.Place.{Place}
+use Rattle.net_expr.specs.declared.row.PartialRow.{PartialRow}
 use Rattle.net_expr.specs.declared.row.Row.{Row}
 use Rattle.net_expr.specs.declared.value.Value.{Value}
 use Rattle.net_expr.specs.declared.value.Value.TheVariants.{One}
@@ -93,13 +93,13 @@ same_pick j k v m e = (ap (λ o. (pick_or o).0) e, ap (λ o. (pick_or o).1) e)
     pick_or (Some q) = q
 
 -- a component up to the selecting one: the place that is not left is one where the rest leads nowhere
-fit_apart : (at : Span) (w : World) (s : Scope) (k : ℕ) (m : Member) (x : Tree) (rest : Option (ℕ × Member)) (j : ℕ) (t : Tuple) (y : Member) (p : Place) (next : Place → Outcome (Option Place))
+fit_apart : (at : Span) (w : World) (s : Scope) (k : ℕ) (m : Member) (x : Tree) (rest : Option (ℕ × Member)) (j : ℕ) (t : Tuple) (y : Member) (p : PartialRow) (next : PartialRow → Outcome (Option PartialRow))
     → picked j (dummy_alone s (bare x)) (if is_some (new_dummy w s x) then rest else None) ≡ Some (k, m) → slice_get t j ≡ Some y → agrees k m t ≡ false → Keeps s p.scope
-    → (rest ≡ Some (k, m) → (q : Place) → Keeps s q.scope → next q ≡ Ok None)
+    → (rest ≡ Some (k, m) → (q : PartialRow) → Keeps s q.scope → next q ≡ Ok None)
     → and_then (match_component at (new_dummy w p.scope x) (value w p.scope x) y p) (if_fits next) ≡ Ok None
 fit_apart at w s k m x rest j t y p next chosen here apart kept more = by_name (bare x) refl chosen
   where
-    fit : Option Name → Outcome Value → Outcome (Option Place)
+    fit : Option Name → Outcome Value → Outcome (Option PartialRow)
     fit d own = and_then (match_component at d own y p) (if_fits next)
 
     known : (name : Name) (v : Member) → bound p.scope name ≡ Some v → unless_known w p.scope (Some name) ≡ None
@@ -164,7 +164,7 @@ selecting_later w s k m j (link o x l) e = go (dummy_alone s (bare x)) (is_some 
     go None true e more = let later = more e in omega (arith, later)
     go None false e more = cc
 
-places_apart : (at : Span) (w : World) (s : Scope) (k : ℕ) (m : Member) (l : Links) (j : ℕ) (t ms : Tuple) (p : Place)
+places_apart : (at : Span) (w : World) (s : Scope) (k : ℕ) (m : Member) (l : Links) (j : ℕ) (t ms : Tuple) (p : PartialRow)
     → selecting_from w s j l ≡ Some (k, m) → drop j t ≡ ms → k < length t → agrees k m t ≡ false → Keeps s p.scope → places at w l ms p ≡ Ok None
 places_apart at w s k m none j t ms p e left long apart kept = cc
 places_apart at w s k m (link o x l) j t [] p e left long apart kept =
@@ -176,7 +176,7 @@ places_apart at w s k m (link o x l) j t (y ∷ ys) p e left long apart kept =
     fit_apart at w s k m x (selecting_from w s (j + 1) l) j t y p (places at w l ys) e both.0 apart kept
     (λ r q kept_more. places_apart at w s k m l (j + 1) t ys q r both.1 long apart kept_more)
 
-left_apart : (at : Span) (w : World) (k : ℕ) (m : Member) (x : Tree) (own : Outcome Value) (t : Tuple) (p : Place) → selecting_left w p.scope x ≡ Some (k, m) → k < length t → agrees k m t ≡ false
+left_apart : (at : Span) (w : World) (k : ℕ) (m : Member) (x : Tree) (own : Outcome Value) (t : Tuple) (p : PartialRow) → selecting_left w p.scope x ≡ Some (k, m) → k < length t → agrees k m t ≡ false
     → left_place at w x own t p ≡ Ok None
 left_apart at w k m (tuple o x l c) own [] p e long apart = absurd (omega (arith, long))
 left_apart at w k m (tuple o x l c) own (y ∷ ys) p e long apart =
@@ -184,7 +184,7 @@ left_apart at w k m (tuple o x l c) own (y ∷ ys) p e long apart =
     (λ r q kept. places_apart (span_of (tuple o x l c)) w p.scope k m l 1 (y ∷ ys) ys q r refl long apart kept)
 left_apart at w k m _ own t p e long apart = cc
 
-place_apart : (w : World) (k : ℕ) (m : Member) (i : Tree) (t : Tuple) (p : Place) → selecting w p.scope i ≡ Some (k, m) → k < length t → agrees k m t ≡ false → place w i t p ≡ Ok None
+place_apart : (w : World) (k : ℕ) (m : Member) (i : Tree) (t : Tuple) (p : PartialRow) → selecting w p.scope i ≡ Some (k, m) → k < length t → agrees k m t ≡ false → place w i t p ≡ Ok None
 place_apart w k m i t p e long apart = place-is w i t p ∙ go (sides i) e
   where
     go : (o : Option (Tree × Tree)) → selecting_sides w p.scope o ≡ Some (k, m) → placed w i t p o ≡ Ok None
@@ -192,7 +192,7 @@ place_apart w k m i t p e long apart = place-is w i t p ∙ go (sides i) e
     go (Some q) e = left_apart (span_of i) w k m q.0 (value w p.scope q.0) t p e long apart
 
 -- a walk through the tuples that an item selects comes to the same as one through all
-pub selected_walk : (w : World) (i : Tree) (next : Place → List Row → Outcome (List Row)) (p : Place) (ts : List Tuple) (found : List Row)
+pub selected_walk : (w : World) (i : Tree) (next : PartialRow → List Row → Outcome (List Row)) (p : PartialRow) (ts : List Tuple) (found : List Row)
     → each (onward (place w i) next p) (sought (selecting w p.scope i) ts) found ≡ each (onward (place w i) next p) ts found
 selected_walk w i next p ts found = by_component (selecting w p.scope i) refl
   where
@@ -207,7 +207,7 @@ selected_walk w i next p ts found = by_component (selecting w p.scope i) refl
     by_component None e = refl
     by_component (Some s) e = go_past s.0 s.1 e (nat_lt s.0 (narrowest ts)) refl
 
-pub selected_from : (w : World) (i : Tree) (next : Place → List Row → Outcome (List Row)) (p : Place) (ts left : List Tuple) (found : List Row) → left ≡ sought (selecting w p.scope i) ts
+pub selected_from : (w : World) (i : Tree) (next : PartialRow → List Row → Outcome (List Row)) (p : PartialRow) (ts left : List Tuple) (found : List Row) → left ≡ sought (selecting w p.scope i) ts
     → each (onward (place w i) next p) left found ≡ each (onward (place w i) next p) ts found
 selected_from w i next p ts left found h = ap (λ us. each (onward (place w i) next p) us found) h ∙ selected_walk w i next p ts found
 

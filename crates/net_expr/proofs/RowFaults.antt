@@ -10,7 +10,7 @@ use Rattle.net_sets.specs.declared.member.Member.{Member}
 use Rattle.net_tree.specs.declared.operator.Reduction.{Reduction}
 use Rattle.net_tree.specs.declared.operator.Reduction.TheVariants.{Sum, Min, Max}
 use Rattle.net_expr.specs.declared.row.Keys.{Keys}
-use Rattle.net_expr.specs.declared.row.Place.{Place}
+use Rattle.net_expr.specs.declared.row.PartialRow.{PartialRow}
 use Rattle.net_expr.specs.declared.row.Row.{Row}
 use Rattle.net_expr.specs.declared.value.Value.{Value}
 use Rattle.net_expr.specs.declared.value.Value.TheVariants.{One, Several, Many, Truth}
@@ -38,37 +38,37 @@ module _ (P : Places) (at : Span) (h : P Model at) where
   pub finds_opened : (indexing : Bool) (v : Value) → Finds P (opened at indexing v)
   finds_opened indexing v = finds_if P (indexing || is_set v) _ _ (finds_then P (tuples_of at v) _ (finds_tuples_of v) (λ ts. tt)) tt
 
-  pub finds_agrees : (m : Member) (p : Place) (v : Value) → Finds P (matches_member at m p v)
+  pub finds_agrees : (m : Member) (p : PartialRow) (v : Value) → Finds P (matches_member at m p v)
   finds_agrees m p (One v) = tt
   finds_agrees m p (Several t) = h
   finds_agrees m p (Many d ts) = h
   finds_agrees m p (Truth b) = h
 
-  finds_agrees_whole : (t : Tuple) (p : Place) (v : Tuple) → Finds P (matches_tuple at t p v)
+  finds_agrees_whole : (t : Tuple) (p : PartialRow) (v : Tuple) → Finds P (matches_tuple at t p v)
   finds_agrees_whole t p v = finds_if P (nat_eq (length v) (length t)) _ _ tt h
 
-  finds_agrees_as : (t : Tuple) (p : Place) (v : Value) → Finds P (matches_as_tuple at t p v)
+  finds_agrees_as : (t : Tuple) (p : PartialRow) (v : Value) → Finds P (matches_as_tuple at t p v)
   finds_agrees_as t p (One v) = finds_agrees_whole t p (v ∷ [])
   finds_agrees_as t p (Several v) = finds_agrees_whole t p v
   finds_agrees_as t p (Many d ts) = h
   finds_agrees_as t p (Truth b) = h
 
-  pub finds_fitted : (name : Option Name) (own : Outcome Value) → Finds P own → (m : Member) (p : Place) → Finds P (match_component at name own m p)
+  pub finds_fitted : (name : Option Name) (own : Outcome Value) → Finds P own → (m : Member) (p : PartialRow) → Finds P (match_component at name own m p)
   finds_fitted (Some name) own k m p = tt
   finds_fitted None own k m p = finds_then P own (matches_member at m p) k (finds_agrees m p)
 
-  finds_bound_first : (name : Name) (t : Tuple) (p : Place) → Finds P (bound_first name t p)
+  finds_bound_first : (name : Name) (t : Tuple) (p : PartialRow) → Finds P (bound_first name t p)
   finds_bound_first name [] p = tt
   finds_bound_first name (m ∷ ms) p = tt
 
-  pub finds_fitted_alone : (name : Option Name) (own : Outcome Value) → Finds P own → (t : Tuple) (p : Place) → Finds P (match_whole at name own t p)
+  pub finds_fitted_alone : (name : Option Name) (own : Outcome Value) → Finds P own → (t : Tuple) (p : PartialRow) → Finds P (match_whole at name own t p)
   finds_fitted_alone (Some name) own k t p = finds_bound_first name t p
   finds_fitted_alone None own k t p = finds_then P own (matches_as_tuple at t p) k (finds_agrees_as t p)
 
   finds_add_row : (s : Scope) (key : Tuple) (found : List Row) → Finds P (add_row at s key found)
   finds_add_row s key found = finds_if P (same_arity key found) _ _ (finds_if P (nat_lt (length found) tuples_limit) _ _ tt h) h
 
-  pub finds_finished : (p : Place) (found : List Row) → Finds P (finished at p found)
+  pub finds_finished : (p : PartialRow) (found : List Row) → Finds P (finished at p found)
   finds_finished p found = by_key p.key
     where
       by_key : (key : Option Tuple) → Finds P (finished_key at p.scope key found)
@@ -114,16 +114,16 @@ module _ (P : Places) (at : Span) (h : P Model at) where
   finds_reduce r body j k = finds_then P (gathered_over at r body k.rows None) (reduced_to at r) (finds_gathered r body j k.rows None) (finds_reduced_to r)
 
 module _ (P : Places) where
-  pub finds_if_fits : (next : Place → Outcome (Option Place)) → ((p : Place) → Finds P (next p)) → (p : Option Place) → Finds P (if_fits next p)
+  pub finds_if_fits : (next : PartialRow → Outcome (Option PartialRow)) → ((p : PartialRow) → Finds P (next p)) → (p : Option PartialRow) → Finds P (if_fits next p)
   finds_if_fits next k None = tt
   finds_if_fits next k (Some p) = k p
 
-  finds_go_on : (next : Place → List Row → Outcome (List Row)) → ((p : Place) (found : List Row) → Finds P (next p found)) → (found : List Row) (p : Option Place) → Finds P (go_on next found p)
+  finds_go_on : (next : PartialRow → List Row → Outcome (List Row)) → ((p : PartialRow) (found : List Row) → Finds P (next p found)) → (found : List Row) (p : Option PartialRow) → Finds P (go_on next found p)
   finds_go_on next k found None = tt
   finds_go_on next k found (Some p) = k p found
 
-  pub finds_onward : (place : Tuple → Place → Outcome (Option Place)) (next : Place → List Row → Outcome (List Row)) → ((t : Tuple) (p : Place) → Finds P (place t p))
-      → ((p : Place) (found : List Row) → Finds P (next p found)) → (p : Place) (t : Tuple) (found : List Row) → Finds P (onward place next p t found)
+  pub finds_onward : (place : Tuple → PartialRow → Outcome (Option PartialRow)) (next : PartialRow → List Row → Outcome (List Row)) → ((t : Tuple) (p : PartialRow) → Finds P (place t p))
+      → ((p : PartialRow) (found : List Row) → Finds P (next p found)) → (p : PartialRow) (t : Tuple) (found : List Row) → Finds P (onward place next p t found)
   finds_onward place next j k p t found = finds_then P (place t p) (go_on next found) (j t p) (finds_go_on next k found)
 
   pub finds_open_with : {A : Type 0} (walk : List Tuple → Outcome A) (list : Value → Outcome A) → ((ts : List Tuple) → Finds P (walk ts)) → ((v : Value) → Finds P (list v))

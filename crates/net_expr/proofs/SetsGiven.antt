@@ -300,7 +300,7 @@ gives_name w g at n None key = by_entry (entry_of w n) refl key
     by_entry None h key = tt
     by_entry (Some (Set d ts)) h [] = g n d ts h
     by_entry (Some (Set d ts)) h (m ∷ ms) = tt
-    by_entry (Some (Parameter c index table)) h key = gives_if (nat_eq (length key) (key_count c)) _ _ (λ e. by_value _ _ _) tt
+    by_entry (Some (Parameter c keys table)) h key = gives_if (nat_eq (length key) (key_count c)) _ _ (λ e. by_value _ _ _) tt
 
 gives_token : (w : World) → HasSets w → (s : Scope) (t : Token) (r : Role) → Gives (token_value w s t r)
 gives_token w g s t roles.Number = go (number_in t.text)

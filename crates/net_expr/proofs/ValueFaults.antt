@@ -11,7 +11,7 @@ use Rattle.net_tree.specs.declared.role.Role.TheVariants as roles
 use Rattle.net_tree.specs.Role.{role_of}
 use Rattle.net_tree.specs.Spans.{span_of, span_between, braces_span}
 use Rattle.net_tree.specs.Tree.{Tree, Links, Part, Braces, leaf, indexed, parens, tuple, negated, braced, signed, reduced, chain, choice, net, none, link, absent, part, empty, filled}
-use Rattle.net_expr.specs.declared.row.Place.{Place}
+use Rattle.net_expr.specs.declared.row.PartialRow.{PartialRow}
 use Rattle.net_expr.specs.declared.row.Row.{Row}
 use Rattle.net_expr.specs.declared.value.Value.{Value}
 use Rattle.net_expr.specs.Items.{is_in, has_in, any_in, begins_range, has_part, new_dummy, needed, chosen, tuples_of, walking, opened}
@@ -137,7 +137,7 @@ module _ (P : Places) where
         (finds_selected P (width_by_form (span_between o c) w s i is) (λ q. holds (span_between o c) w q p) (finds_by_form (span_between o c) h w s i is) (λ q. finds_holds (span_between o c) h w q p m)))
         (λ v. finds_then P (values w s is (v ∷ [])) (listed (span_between o c) s (has_part p)) (finds_values w s is k (v ∷ [])) (finds_listed P (span_between o c) h s (has_part p))))
 
-    pub finds_walk : (at : Span) → P Model at → (w : World) (l : Links) → LinksStand (P Model) l → (p : Place) (found : List Row) → Finds P (walk at w l p found)
+    pub finds_walk : (at : Span) → P Model at → (w : World) (l : Links) → LinksStand (P Model) l → (p : PartialRow) (found : List Row) → Finds P (walk at w l p found)
     finds_walk at h w none k p found = finds_finished P at h p found
     finds_walk at h w (link o i is) (j, k) p found =
         finds_then P (if has_in i then set_after w p.scope i else and_then (value w p.scope i) (tuples_of at)) _
@@ -161,7 +161,7 @@ module _ (P : Places) where
     finds_after w s (choice i x t y e) h = tt
     finds_after w s (net t u) h = tt
 
-    pub finds_place : (w : World) (i : Tree) → Stands (P Model) i → (t : Tuple) (p : Place) → Finds P (place w i t p)
+    pub finds_place : (w : World) (i : Tree) → Stands (P Model) i → (t : Tuple) (p : PartialRow) → Finds P (place w i t p)
     finds_place w (chain n x (link o y none)) (h, j, k) t p =
         finds_if P (is_in (operation o)) (left_place (span_of (chain n x (link o y none))) w x (value w p.scope x) t p) _
         (finds_left (span_of (chain n x (link o y none))) h w x j (value w p.scope x) (finds_value w p.scope x j) t p) tt
@@ -178,7 +178,7 @@ module _ (P : Places) where
     finds_place w (choice i x a y e) h t p = tt
     finds_place w (net a u) h t p = tt
 
-    finds_left : (at : Span) → P Model at → (w : World) (x : Tree) → Stands (P Model) x → (own : Outcome Value) → Finds P own → (t : Tuple) (p : Place) → Finds P (left_place at w x own t p)
+    finds_left : (at : Span) → P Model at → (w : World) (x : Tree) → Stands (P Model) x → (own : Outcome Value) → Finds P own → (t : Tuple) (p : PartialRow) → Finds P (left_place at w x own t p)
     finds_left at g w (tuple o x l c) h own k [] p = tt
     finds_left at g w (tuple o x l c) (h, i, j) own k (m ∷ ms) p =
         finds_then P (match_component (span_of (tuple o x l c)) (new_dummy w p.scope x) (value w p.scope x) m p) (if_fits (places (span_of (tuple o x l c)) w l ms))
@@ -195,7 +195,7 @@ module _ (P : Places) where
     finds_left at g w (choice i x a y e) h own k t p = finds_fitted_alone P at g (new_dummy w p.scope (choice i x a y e)) own k t p
     finds_left at g w (net a u) h own k t p = finds_fitted_alone P at g (new_dummy w p.scope (net a u)) own k t p
 
-    finds_places : (at : Span) → P Model at → (w : World) (l : Links) → LinksStand (P Model) l → (ms : Tuple) (p : Place) → Finds P (places at w l ms p)
+    finds_places : (at : Span) → P Model at → (w : World) (l : Links) → LinksStand (P Model) l → (ms : Tuple) (p : PartialRow) → Finds P (places at w l ms p)
     finds_places at h w none k ms p = tt
     finds_places at h w (link o x l) k [] p = tt
     finds_places at h w (link o x l) (j, k) (m ∷ ms) p =

@@ -11,7 +11,7 @@ use Rattle.net_sets.proofs.Sames.{tuple_decides}
 use Rattle.net_tree.specs.Spans.{span_of}
 use Rattle.net_tree.specs.Tree.{Tree, Links, chain, none, link}
 use Rattle.net_base.specs.declared.error_code.ErrorCode.TheVariants.{Arity, TooMany}
-use Rattle.net_expr.specs.declared.row.Place.{Place}
+use Rattle.net_expr.specs.declared.row.PartialRow.{PartialRow}
 use Rattle.net_expr.specs.declared.row.Row.{Row}
 use Rattle.net_expr.specs.declared.value.Value.{Value}
 use Rattle.net_expr.specs.declared.value.Value.TheVariants.{One, Several, Many, Truth}
@@ -119,20 +119,20 @@ item_set w s i at ts g e = item_any w s i at ts g (all_true (LongIn i) ts (λ t.
 
 -- ---- rows
 
-pub record IsWalk (p : Place) (found rows : List Row) : Type 0 where
+pub record IsWalk (p : PartialRow) (found rows : List Row) : Type 0 where
   pub new : List Row
   pub whole : rows ≡ found ++ new
   pub from : AllByRecursion (λ r. OnFrom p.key (Some r.key)) new
   pub distinct : IsDistinct same_tuple (keys_of new)
 
-pub record FromOne (w : World) (i : Tree) (p : Place) (ts : List Tuple) (r : Row) : Type 0 where
+pub record FromOne (w : World) (i : Tree) (p : PartialRow) (ts : List Tuple) (r : Row) : Type 0 where
   pub at : Tuple
   pub there : has ts at ≡ true
-  pub way : Place
+  pub way : PartialRow
   pub leads : place w i at p ≡ Ok (Some way)
   pub on : OnFrom way.key (Some r.key)
 
-pub record IsEach (w : World) (i : Tree) (p : Place) (ts : List Tuple) (found rows : List Row) : Type 0 where
+pub record IsEach (w : World) (i : Tree) (p : PartialRow) (ts : List Tuple) (found rows : List Row) : Type 0 where
   pub new : List Row
   pub whole : rows ≡ found ++ new
   pub from : AllByRecursion (FromOne w i p ts) new
@@ -154,7 +154,7 @@ distinct_rows (x ∷ xs) ys h k apart =
     of_rows (r ∷ rows) i = (i.0, of_rows rows i.1)
 
 -- rows from two different tuples
-apart_rows : (w : World) (i : Tree) (p q : Place) (t : Tuple) (ts : List Tuple) (xs ys : List Row) → IsItemSet i (t ∷ ts) → place w i t p ≡ Ok (Some q) → AllByRecursion (λ r. OnFrom q.key (Some r.key)) xs → AllByRecursion (FromOne w i p ts) ys
+apart_rows : (w : World) (i : Tree) (p q : PartialRow) (t : Tuple) (ts : List Tuple) (xs ys : List Row) → IsItemSet i (t ∷ ts) → place w i t p ≡ Ok (Some q) → AllByRecursion (λ r. OnFrom q.key (Some r.key)) xs → AllByRecursion (FromOne w i p ts) ys
     → AllByRecursion (λ x. AllByRecursion (λ y. same_tuple x.key y.key ≡ false) ys) xs
 apart_rows w i p q t ts xs ys set leads h k =
     all_as (λ r. OnFrom q.key (Some r.key)) (λ x. AllByRecursion (λ y. same_tuple x.key y.key ≡ false) ys) xs
@@ -169,14 +169,14 @@ apart_rows w i p q t ts xs ys set leads h k =
 tail_set : (i : Tree) (t : Tuple) (ts : List Tuple) → IsItemSet i (t ∷ ts) → IsItemSet i ts
 tail_set i t ts h = record { distinct = IsDistinct-tail same_tuple t ts h.distinct; width = h.width; long = h.long.1; fits = h.fits.1 }
 
-wider : (w : World) (i : Tree) (p : Place) (t : Tuple) (ts : List Tuple) (rows : List Row) → AllByRecursion (FromOne w i p ts) rows → AllByRecursion (FromOne w i p (t ∷ ts)) rows
+wider : (w : World) (i : Tree) (p : PartialRow) (t : Tuple) (ts : List Tuple) (rows : List Row) → AllByRecursion (FromOne w i p ts) rows → AllByRecursion (FromOne w i p (t ∷ ts)) rows
 wider w i p t ts rows h = all_as (FromOne w i p ts) (FromOne w i p (t ∷ ts)) rows (λ r f. record { at = f.at; there = more (same_tuple f.at t) f.there; way = f.way; leads = f.leads; on = f.on }) h
   where
     more : (b : Bool) {c : Bool} → c ≡ true → (b || c) ≡ true
     more true e = refl
     more false e = e
 
-each_walk : (w : World) (i : Tree) (p : Place) (next : Place → List Row → Outcome (List Row)) → ((q : Place) (found rows : List Row) → next q found ≡ Ok rows → IsWalk q found rows) → (ts : List Tuple) → IsItemSet i ts → (found rows : List Row)
+each_walk : (w : World) (i : Tree) (p : PartialRow) (next : PartialRow → List Row → Outcome (List Row)) → ((q : PartialRow) (found rows : List Row) → next q found ≡ Ok rows → IsWalk q found rows) → (ts : List Tuple) → IsItemSet i ts → (found rows : List Row)
     → each (onward (place w i) next p) ts found ≡ Ok rows → IsEach w i p ts found rows
 each_walk w i p next step [] set found rows e = record { new = []; whole = sym (is_ok found rows e) ∙ sym (append-nil found); from = tt; distinct = none_there }
 each_walk w i p next step (t ∷ ts) set found rows e =
@@ -188,7 +188,7 @@ each_walk w i p next step (t ∷ ts) set found rows e =
     one : (mid : List Row) → onward (place w i) next p t found ≡ Ok mid → IsEach w i p ts mid rows → IsEach w i p (t ∷ ts) found rows
     one mid h rest = then_ok (place w i t p) (go_on next found) mid h (λ o l m. by_place o l m)
       where
-        by_place : (o : Option Place) → place w i t p ≡ Ok o → go_on next found o ≡ Ok mid → IsEach w i p (t ∷ ts) found rows
+        by_place : (o : Option PartialRow) → place w i t p ≡ Ok o → go_on next found o ≡ Ok mid → IsEach w i p (t ∷ ts) found rows
         by_place None l m = record { new = rest.new; whole = rest.whole ∙ ap (λ (xs : List Row). xs ++ rest.new) (sym (is_ok found mid m)); from = wider w i p t ts rest.new rest.from; distinct = rest.distinct }
         by_place (Some q) l m =
             let here = step q found mid m in
@@ -199,7 +199,7 @@ each_walk w i p next step (t ∷ ts) set found rows e =
               distinct = distinct_rows here.new rest.new here.distinct rest.distinct (apart_rows w i p q t ts here.new rest.new set l here.from rest.from);
             }
 
-pub as_walk : (w : World) (i : Tree) (p : Place) (ts : List Tuple) (found rows : List Row) → IsEach w i p ts found rows → IsWalk p found rows
+pub as_walk : (w : World) (i : Tree) (p : PartialRow) (ts : List Tuple) (found rows : List Row) → IsEach w i p ts found rows → IsWalk p found rows
 as_walk w i p ts found rows h = record {
   new = h.new;
   whole = h.whole;
@@ -207,7 +207,7 @@ as_walk w i p ts found rows h = record {
   distinct = h.distinct;
 }
 
-one_row : (at : Span) (s : Scope) (p : Place) (o : Option Tuple) (found rows : List Row) → p.key ≡ o → finished_key at s o found ≡ Ok rows → IsWalk p found rows
+one_row : (at : Span) (s : Scope) (p : PartialRow) (o : Option Tuple) (found rows : List Row) → p.key ≡ o → finished_key at s o found ≡ Ok rows → IsWalk p found rows
 one_row at s p None found rows h e = cc
 one_row at s p (Some key) found rows h e = go (same_arity key found) (nat_lt (length found) tuples_limit) e
   where
@@ -222,14 +222,14 @@ one_row at s p (Some key) found rows h e = go (same_arity key found) (nat_lt (le
     go true false k = cc
     go false c k = cc
 
-pub walk_is : (at : Span) (w : World) → GivesSets w → (l : Links) (p : Place) (found rows : List Row) → walk at w l p found ≡ Ok rows → IsWalk p found rows
+pub walk_is : (at : Span) (w : World) → GivesSets w → (l : Links) (p : PartialRow) (found rows : List Row) → walk at w l p found ≡ Ok rows → IsWalk p found rows
 walk_is at w g none p found rows e = one_row at p.scope p p.key found rows refl e
 walk_is at w g (link o i is) p found rows e =
     then_ok (if has_in i then set_after w p.scope i else and_then (value w p.scope i) (tuples_of at)) (λ ts. each (onward (place w i) (walk at w is) p) ts found) rows e (λ ts h k.
     as_walk w i p ts found rows (each_walk w i p (walk at w is) (λ q f r j. walk_is at w g is q f r j) ts (item_set w p.scope i at ts g h) found rows k))
 
 -- the rows of an item from a place on
-pub from_item : (at : Span) (w : World) → GivesSets w → (i : Tree) (is : Links) (p : Place) (ts : List Tuple) (rows : List Row) → IsItemSet i ts → each (onward (place w i) (walk at w is) p) ts [] ≡ Ok rows → IsDistinct same_tuple (keys_of rows)
+pub from_item : (at : Span) (w : World) → GivesSets w → (i : Tree) (is : Links) (p : PartialRow) (ts : List Tuple) (rows : List Row) → IsItemSet i ts → each (onward (place w i) (walk at w is) p) ts [] ≡ Ok rows → IsDistinct same_tuple (keys_of rows)
 from_item at w g i is p ts rows set e =
     let all = each_walk w i p (walk at w is) (λ q f r j. walk_is at w g is q f r j) ts set [] rows e in
     subst (λ (l : List Row). IsDistinct same_tuple (keys_of l)) (sym all.whole) all.distinct

@@ -16,7 +16,7 @@ use Rattle.net_tree.proofs.Views.{links_of-cons, next_link, first_link}
 use Rattle.net_base.specs.declared.diagnostic.Fault.{Fault}
 use Rattle.net_base.specs.declared.diagnostic.Fault.TheVariants as faults
 use Rattle.net_tree.specs.declared.operator.Reduction.{Reduction}
-use Rattle.net_expr.specs.declared.row.Place.{Place}
+use Rattle.net_expr.specs.declared.row.PartialRow.{PartialRow}
 use Rattle.net_expr.specs.declared.row.Row.{Row}
 use Rattle.net_expr.specs.declared.row.Keys.{Keys}
 use Rattle.net_expr.specs.declared.value.Value.{Value}
@@ -131,11 +131,11 @@ item_tuples-is at w s (chain n x (link r y none)) = go (is_in (operation r))
     go false = refl
 item_tuples-is at w s _ = refl
 
-pub walk-step : (at : Span) (w : World) (o : Operator) (i : Tree) (is : Links) (p : Place) (found : List Row)
+pub walk-step : (at : Span) (w : World) (o : Operator) (i : Tree) (is : Links) (p : PartialRow) (found : List Row)
     → walk at w (link o i is) p found ≡ and_then (item_tuples at w p.scope i) (λ ts. each (onward (place w i) (walk at w is) p) ts found)
 walk-step at w o i is p found = ap (λ k. and_then k (λ ts. each (onward (place w i) (walk at w is) p) ts found)) (item_tuples-is at w p.scope i)
 
-pub place-is : (w : World) (i : Tree) (t : Tuple) (p : Place) → place w i t p ≡ placed w i t p (sides i)
+pub place-is : (w : World) (i : Tree) (t : Tuple) (p : PartialRow) → place w i t p ≡ placed w i t p (sides i)
 place-is w (chain n x (link r y none)) t p = go (is_in (operation r))
   where
     go : (b : Bool) → (if b then placed w (chain n x (link r y none)) t p (Some (x, y)) else placed w (chain n x (link r y none)) t p None) ≡ placed w (chain n x (link r y none)) t p (both x (behind b y))
@@ -143,7 +143,7 @@ place-is w (chain n x (link r y none)) t p = go (is_in (operation r))
     go false = refl
 place-is w _ t p = refl
 
-pub left_place-tuple : (at : Span) (w : World) (o : Token) (x : Tree) (l : Links) (c : Token) (own : Outcome Value) (t : Tuple) (p : Place)
+pub left_place-tuple : (at : Span) (w : World) (o : Token) (x : Tree) (l : Links) (c : Token) (own : Outcome Value) (t : Tuple) (p : PartialRow)
     → left_place at w (tuple o x l c) own t p ≡ component_places (span_of (tuple o x l c)) w x l t p
 left_place-tuple at w o x l c own [] p = refl
 left_place-tuple at w o x l c own (m ∷ ms) p = refl
@@ -196,7 +196,7 @@ pub value-choice : (w : World) (s : Scope) (k : Tree) (i : Token) (x : Tree) (t 
     → value w s k ≡ and_then (and_then (value w s x) (truth (span_of k))) (λ b. if b then value w s y else otherwise w s p)
 value-choice w s k i x t y p e = rw e refl
 
-pub left-tuple : (at : Span) (w : World) (k : Tree) (o : Token) (x : Tree) (l : Links) (c : Token) (own : Outcome Value) (t : Tuple) (p : Place) → k ≡ tuple o x l c
+pub left-tuple : (at : Span) (w : World) (k : Tree) (o : Token) (x : Tree) (l : Links) (c : Token) (own : Outcome Value) (t : Tuple) (p : PartialRow) → k ≡ tuple o x l c
     → left_place at w k own t p ≡ component_places (span_of k) w x l t p
 left-tuple at w k o x l c own t p e = rw e (left_place-tuple at w o x l c own t p)
 
@@ -204,11 +204,11 @@ abbrev pub is_tuple : Tree → Bool
 is_tuple (tuple o x l c) = true
 is_tuple _ = false
 
-pub left-other : (at : Span) (w : World) (k : Tree) (own : Outcome Value) (t : Tuple) (p : Place) → is_tuple k ≡ false → left_place at w k own t p ≡ match_whole at (new_dummy w p.scope k) own t p
+pub left-other : (at : Span) (w : World) (k : Tree) (own : Outcome Value) (t : Tuple) (p : PartialRow) → is_tuple k ≡ false → left_place at w k own t p ≡ match_whole at (new_dummy w p.scope k) own t p
 left-other at w (tuple o x l c) own t p h = absurd (true≢false h)
 left-other at w _ own t p h = refl
 
-pub place-sides : (w : World) (i x y : Tree) (t : Tuple) (p : Place) → Some (x, y) ≡ sides i → place w i t p ≡ left_place (span_of i) w x (value w p.scope x) t p
+pub place-sides : (w : World) (i x y : Tree) (t : Tuple) (p : PartialRow) → Some (x, y) ≡ sides i → place w i t p ≡ left_place (span_of i) w x (value w p.scope x) t p
 place-sides w i x y t p e = place-is w i t p ∙ ap (placed w i t p) (sym e)
 
 -- a link is lighter than the links with it
@@ -250,7 +250,7 @@ ok_same x y o p a b e = ap (ok_or x) (sym a ∙ e ∙ b)
     ok_or d (Err r) = d
 
 -- a walk from the start
-pub from_start : (at : Span) (w : World) (i : Tree) (is : Links) (s : Scope) (p : Place) (ts : List Tuple) (found : List Row) → start s ≡ p → found ≡ []
+pub from_start : (at : Span) (w : World) (i : Tree) (is : Links) (s : Scope) (p : PartialRow) (ts : List Tuple) (found : List Row) → start s ≡ p → found ≡ []
     → each (onward (place w i) (walk at w is) (start s)) ts [] ≡ each (onward (place w i) (walk at w is) p) ts found
 from_start at w i is s p ts found e h =
     ap (λ q. each (onward (place w i) (walk at w is) q) ts []) e ∙ ap (each (onward (place w i) (walk at w is) p) ts) (sym h)

@@ -10,7 +10,7 @@ use Rattle.net_tree.specs.Weights.{weight, weights}
 use Rattle.net_base.specs.declared.diagnostic.Fault.{Fault}
 use Rattle.net_base.specs.declared.diagnostic.Fault.TheVariants.{OutOfMemory, At}
 use Rattle.net_expr.specs.declared.keys.Frame.{Frame}
-use Rattle.net_expr.specs.declared.row.Place.{Place}
+use Rattle.net_expr.specs.declared.row.PartialRow.{PartialRow}
 use Rattle.net_expr.specs.declared.row.Row.{Row}
 use Rattle.net_base.specs.Outcomes.{Outcome, each}
 use Rattle.net_expr.specs.Rows.{onward}
@@ -21,15 +21,15 @@ use Rattle.net_expr.specs.Worlds.{World}
 
 -- the rows from the remaining tuples of an item, appended to the rows found so far
 abbrev pub still : Span → World → Frame → List Row → Outcome (List Row)
-still at w f found = each (onward (place w (tree f.item.now)) (walk at w (links_of f.more.now)) f.place) f.left found
+still at w f found = each (onward (place w (tree f.item.now)) (walk at w (links_of f.more.now)) f.partial) f.left found
 
 -- the number of tuples tried by the following items, plus one for each time that an item is
 -- finished
-abbrev pub steps_next : (Place → ℕ) → Outcome (Option Place) → ℕ
+abbrev pub steps_next : (PartialRow → ℕ) → Outcome (Option PartialRow) → ℕ
 steps_next next (Ok (Some p)) = next p
 steps_next next _ = 0
 
-abbrev pub steps_of : (Tuple → Outcome (Option Place)) → (Place → ℕ) → List Tuple → ℕ
+abbrev pub steps_of : (Tuple → Outcome (Option PartialRow)) → (PartialRow → ℕ) → List Tuple → ℕ
 steps_of lead next [] = 1
 steps_of lead next (t ∷ ts) = 1 + steps_next next (lead t) + steps_of lead next ts
 
@@ -37,12 +37,12 @@ abbrev pub of_tuples : (List Tuple → ℕ) → Outcome (List Tuple) → ℕ
 of_tuples steps (Ok ts) = steps ts
 of_tuples steps _ = 0
 
-abbrev pub steps : Span → World → Links → Place → ℕ
+abbrev pub steps : Span → World → Links → PartialRow → ℕ
 steps at w none p = 0
 steps at w (link o i is) p = of_tuples (λ ts. steps_of (λ t. place w i t p) (steps at w is) (sought (selecting w p.scope i) ts)) (item_tuples at w p.scope i)
 
 abbrev pub steps_still : Span → World → Frame → ℕ
-steps_still at w f = steps_of (λ t. place w (tree f.item.now) t f.place) (steps at w (links_of f.more.now)) f.left
+steps_still at w f = steps_of (λ t. place w (tree f.item.now) t f.partial) (steps at w (links_of f.more.now)) f.left
 
 abbrev pub weight_of : Frame → ℕ
 weight_of f = weight (tree f.item.now) + weights (links_of f.more.now)

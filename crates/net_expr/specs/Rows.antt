@@ -11,7 +11,7 @@ use Rattle.net_tree.specs.declared.operator.Reduction.{Reduction}
 use Rattle.net_tree.specs.declared.operator.Reduction.TheVariants.{Sum, Min, Max}
 use Rattle.net_expr.specs.declared.value.Value.{Value}
 use Rattle.net_expr.specs.declared.value.Value.TheVariants.{One, Several, Many}
-use Rattle.net_expr.specs.declared.row.Place.{Place}
+use Rattle.net_expr.specs.declared.row.PartialRow.{PartialRow}
 use Rattle.net_expr.specs.declared.row.Row.{Row}
 use Rattle.net_expr.specs.declared.row.Keys.{Keys}
 use Rattle.net_base.specs.Outcomes.{Outcome, and_then, rejected}
@@ -19,56 +19,56 @@ use Rattle.net_expr.specs.Worlds.{Name, Scope, with_dummy}
 use Rattle.net_expr.specs.Operators.{longer}
 use Rattle.net_expr.specs.Numbers.{number, sized, gathered}
 
-abbrev pub start : Scope → Place
+abbrev pub start : Scope → PartialRow
 start s = record { scope = s; key = Some [] }
 
 -- appends a tuple to the key
-abbrev pub with_key : Tuple → Place → Place
+abbrev pub with_key : Tuple → PartialRow → PartialRow
 with_key t p = record { scope = p.scope; key = longer t p.key }
 
 -- binds a new dummy to a member, which is appended to the key
-abbrev pub bind : Name → Member → Place → Place
+abbrev pub bind : Name → Member → PartialRow → PartialRow
 bind name m p = record { scope = with_dummy name m p.scope; key = longer (m ∷ []) p.key }
 
 -- the state is unchanged if the value of a component equals the member
-abbrev pub matches_member : Span → Member → Place → Value → Outcome (Option Place)
+abbrev pub matches_member : Span → Member → PartialRow → Value → Outcome (Option PartialRow)
 matches_member at m p (One v) = Ok (if same_member v m then Some p else None)
 matches_member at m p _ = rejected KindMismatch at
 
-abbrev pub matches_tuple : Span → Tuple → Place → Tuple → Outcome (Option Place)
+abbrev pub matches_tuple : Span → Tuple → PartialRow → Tuple → Outcome (Option PartialRow)
 matches_tuple at t p v = if nat_eq (length v) (length t) then Ok (if same_tuple v t then Some p else None) else rejected Arity at
 
 -- the same for an expression that is not a tuple by its form
-abbrev pub matches_as_tuple : Span → Tuple → Place → Value → Outcome (Option Place)
+abbrev pub matches_as_tuple : Span → Tuple → PartialRow → Value → Outcome (Option PartialRow)
 matches_as_tuple at t p (One v) = matches_tuple at t p (v ∷ [])
 matches_as_tuple at t p (Several v) = matches_tuple at t p v
 matches_as_tuple at t p _ = rejected KindMismatch at
 
 -- a new dummy is bound to the member; any other component must evaluate to it
-abbrev pub match_component : Span → Option Name → Outcome Value → Member → Place → Outcome (Option Place)
+abbrev pub match_component : Span → Option Name → Outcome Value → Member → PartialRow → Outcome (Option PartialRow)
 match_component at (Some name) own m p = Ok (Some (bind name m p))
 match_component at None own m p = and_then own (matches_member at m p)
 
 -- the single member of a tuple
-abbrev pub bound_first : Name → Tuple → Place → Outcome (Option Place)
+abbrev pub bound_first : Name → Tuple → PartialRow → Outcome (Option PartialRow)
 bound_first name [] p = Ok (Some p)
 bound_first name (m ∷ ms) p = Ok (Some (bind name m p))
 
 -- the same for a single expression on the left side of `in`
-abbrev pub match_whole : Span → Option Name → Outcome Value → Tuple → Place → Outcome (Option Place)
+abbrev pub match_whole : Span → Option Name → Outcome Value → Tuple → PartialRow → Outcome (Option PartialRow)
 match_whole at (Some name) own t p = bound_first name t p
 match_whole at None own t p = and_then own (matches_as_tuple at t p)
 
-abbrev pub if_fits : (Place → Outcome (Option Place)) → Option Place → Outcome (Option Place)
+abbrev pub if_fits : (PartialRow → Outcome (Option PartialRow)) → Option PartialRow → Outcome (Option PartialRow)
 if_fits next None = Ok None
 if_fits next (Some p) = next p
 
-abbrev pub go_on : (Place → List Row → Outcome (List Row)) → List Row → Option Place → Outcome (List Row)
+abbrev pub go_on : (PartialRow → List Row → Outcome (List Row)) → List Row → Option PartialRow → Outcome (List Row)
 go_on next found None = Ok found
 go_on next found (Some p) = next p found
 
 -- continues an iteration after one tuple
-abbrev pub onward : (Tuple → Place → Outcome (Option Place)) → (Place → List Row → Outcome (List Row)) → Place → Tuple → List Row → Outcome (List Row)
+abbrev pub onward : (Tuple → PartialRow → Outcome (Option PartialRow)) → (PartialRow → List Row → Outcome (List Row)) → PartialRow → Tuple → List Row → Outcome (List Row)
 onward place next p t found = and_then (place t p) (go_on next found)
 
 -- keys have the same number of members
@@ -87,7 +87,7 @@ abbrev pub finished_key : Span → Scope → Option Tuple → List Row → Outco
 finished_key at s None found = rejected Arity at
 finished_key at s (Some key) found = add_row at s key found
 
-abbrev pub finished : Span → Place → List Row → Outcome (List Row)
+abbrev pub finished : Span → PartialRow → List Row → Outcome (List Row)
 finished at p found = finished_key at p.scope p.key found
 
 abbrev pub keep : Row → List Row → Bool → List Row

@@ -13,7 +13,7 @@ use Rattle.net_tree.specs.Tree.{Tree, Links, Part, Braces, leaf, indexed, parens
 use Rattle.net_base.specs.declared.error_code.ErrorCode.TheVariants.{KindMismatch, ValueTooLarge}
 use Rattle.net_expr.specs.declared.value.Value.{Value}
 use Rattle.net_expr.specs.declared.value.Value.TheVariants.{One, Several, Truth}
-use Rattle.net_expr.specs.declared.row.Place.{Place}
+use Rattle.net_expr.specs.declared.row.PartialRow.{PartialRow}
 use Rattle.net_expr.specs.declared.row.Row.{Row}
 use Rattle.net_expr.specs.declared.row.Keys.{Keys}
 use Rattle.net_base.specs.Outcomes.{Outcome, and_then, rejected, each}
@@ -96,7 +96,7 @@ abbrev mutual
       (λ v. and_then (values w s is (v ∷ [])) (listed (span_between o c) s (has_part p))))
 
   -- the items from left to right, each for every state that the items before it produce
-  pub walk : Span → World → Links → Place → List Row → Outcome (List Row)
+  pub walk : Span → World → Links → PartialRow → List Row → Outcome (List Row)
   walk at w none p found = finished at p found
   walk at w (link o i is) p found =
       and_then (if has_in i then set_after w p.scope i else and_then (value w p.scope i) (tuples_of at))
@@ -108,20 +108,20 @@ abbrev mutual
   set_after w s _ = Ok []
 
   -- the state after an item for one tuple of its set, if the tuple matches
-  pub place : World → Tree → Tuple → Place → Outcome (Option Place)
+  pub place : World → Tree → Tuple → PartialRow → Outcome (Option PartialRow)
   place w (chain n x (link o y none)) t p =
       if is_in (operation o) then left_place (span_of (chain n x (link o y none))) w x (value w p.scope x) t p else Ok (Some (with_key t p))
   place w _ t p = Ok (Some (with_key t p))
 
   -- the components of a tuple from left to right, up to the first that does not match; `own` is the
   -- value of the whole
-  pub left_place : Span → World → Tree → Outcome Value → Tuple → Place → Outcome (Option Place)
+  pub left_place : Span → World → Tree → Outcome Value → Tuple → PartialRow → Outcome (Option PartialRow)
   left_place at w (tuple o x l c) own [] p = Ok (Some p)
   left_place at w (tuple o x l c) own (m ∷ ms) p =
       and_then (match_component (span_of (tuple o x l c)) (new_dummy w p.scope x) (value w p.scope x) m p) (if_fits (places (span_of (tuple o x l c)) w l ms))
   left_place at w x own t p = match_whole at (new_dummy w p.scope x) own t p
 
-  pub places : Span → World → Links → Tuple → Place → Outcome (Option Place)
+  pub places : Span → World → Links → Tuple → PartialRow → Outcome (Option PartialRow)
   places at w none ms p = Ok (Some p)
   places at w (link o x l) [] p = Ok (Some p)
   places at w (link o x l) (m ∷ ms) p = and_then (match_component at (new_dummy w p.scope x) (value w p.scope x) m p) (if_fits (places at w l ms))

@@ -7,7 +7,7 @@ use Rattle.net_tree.specs.Tree.{Tree, Links, Part}
 use Rattle.net_base.specs.declared.error_code.ErrorCode.TheVariants.{KindMismatch}
 use Rattle.net_tree.specs.declared.operator.BinOp.{BinOp}
 use Rattle.net_expr.specs.declared.value.Value.{Value}
-use Rattle.net_expr.specs.declared.row.Place.{Place}
+use Rattle.net_expr.specs.declared.row.PartialRow.{PartialRow}
 use Rattle.net_expr.specs.declared.row.Keys.{Keys}
 use Rattle.net_base.specs.Outcomes.{Outcome, and_then, rejected, each}
 use Rattle.net_expr.specs.Worlds.{World, Scope}
@@ -50,11 +50,11 @@ abbrev pub index_items : Span → World → Scope → Tree → Links → Part �
 index_items at w s i is p = keys_by_sides at w s i is p (sides i)
 
 -- the state after an item with these sides
-abbrev pub placed : World → Tree → Tuple → Place → Option (Tree × Tree) → Outcome (Option Place)
+abbrev pub placed : World → Tree → Tuple → PartialRow → Option (Tree × Tree) → Outcome (Option PartialRow)
 placed w i t p None = Ok (Some (with_key t p))
 placed w i t p (Some q) = left_place (span_of i) w q.0 (value w p.scope q.0) t p
 
 -- matches the components of a tuple with the members
-abbrev pub component_places : Span → World → Tree → Links → Tuple → Place → Outcome (Option Place)
+abbrev pub component_places : Span → World → Tree → Links → Tuple → PartialRow → Outcome (Option PartialRow)
 component_places at w x l [] p = Ok (Some p)
 component_places at w x l (m ∷ ms) p = and_then (match_component at (new_dummy w p.scope x) (value w p.scope x) m p) (if_fits (places at w l ms))

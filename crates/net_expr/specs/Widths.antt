@@ -8,7 +8,7 @@ use Rattle.net_tree.specs.Tree.{Tree, Links, Braces, leaf, indexed, parens, tupl
 use Rattle.net_base.specs.declared.error_code.ErrorCode.TheVariants.{KindMismatch, Arity}
 use Rattle.net_tree.specs.declared.operator.BinOp.{BinOp}
 use Rattle.net_tree.specs.declared.operator.BinOp.TheVariants as op
-use Rattle.net_expr.specs.declared.width.Shape.{Shape}
+use Rattle.net_expr.specs.declared.width.ItemsForm.{ItemsForm}
 use Rattle.net_expr.specs.declared.world.Entry.{Entry}
 use Rattle.net_expr.specs.declared.world.Entry.TheVariants.{Set}
 use Rattle.net_base.specs.Outcomes.{Outcome, rejected}
@@ -77,31 +77,31 @@ or_one None = Some 1
 or_one (Some d) = Some d
 
 -- before the first item
-abbrev pub begin : Scope → Shape
+abbrev pub begin : Scope → ItemsForm
 begin s = record { scope = s; count = 0; indexes = true }
 
 -- a new dummy is in scope from now on, bound to an arbitrary member, and is a member of the key
-abbrev pub with_new : Shape → Option Name → Shape
+abbrev pub with_new : ItemsForm → Option Name → ItemsForm
 with_new f None = f
 with_new f (Some name) = record { scope = with_dummy name (Number (pos 0)) f.scope; count = capped (f.count + 1); indexes = f.indexes }
 
-abbrev pub with_component : World → Shape → Tree → Shape
+abbrev pub with_component : World → ItemsForm → Tree → ItemsForm
 with_component w f x = with_new f (new_dummy w f.scope x)
 
-abbrev pub with_components : World → Shape → Links → Shape
+abbrev pub with_components : World → ItemsForm → Links → ItemsForm
 with_components w f none = f
 with_components w f (link o x l) = with_components w (with_component w f x) l
 
 -- the left side of `in`
-abbrev pub with_left : World → Shape → Tree → Shape
+abbrev pub with_left : World → ItemsForm → Tree → ItemsForm
 with_left w f (tuple o x l c) = with_components w (with_component w f x) l
 with_left w f x = with_component w f x
 
 -- an item that is a set of this dimension by its form, or not a set
-abbrev pub with_plain : Shape → Option ℕ → Bool → Shape
+abbrev pub with_plain : ItemsForm → Option ℕ → Bool → ItemsForm
 with_plain f d is_set = record { scope = f.scope; count = capped (f.count + counted d); indexes = f.indexes && is_set }
 
-abbrev pub with_sides : World → Shape → Option (Tree × Tree) → Option ℕ → Bool → Shape
+abbrev pub with_sides : World → ItemsForm → Option (Tree × Tree) → Option ℕ → Bool → ItemsForm
 with_sides w f None d is_set = with_plain f d is_set
 with_sides w f (Some p) d is_set = with_left w f p.0
 
@@ -132,7 +132,7 @@ abbrev mutual
       else width w s i
 
   -- further items
-  pub with_items : World → Shape → Links → Shape
+  pub with_items : World → ItemsForm → Links → ItemsForm
   with_items w f none = f
   with_items w f (link o i is) = with_items w (with_sides w f (sides i) (width w f.scope i) (is_set_form w f.scope i)) is
 
@@ -143,11 +143,11 @@ items_width w s i is =
     then Some (with_items w (with_sides w (begin s) (sides i) (width w s i) (is_set_form w s i)) is).count
     else width w s i
 
-abbrev pub with_item : World → Shape → Tree → Shape
+abbrev pub with_item : World → ItemsForm → Tree → ItemsForm
 with_item w f i = with_sides w f (sides i) (width w f.scope i) (is_set_form w f.scope i)
 
 -- the number of members of keys by the form of the items, which must all be sets
-abbrev pub width_of_form : Span → Shape → Outcome ℕ
+abbrev pub width_of_form : Span → ItemsForm → Outcome ℕ
 width_of_form at f =
     if f.indexes then (if nat_le f.count arity_limit then Ok f.count else rejected Arity at) else rejected KindMismatch at
 

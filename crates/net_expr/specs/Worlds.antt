@@ -49,7 +49,7 @@ key_count (Some n) = n
 
 -- a parameter with its key, as errors report it
 abbrev pub reference : Name → Option ℕ → Tuple → Detail
-reference name keys key = Reported (reference_text name (is_some keys) key)
+reference name count key = Reported (reference_text name (is_some count) key)
 
 -- the error for a key without a value: NoValue if the index set contains the key, else OutsideSet
 abbrev pub missing : Span → Detail → Bool → Outcome Value
@@ -67,8 +67,8 @@ abbrev pub entry_at : Span → Name → Option Entry → Tuple → Outcome Value
 entry_at at name None key = rejected KindMismatch at
 entry_at at name (Some (Set d ts)) [] = Ok (Many (Some d) ts)
 entry_at at name (Some (Set d ts)) (m ∷ ms) = rejected Arity at
-entry_at at name (Some (Parameter n index values)) key =
-    if nat_eq (length key) (key_count n) then value_at at (reference name n key) (at_key values key) (has index key) else rejected Arity at
+entry_at at name (Some (Parameter n keys values)) key =
+    if nat_eq (length key) (key_count n) then value_at at (reference name n key) (at_key values key) (has keys key) else rejected Arity at
 
 -- the value of a name at its subscripts; a dummy has none
 abbrev pub name_at : Span → World → Name → Option Member → Tuple → Outcome Value

@@ -12,7 +12,7 @@ ghost use Rattle.net_expr.specs.Walks as walks;
 
 use crate::eval::evaluate;
 use crate::index_item::new_dummy;
-use crate::row::{Place, bind_first, matches_as_tuple, matches_member, stay, with_key};
+use crate::row::{PartialRow, bind_first, matches_as_tuple, matches_member, stay, with_key};
 use crate::world::Env;
 use net_base::Fault;
 use net_sets::{Member, Tuple};
@@ -26,13 +26,13 @@ pub(crate) fn place_at<'s>(
     env: &Env<'_, 's>,
     item: &Expr<'s>,
     tuple: &Tuple<'s>,
-    place: &Place<'s>,
-) -> Result<Option<Place<'s>>, Fault>
-    ensures { Refines (values.place env.now (tree item.now) tuple.now place.now) result }
+    partial: &PartialRow<'s>,
+) -> Result<Option<PartialRow<'s>>, Fault>
+    ensures { Refines (values.place env.now (tree item.now) tuple.now partial.now) result }
 {
     match sides_of(item) {
-        None => with_key(alloc, tuple, place),
-        Some((left, _)) => left_place(alloc, env, item, left, tuple, place),
+        None => with_key(alloc, tuple, partial),
+        Some((left, _)) => left_place(alloc, env, item, left, tuple, partial),
     }
 }
 
@@ -46,20 +46,20 @@ fn left_place<'s>(
     item: &Expr<'s>,
     left: &Expr<'s>,
     tuple: &Tuple<'s>,
-    place: &Place<'s>,
-) -> Result<Option<Place<'s>>, Fault>
+    partial: &PartialRow<'s>,
+) -> Result<Option<PartialRow<'s>>, Fault>
     ensures { Refines (values.left_place (trees.span_of (tree item.now)) env.now (tree left.now)
-        (values.value env.now place.now.scope (tree left.now)) tuple.now place.now) result }
+        (values.value env.now partial.now.scope (tree left.now)) tuple.now partial.now) result }
 {
     match left {
-        Expr::Tuple(parts) => components(alloc, env, left, &parts.get().1, tuple, place),
+        Expr::Tuple(parts) => components(alloc, env, left, &parts.get().1, tuple, partial),
         Expr::Leaf(_) | Expr::Indexed(_) | Expr::Parens(_) | Expr::Negated(_) => {
-            alone(alloc, env, item, left, tuple, place)
+            alone(alloc, env, item, left, tuple, partial)
         }
         Expr::Braced(_) | Expr::Signed(_) | Expr::Reduction(_, _) | Expr::Chain(_, _) => {
-            alone(alloc, env, item, left, tuple, place)
+            alone(alloc, env, item, left, tuple, partial)
         }
-        Expr::If(_, _, _) | Expr::Net(_) => alone(alloc, env, item, left, tuple, place),
+        Expr::If(_, _, _) | Expr::Net(_) => alone(alloc, env, item, left, tuple, partial),
     }
 }
 
@@ -71,16 +71,16 @@ fn alone<'s>(
     item: &Expr<'s>,
     left: &Expr<'s>,
     tuple: &Tuple<'s>,
-    place: &Place<'s>,
-) -> Result<Option<Place<'s>>, Fault>
-    ensures { Refines (rows.match_whole (trees.span_of (tree item.now)) (items.new_dummy env.now place.now.scope (tree left.now))
-        (values.value env.now place.now.scope (tree left.now)) tuple.now place.now) result }
+    partial: &PartialRow<'s>,
+) -> Result<Option<PartialRow<'s>>, Fault>
+    ensures { Refines (rows.match_whole (trees.span_of (tree item.now)) (items.new_dummy env.now partial.now.scope (tree left.now))
+        (values.value env.now partial.now.scope (tree left.now)) tuple.now partial.now) result }
 {
-    match new_dummy(env, &place.scope, left) {
-        Some(name) => bind_first(alloc, name, tuple.as_slice(), place),
+    match new_dummy(env, &partial.scope, left) {
+        Some(name) => bind_first(alloc, name, tuple.as_slice(), partial),
         None => {
-            let value = evaluate(alloc, env, &place.scope, left);
-            matches_as_tuple(alloc, item, tuple, place, value)
+            let value = evaluate(alloc, env, &partial.scope, left);
+            matches_as_tuple(alloc, item, tuple, partial, value)
         }
     }
 }
@@ -93,15 +93,15 @@ fn components<'s>(
     whole: &Expr<'s>,
     series: &Operands<'s>,
     tuple: &Tuple<'s>,
-    place: &Place<'s>,
-) -> Result<Option<Place<'s>>, Fault>
+    partial: &PartialRow<'s>,
+) -> Result<Option<PartialRow<'s>>, Fault>
     ensures { Refines (walks.component_places (trees.span_of (tree whole.now)) env.now (tree (out-Operands series.now).first)
-        (links_of (out-Operands series.now).more) tuple.now place.now) result }
+        (links_of (out-Operands series.now).more) tuple.now partial.now) result }
 {
     match tuple.as_slice() {
-        [] => stay(alloc, place),
+        [] => stay(alloc, partial),
         [member, others @ ..] => {
-            let here = place.copied(alloc)?;
+            let here = partial.copied(alloc)?;
             let components = ComponentList {
                 first: &series.first,
                 more: series.more.as_slice(),
@@ -122,14 +122,14 @@ fn places<'s>(
     whole: &Expr<'s>,
     links: &[LinkedOperand<'s>],
     members: &[Member<'s>],
-    place: Place<'s>,
-) -> Result<Option<Place<'s>>, Fault>
-    ensures { Refines (values.places (trees.span_of (tree whole.now)) env.now (links_of links.now) members.now place.entry) result }
+    partial: PartialRow<'s>,
+) -> Result<Option<PartialRow<'s>>, Fault>
+    ensures { Refines (values.places (trees.span_of (tree whole.now)) env.now (links_of links.now) members.now partial.entry) result }
 {
     match links {
-        [] => Ok(Some(place)),
+        [] => Ok(Some(partial)),
         [link, rest @ ..] => match members {
-            [] => Ok(Some(place)),
+            [] => Ok(Some(partial)),
             [member, others @ ..] => {
                 let components = ComponentList {
                     first: &link.operand,
@@ -139,7 +139,7 @@ fn places<'s>(
                     first: member,
                     more: others,
                 };
-                fit_all(alloc, env, whole, components, members, place)
+                fit_all(alloc, env, whole, components, members, partial)
             }
         },
     }
@@ -167,12 +167,12 @@ fn fit_all<'s>(
     whole: &Expr<'s>,
     components: ComponentList<'_, 's>,
     members: MemberList<'_, 's>,
-    place: Place<'s>,
-) -> Result<Option<Place<'s>>, Fault>
+    partial: PartialRow<'s>,
+) -> Result<Option<PartialRow<'s>>, Fault>
     ensures { Refines (walks.component_places (trees.span_of (tree whole.now)) env.now (tree components.entry.first.now)
-        (links_of components.entry.more.now) (members.entry.first.now ∷ members.entry.more.now) place.entry) result }
+        (links_of components.entry.more.now) (members.entry.first.now ∷ members.entry.more.now) partial.entry) result }
 {
-    match fit(alloc, env, whole, components.first, members.first, place) {
+    match fit(alloc, env, whole, components.first, members.first, partial) {
         Ok(None) => Ok(None),
         Ok(Some(next)) => places(alloc, env, whole, components.more, members.more, next),
         Err(fault) => Err(fault),
@@ -187,16 +187,16 @@ fn fit<'s>(
     whole: &Expr<'s>,
     component: &Expr<'s>,
     member: &Member<'s>,
-    place: Place<'s>,
-) -> Result<Option<Place<'s>>, Fault>
-    ensures { Refines (rows.match_component (trees.span_of (tree whole.now)) (items.new_dummy env.now place.entry.scope (tree component.now))
-        (values.value env.now place.entry.scope (tree component.now)) member.now place.entry) result }
+    partial: PartialRow<'s>,
+) -> Result<Option<PartialRow<'s>>, Fault>
+    ensures { Refines (rows.match_component (trees.span_of (tree whole.now)) (items.new_dummy env.now partial.entry.scope (tree component.now))
+        (values.value env.now partial.entry.scope (tree component.now)) member.now partial.entry) result }
 {
-    match new_dummy(env, &place.scope, component) {
-        Some(name) => place.bind(name, member),
+    match new_dummy(env, &partial.scope, component) {
+        Some(name) => partial.bind(name, member),
         None => {
-            let value = evaluate(alloc, env, &place.scope, component);
-            matches_member(whole, member, place, value)
+            let value = evaluate(alloc, env, &partial.scope, component);
+            matches_member(whole, member, partial, value)
         }
     }
 }

@@ -94,6 +94,6 @@ pub fn kept_indexing_of<'s>(
     ensures { Refines (indexings.indexing_in env.now (indexing_of braces.now)) result }
 {
     let Indexing { count, rows } = indexing_of(alloc, env, braces)?;
-    let rows = rows.compact(alloc, env.key())?;
+    let rows = rows.compact(alloc, env.hash_key())?;
     Ok(Indexing { count, rows })
 }

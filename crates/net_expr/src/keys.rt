@@ -18,7 +18,7 @@ use crate::fitting::place_at;
 use crate::index_item::{any_in, chosen, has_part, is_set, tuples_of};
 use crate::list::{listed, no_items};
 use crate::operators::truth_at;
-use crate::row::{Keys, Place, Row, as_keys, keep_if, start};
+use crate::row::{Keys, PartialRow, Row, as_keys, keep_if, start};
 use crate::scope::Scope;
 use crate::selecting::selected;
 use crate::value::Value;
@@ -136,12 +136,12 @@ fn collect<'w, 's>(
     ensures { Refines (each (rows.onward (values.place env.now (tree items.now.first.now)) (values.walk items.now.at env.now (links_of items.now.more.now))
         (rows.start scope.now)) tuples.entry []) result }
 {
-    let place = start(alloc, scope)?;
-    let left = selected(env, &place.scope, items.first, tuples);
+    let partial = start(alloc, scope)?;
+    let left = selected(env, &partial.scope, items.first, tuples);
     let first = Frame {
         item: items.first,
         more: items.more,
-        place,
+        partial,
         left,
     };
     let mut found = Vec::new(alloc);
@@ -171,7 +171,7 @@ fn walk<'a, 'w, 's>(
                 Some(frame) => top = frame,
             },
             Some(tuple) => {
-                let next = place_at(alloc, env, top.item, &tuple, &top.place)?;
+                let next = place_at(alloc, env, top.item, &tuple, &top.partial)?;
                 top.left.pass();
                 match onward(alloc, env, at, top.more, next, found)? {
                     None => {}
@@ -193,24 +193,24 @@ fn onward<'a, 'w, 's>(
     env: &Env<'w, 's>,
     at: Span,
     items: &'a [LinkedOperand<'s>],
-    place: Option<Place<'s>>,
+    partial: Option<PartialRow<'s>>,
     found: &mut Vec<Row<'s>>,
 ) -> Result<Option<Frame<'a, 'w, 's>>, Fault>
-    ensures leads { frames.Leads at env.now (rows.go_on (values.walk at env.now (links_of items.entry.now)) found.old.items place.entry) result
+    ensures leads { frames.Leads at env.now (rows.go_on (values.walk at env.now (links_of items.entry.now)) found.old.items partial.entry) result
         found.new.items }
     ensures lighter { IfOk result (λ next. IfSome next (λ f. frames.weight_of f ≤ weights (links_of items.entry.now))) }
     ensures steps { IfOk result (λ next. IfSome next (λ f. frames.steps_still at env.now f
-        ≡ frames.steps_next (frames.steps at env.now (links_of items.entry.now)) (Ok place.entry))) }
+        ≡ frames.steps_next (frames.steps at env.now (links_of items.entry.now)) (Ok partial.entry))) }
 {
-    match place {
+    match partial {
         None => Ok(None),
-        Some(place) => match items {
+        Some(partial) => match items {
             [] => {
-                place.finish(at, found)?;
+                partial.finish(at, found)?;
                 Ok(None)
             }
             [link, rest @ ..] => {
-                let frame = entered(alloc, env, at, &link.operand, rest, place)?;
+                let frame = entered(alloc, env, at, &link.operand, rest, partial)?;
                 Ok(Some(frame))
             }
         },
@@ -225,23 +225,23 @@ fn entered<'a, 'w, 's>(
     at: Span,
     item: &'a Expr<'s>,
     more: &'a [LinkedOperand<'s>],
-    place: Place<'s>,
+    partial: PartialRow<'s>,
 ) -> Result<Frame<'a, 'w, 's>, Fault>
-    ensures { Refines (and_then (walks.item_tuples at env.now place.entry.scope (tree item.entry.now))
+    ensures { Refines (and_then (walks.item_tuples at env.now partial.entry.scope (tree item.entry.now))
         (λ ts. Ok (record {
           item = item.entry;
           more = more.entry;
-          place = place.entry;
+          partial = partial.entry;
           left = sought
-              (select.selecting env.now place.entry.scope (tree item.entry.now)) ts;
+              (select.selecting env.now partial.entry.scope (tree item.entry.now)) ts;
         }))) result }
 {
-    let tuples = item_tuples(alloc, env, at, &place.scope, item)?;
-    let left = selected(env, &place.scope, item, tuples);
+    let tuples = item_tuples(alloc, env, at, &partial.scope, item)?;
+    let left = selected(env, &partial.scope, item, tuples);
     Ok(Frame {
         item,
         more,
-        place,
+        partial,
         left,
     })
 }
@@ -332,7 +332,7 @@ pub(crate) struct Inside<'a, 's> {
 pub(crate) struct Frame<'a, 'w, 's> {
     pub(crate) item: &'a Expr<'s>,
     pub(crate) more: &'a [LinkedOperand<'s>],
-    pub(crate) place: Place<'s>,
+    pub(crate) partial: PartialRow<'s>,
     pub(crate) left: Cursor<'w, 's>,
 }
 
@@ -341,7 +341,7 @@ impl<'a, 'w, 's> Drop for Frame<'a, 'w, 's> {
         let Frame {
             item: _item,
             more: _more,
-            place: _place,
+            partial: _partial,
             left: _left,
         } = self;
     }

@@ -92,7 +92,7 @@ pub(crate) fn no_items<'s>(alloc: Global, at: Span, conditioned: bool) -> Result
 /// Returns the rows of tuples of equal length, each once.
 fn rows_once<'s>(
     alloc: Global,
-    key: HashKey,
+    hash_key: HashKey,
     at: Span,
     scope: &Scope<'s>,
     first: &Tuple<'s>,
@@ -100,7 +100,7 @@ fn rows_once<'s>(
 ) -> Result<Keys<'s>, Fault>
     ensures { Refines (rows.keys_within at scope.now (length first.now) (union [] tuples.now)) result }
 {
-    match TupleSet::from_tuples(alloc, key, tuples) {
+    match TupleSet::from_tuples(alloc, hash_key, tuples) {
         Ok(set) => Ok(Keys {
             width: Some(first.len() as u8),
             rows: rows_of(alloc, scope, &set)?,
@@ -112,7 +112,7 @@ fn rows_once<'s>(
 
 fn listed_as<'s>(
     alloc: Global,
-    key: HashKey,
+    hash_key: HashKey,
     at: Span,
     scope: &Scope<'s>,
     tuples: &[Tuple<'s>],
@@ -123,7 +123,7 @@ fn listed_as<'s>(
         [] => Ok(no_keys(alloc)),
         [first, rest @ ..] => {
             if all_of(first.len(), rest) {
-                rows_once(alloc, key, at, scope, first, tuples)
+                rows_once(alloc, hash_key, at, scope, first, tuples)
             } else {
                 Err(Fault::of_model(ErrorCode::Arity, at))
             }
@@ -147,7 +147,7 @@ pub(crate) fn listed<'s>(
         Err(Fault::of_model(ErrorCode::KindMismatch, at))
     } else {
         let tuples = tuples_in(alloc, at, values.as_slice())?;
-        listed_as(alloc, env.key(), at, scope, tuples.as_slice())
+        listed_as(alloc, env.hash_key(), at, scope, tuples.as_slice())
     }
 }
 
@@ -160,7 +160,7 @@ pub(crate) fn as_value<'w, 's>(
 ) -> Result<Value<'w, 's>, Fault>
     ensures { Refines (rows.as_set at keys.now) result }
 {
-    match key_set(alloc, env.key(), keys.rows.as_slice()) {
+    match key_set(alloc, env.hash_key(), keys.rows.as_slice()) {
         Ok(set) => Ok(Value::Many(keys.width, Cow::owned(alloc, set)?)),
         Err(SetFault::TooMany) => Err(Fault::of_model(ErrorCode::TooMany, at)),
         Err(SetFault::OutOfMemory) => Err(Fault::OutOfMemory),

@@ -35,23 +35,23 @@ fn no_value<'w, 's>(
     alloc: Global,
     at: Span,
     name: &Excerpt<'s>,
-    keys: Option<u8>,
-    index: &KeyList<'s>,
+    count: Option<u8>,
+    keys: &KeyList<'s>,
     key: &Tuple<'s>,
 ) -> Result<Value<'w, 's>, Fault>
-    ensures { Refines (worlds.missing at (worlds.reference name.now keys key.now) (has index.now key.now)) result }
+    ensures { Refines (worlds.missing at (worlds.reference name.now count key.now) (has keys.now key.now)) result }
 {
-    let detail = reported_reference(alloc, name, keys, key)?;
-    missing(at, detail, index.contains(key))
+    let detail = reported_reference(alloc, name, count, key)?;
+    missing(at, detail, keys.contains(key))
 }
 
 /// Returns the number of members of a key; without indexing, keys are empty.
-pub fn key_count(keys: Option<u8>) -> usize
-    ensures { result ≡ worlds.key_count keys }
+pub fn key_count(count: Option<u8>) -> usize
+    ensures { result ≡ worlds.key_count count }
 {
-    match keys {
+    match count {
         None => 0,
-        Some(count) => usize::from(count),
+        Some(number) => usize::from(number),
     }
 }
 
@@ -74,11 +74,11 @@ fn entry_at<'w, 's>(
                 Err(Fault::of_model(ErrorCode::Arity, at))
             }
         }
-        Some(Entry::Parameter(keys, index, values)) => {
-            if key.len() == key_count(*keys) {
+        Some(Entry::Parameter(count, keys, values)) => {
+            if key.len() == key_count(*count) {
                 match values.get(&key) {
                     Some(member) => Ok(Value::One(member.copied())),
-                    None => no_value(alloc, at, name, *keys, index, &key),
+                    None => no_value(alloc, at, name, *count, keys, &key),
                 }
             } else {
                 Err(Fault::of_model(ErrorCode::Arity, at))

@@ -21,7 +21,7 @@ use std::alloc::Global;
 #[tactic(auto, unfolding(crate::specs::Limits::is_small))]
 fn range_within<'w, 's>(
     alloc: Global,
-    key: HashKey,
+    hash_key: HashKey,
     whole: &Expr<'_>,
     first: &i64,
     last: &i64,
@@ -36,7 +36,7 @@ fn range_within<'w, 's>(
         last: *last,
         by: *by,
     };
-    made(alloc, whole, 1, range.listed(alloc, key))
+    made(alloc, whole, 1, range.listed(alloc, hash_key))
 }
 
 fn are_small(first: &i64, last: &i64, by: &i64) -> bool
@@ -76,7 +76,7 @@ fn check_size(whole: &Expr<'_>, first: &i64, last: &i64, by: &i64) -> Result<(),
 
 fn range<'w, 's>(
     alloc: Global,
-    key: HashKey,
+    hash_key: HashKey,
     whole: &Expr<'_>,
     first: &i64,
     last: &i64,
@@ -86,12 +86,12 @@ fn range<'w, 's>(
 {
     check_step(whole, by)?;
     check_size(whole, first, last, by)?;
-    range_within(alloc, key, whole, first, last, by)
+    range_within(alloc, hash_key, whole, first, last, by)
 }
 
 fn range_of_two<'w, 's>(
     alloc: Global,
-    key: HashKey,
+    hash_key: HashKey,
     whole: &Expr<'_>,
     x: &Value<'_, 's>,
     y: &Value<'_, 's>,
@@ -100,12 +100,12 @@ fn range_of_two<'w, 's>(
 {
     let first = number_of(whole, x)?;
     let last = number_of(whole, y)?;
-    range(alloc, key, whole, &first, &last, &1)
+    range(alloc, hash_key, whole, &first, &last, &1)
 }
 
 fn range_of_three<'w, 's>(
     alloc: Global,
-    key: HashKey,
+    hash_key: HashKey,
     whole: &Expr<'_>,
     x: &Value<'_, 's>,
     y: &Value<'_, 's>,
@@ -116,20 +116,20 @@ fn range_of_three<'w, 's>(
     let first = number_of(whole, x)?;
     let last = number_of(whole, y)?;
     let by = number_of(whole, z)?;
-    range(alloc, key, whole, &first, &last, &by)
+    range(alloc, hash_key, whole, &first, &last, &by)
 }
 
 fn range_between<'w, 's>(
     alloc: Global,
-    key: HashKey,
+    hash_key: HashKey,
     whole: &Expr<'_>,
     values: &[Value<'_, 's>],
 ) -> Result<Value<'w, 's>, Fault>
     ensures { Refines (numbers.range_of (trees.span_of (tree whole.now)) values.now) result }
 {
     match values {
-        [x, y] => range_of_two(alloc, key, whole, x, y),
-        [x, y, z] => range_of_three(alloc, key, whole, x, y, z),
+        [x, y] => range_of_two(alloc, hash_key, whole, x, y),
+        [x, y, z] => range_of_three(alloc, hash_key, whole, x, y, z),
         [] | [_] => Err(reject_tree(ErrorCode::KindMismatch, whole)),
         [_, _, _, _, ..] => Err(reject_tree(ErrorCode::KindMismatch, whole)),
     }
@@ -146,5 +146,5 @@ pub(crate) fn range_of<'w, 's>(
         → Refines (and_then wanted (numbers.range_of (trees.span_of (tree whole.now)))) result }
 {
     let values = values?;
-    range_between(alloc, env.key(), whole, values.as_slice())
+    range_between(alloc, env.hash_key(), whole, values.as_slice())
 }

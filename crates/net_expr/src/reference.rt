@@ -103,12 +103,12 @@ pub fn push_reference(
 pub fn reported_reference(
     alloc: Global,
     name: &Excerpt<'_>,
-    keys: Option<u8>,
+    count: Option<u8>,
     key: &Tuple<'_>,
 ) -> Result<Detail, AllocError>
-    ensures { IfOk result (λ d. d ≡ worlds.reference name.now keys key.now) }
+    ensures { IfOk result (λ d. d ≡ worlds.reference name.now count key.now) }
 {
     let mut text = String::new(alloc);
-    push_reference(alloc, &mut text, name, keys.is_some(), key)?;
+    push_reference(alloc, &mut text, name, count.is_some(), key)?;
     Ok(Detail::Reported(OwnedText::new(text)))
 }

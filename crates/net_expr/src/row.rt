@@ -18,17 +18,17 @@ use net_sets::{ARITY_LIMIT, HashKey, Member, SetFault, TUPLES_LIMIT, Tuple, Tupl
 use net_tree::Expr;
 use std::alloc::{AllocError, Global};
 
-/// The state of an iteration over an indexing expression. Its drop is one call, to keep the proofs
-/// of functions with many exits small.
-pub(crate) struct Place<'s> {
+/// A row that an iteration over an indexing expression has begun: the state of the iteration. Its
+/// drop is one call, to keep the proofs of functions with many exits small.
+pub(crate) struct PartialRow<'s> {
     pub(crate) scope: Scope<'s>,
     /// The key so far; `None` if it has more than four members.
     pub(crate) key: Option<Tuple<'s>>,
 }
 
-impl<'s> Drop for Place<'s> {
+impl<'s> Drop for PartialRow<'s> {
     fn drop(self) {
-        let Place {
+        let PartialRow {
             scope: _scope,
             key: _key,
         } = self;
@@ -50,15 +50,15 @@ pub struct Keys<'s> {
     pub rows: Items<Row<'s>>,
 }
 
-/// Returns the set of the keys of rows, under the key of the run. Returns `TooMany` if there are more than a set can have.
+/// Returns the set of the keys of rows, under the hash key of the run. Returns `TooMany` if there are more than a set can have.
 pub(crate) fn key_set<'s>(
     alloc: Global,
-    key: HashKey,
+    hash_key: HashKey,
     rows: &[Row<'s>],
 ) -> Result<TupleSet<'s>, SetFault>
     ensures { IsMade (union [] (keys_of rows.now)) result }
 {
-    let mut keys = TupleSet::with_room(alloc, key, rows.len().min(TUPLES_LIMIT));
+    let mut keys = TupleSet::with_room(alloc, hash_key, rows.len().min(TUPLES_LIMIT));
     for row in rows {
         keys.add(row.key.copied())?;
     }
@@ -92,10 +92,10 @@ pub(crate) fn as_keys<'s>(width: u8, found: Items<Row<'s>>) -> Keys<'s>
 }
 
 /// Returns the state before the first item.
-pub(crate) fn start<'s>(alloc: Global, scope: &Scope<'s>) -> Result<Place<'s>, Fault>
+pub(crate) fn start<'s>(alloc: Global, scope: &Scope<'s>) -> Result<PartialRow<'s>, Fault>
     ensures { Refines (Ok (rows.start scope.now)) result }
 {
-    Ok(Place {
+    Ok(PartialRow {
         scope: scope.copied(alloc)?,
         key: Some(Tuple::new()),
     })
@@ -144,12 +144,12 @@ fn longer<'s>(key: &Option<Tuple<'s>>, more: &Tuple<'s>) -> Option<Tuple<'s>>
     }
 }
 
-impl<'s> Place<'s> {
+impl<'s> PartialRow<'s> {
     /// Returns a copy of the state. Fails only if memory runs out.
-    pub(crate) fn copied(&self, alloc: Global) -> Result<Place<'s>, AllocError>
+    pub(crate) fn copied(&self, alloc: Global) -> Result<PartialRow<'s>, AllocError>
         ensures { IfOk result (λ p. p ≡ self.now) }
     {
-        Ok(Place {
+        Ok(PartialRow {
             scope: self.scope.copied(alloc)?,
             key: key_again(&self.key),
         })
@@ -160,20 +160,20 @@ impl<'s> Place<'s> {
         self,
         name: &Excerpt<'s>,
         member: &Member<'s>,
-    ) -> Result<Option<Place<'s>>, Fault>
+    ) -> Result<Option<PartialRow<'s>>, Fault>
         ensures { Refines (Ok (Some (rows.bind name.now member.now self.entry))) result }
     {
-        let Place { scope, key } = self;
+        let PartialRow { scope, key } = self;
         let scope = scope.extended(name.copied(), member.copied())?;
         let key = longer_by_one(key, member);
-        Ok(Some(Place { scope, key }))
+        Ok(Some(PartialRow { scope, key }))
     }
 
     /// Adds a complete key.
     pub(crate) fn finish(self, at: Span, found: &mut Vec<Row<'s>>) -> Result<(), Fault>
         ensures { Updates (rows.finished at self.entry found.old.items) result found.new.items }
     {
-        let Place { scope, key } = self;
+        let PartialRow { scope, key } = self;
         match key {
             None => Err(Fault::of_model(ErrorCode::Arity, at)),
             Some(key) => add_row(at, scope, key, found),
@@ -182,36 +182,39 @@ impl<'s> Place<'s> {
 }
 
 /// Returns a copy of the state, which is unchanged.
-pub(crate) fn stay<'s>(alloc: Global, place: &Place<'s>) -> Result<Option<Place<'s>>, Fault>
-    ensures { Refines (Ok (Some place.now)) result }
+pub(crate) fn stay<'s>(
+    alloc: Global,
+    partial: &PartialRow<'s>,
+) -> Result<Option<PartialRow<'s>>, Fault>
+    ensures { Refines (Ok (Some partial.now)) result }
 {
-    Ok(Some(place.copied(alloc)?))
+    Ok(Some(partial.copied(alloc)?))
 }
 
 /// Returns the state with a tuple appended to its key.
 pub(crate) fn with_key<'s>(
     alloc: Global,
     tuple: &Tuple<'s>,
-    place: &Place<'s>,
-) -> Result<Option<Place<'s>>, Fault>
-    ensures { Refines (Ok (Some (rows.with_key tuple.now place.now))) result }
+    partial: &PartialRow<'s>,
+) -> Result<Option<PartialRow<'s>>, Fault>
+    ensures { Refines (Ok (Some (rows.with_key tuple.now partial.now))) result }
 {
-    let scope = place.scope.copied(alloc)?;
-    let key = longer(&place.key, tuple);
-    Ok(Some(Place { scope, key }))
+    let scope = partial.scope.copied(alloc)?;
+    let key = longer(&partial.key, tuple);
+    Ok(Some(PartialRow { scope, key }))
 }
 
 /// Returns the state if a value equals the member.
 fn matches_value<'s>(
     whole: &Expr<'_>,
     member: &Member<'s>,
-    place: Place<'s>,
+    partial: PartialRow<'s>,
     value: &Value<'_, 's>,
-) -> Result<Option<Place<'s>>, Fault>
-    ensures { Yields (rows.matches_member (trees.span_of (tree whole.now)) member.now place.entry value.now) result }
+) -> Result<Option<PartialRow<'s>>, Fault>
+    ensures { Yields (rows.matches_member (trees.span_of (tree whole.now)) member.now partial.entry value.now) result }
 {
     match value {
-        Value::One(found) if *found == *member => Ok(Some(place)),
+        Value::One(found) if *found == *member => Ok(Some(partial)),
         Value::One(_) => Ok(None),
         _ => Err(reject_tree(ErrorCode::KindMismatch, whole)),
     }
@@ -221,14 +224,14 @@ fn matches_value<'s>(
 pub(crate) fn matches_member<'s>(
     whole: &Expr<'_>,
     member: &Member<'s>,
-    place: Place<'s>,
+    partial: PartialRow<'s>,
     value: Result<Value<'_, 's>, Fault>,
-) -> Result<Option<Place<'s>>, Fault>
+) -> Result<Option<PartialRow<'s>>, Fault>
     ensures { (wanted : Outcome Found) → Refines wanted value.entry
-        → Refines (and_then wanted (rows.matches_member (trees.span_of (tree whole.now)) member.now place.entry)) result }
+        → Refines (and_then wanted (rows.matches_member (trees.span_of (tree whole.now)) member.now partial.entry)) result }
 {
     match value {
-        Ok(value) => matches_value(whole, member, place, &value),
+        Ok(value) => matches_value(whole, member, partial, &value),
         Err(fault) => Err(fault),
     }
 }
@@ -237,14 +240,14 @@ fn matches_tuple<'s>(
     alloc: Global,
     whole: &Expr<'_>,
     tuple: &Tuple<'s>,
-    place: &Place<'s>,
+    partial: &PartialRow<'s>,
     found: &Tuple<'s>,
-) -> Result<Option<Place<'s>>, Fault>
-    ensures { Refines (rows.matches_tuple (trees.span_of (tree whole.now)) tuple.now place.now found.now) result }
+) -> Result<Option<PartialRow<'s>>, Fault>
+    ensures { Refines (rows.matches_tuple (trees.span_of (tree whole.now)) tuple.now partial.now found.now) result }
 {
     if found.len() == tuple.len() {
         if *found == *tuple {
-            stay(alloc, place)
+            stay(alloc, partial)
         } else {
             Ok(None)
         }
@@ -258,16 +261,16 @@ fn matches_tuple_value<'s>(
     alloc: Global,
     whole: &Expr<'_>,
     tuple: &Tuple<'s>,
-    place: &Place<'s>,
+    partial: &PartialRow<'s>,
     value: &Value<'_, 's>,
-) -> Result<Option<Place<'s>>, Fault>
-    ensures { Refines (rows.matches_as_tuple (trees.span_of (tree whole.now)) tuple.now place.now value.now) result }
+) -> Result<Option<PartialRow<'s>>, Fault>
+    ensures { Refines (rows.matches_as_tuple (trees.span_of (tree whole.now)) tuple.now partial.now value.now) result }
 {
     match value {
         Value::One(found) => {
-            matches_tuple(alloc, whole, tuple, place, &Tuple::single(found.copied()))
+            matches_tuple(alloc, whole, tuple, partial, &Tuple::single(found.copied()))
         }
-        Value::Several(found) => matches_tuple(alloc, whole, tuple, place, found.get()),
+        Value::Several(found) => matches_tuple(alloc, whole, tuple, partial, found.get()),
         _ => Err(reject_tree(ErrorCode::KindMismatch, whole)),
     }
 }
@@ -277,14 +280,14 @@ pub(crate) fn matches_as_tuple<'s>(
     alloc: Global,
     whole: &Expr<'_>,
     tuple: &Tuple<'s>,
-    place: &Place<'s>,
+    partial: &PartialRow<'s>,
     value: Result<Value<'_, 's>, Fault>,
-) -> Result<Option<Place<'s>>, Fault>
+) -> Result<Option<PartialRow<'s>>, Fault>
     ensures { (wanted : Outcome Found) → Refines wanted value.entry
-        → Refines (and_then wanted (rows.matches_as_tuple (trees.span_of (tree whole.now)) tuple.now place.now)) result }
+        → Refines (and_then wanted (rows.matches_as_tuple (trees.span_of (tree whole.now)) tuple.now partial.now)) result }
 {
     match value {
-        Ok(value) => matches_tuple_value(alloc, whole, tuple, place, &value),
+        Ok(value) => matches_tuple_value(alloc, whole, tuple, partial, &value),
         Err(fault) => Err(fault),
     }
 }
@@ -294,13 +297,13 @@ pub(crate) fn bind_first<'s>(
     alloc: Global,
     name: &Excerpt<'s>,
     members: &[Member<'s>],
-    place: &Place<'s>,
-) -> Result<Option<Place<'s>>, Fault>
-    ensures { Refines (rows.bound_first name.now members.now place.now) result }
+    partial: &PartialRow<'s>,
+) -> Result<Option<PartialRow<'s>>, Fault>
+    ensures { Refines (rows.bound_first name.now members.now partial.now) result }
 {
     match members {
-        [] => stay(alloc, place),
-        [member, ..] => place.copied(alloc)?.bind(name, member),
+        [] => stay(alloc, partial),
+        [member, ..] => partial.copied(alloc)?.bind(name, member),
     }
 }
 

@@ -117,7 +117,7 @@ fn add_key<'s>(
 /// that of its key.
 fn of_made<'s>(
     alloc: Global,
-    key: HashKey,
+    hash_key: HashKey,
     rows: &[Row<'s>],
 ) -> Result<Option<RowList<'s>>, AllocError>
     ensures { IfOk result (λ found. IfSome found (λ list. list ≡ rows.now)) }
@@ -126,7 +126,7 @@ fn of_made<'s>(
         return Ok(None);
     };
     let dummies = first.scope.names(alloc)?;
-    let mut keys = TupleSet::with_room(alloc, key, rows.len());
+    let mut keys = TupleSet::with_room(alloc, hash_key, rows.len());
     for row in rows {
         if !add_key(dummies.as_slice(), row, &mut keys)? {
             return Ok(None);
@@ -137,13 +137,13 @@ fn of_made<'s>(
 }
 
 impl<'s> RowList<'s> {
-    /// The same rows; if each is that of its key, only the keys are kept. The key of the hashes has to be that of the run.
-    pub(crate) fn compact(self, alloc: Global, key: HashKey) -> Result<RowList<'s>, AllocError>
+    /// The same rows; if each is that of its key, only the keys are kept. The hash key has to be that of the run.
+    pub(crate) fn compact(self, alloc: Global, hash_key: HashKey) -> Result<RowList<'s>, AllocError>
         ensures { IfOk result (λ list. list ≡ self.entry) }
     {
         let RowList { store } = self;
         match store {
-            RowStore::Kept(rows) => match of_made(alloc, key, rows.as_slice())? {
+            RowStore::Kept(rows) => match of_made(alloc, hash_key, rows.as_slice())? {
                 Some(list) => Ok(list),
                 None => Ok(RowList::of_rows(rows)),
             },
@@ -209,13 +209,13 @@ impl<'s> RowList<'s> {
         }
     }
 
-    /// Returns the distinct keys, under the key of the run. Returns `TooMany` if there are more than a set can have.
-    pub fn keys(&self, alloc: Global, key: HashKey) -> Result<KeyList<'s>, SetFault>
+    /// Returns the distinct keys, under the hash key of the run. Returns `TooMany` if there are more than a set can have.
+    pub fn keys(&self, alloc: Global, hash_key: HashKey) -> Result<KeyList<'s>, SetFault>
         ensures { IsMade (union [] (keys_of self.now)) result }
     {
         match &self.store {
             RowStore::Kept(rows) => {
-                let keys = key_set(alloc, key, rows.as_slice())?;
+                let keys = key_set(alloc, hash_key, rows.as_slice())?;
                 Ok(KeyList::of_set(SharedSet::new(alloc, keys)?))
             }
             RowStore::Made(keys, _) => {

@@ -4,7 +4,7 @@ ghost use Rattle.std.specs.Prelude.{◌≡◌, IfOk, List, Ok};
 ghost use Rattle.net_sets.specs.Limits.{tuples_limit};
 ghost use Rattle.net_sets.specs.Made.{IsMade, IsCrossed};
 ghost use Rattle.net_sets.specs.Sets.{Tuple as Members};
-ghost use Rattle.net_base.specs.declared.diagnostic.Span.{Span as Place};
+ghost use Rattle.net_base.specs.declared.diagnostic.Span.{Span as Position};
 ghost use Rattle.net_tree.specs.Spans as trees;
 ghost use Rattle.net_tree.specs.View.{tree};
 ghost use Rattle.net_expr.specs.Operators as operators;
@@ -64,7 +64,7 @@ fn set_value<'w, 's>(
     dimension: u8,
     set: TupleSet<'s>,
 ) -> Result<Value<'w, 's>, AllocError>
-    ensures { (at : Place) → IfOk result (λ value. sets.within_size at dimension set.entry ≡ Ok value) }
+    ensures { (at : Position) → IfOk result (λ value. sets.within_size at dimension set.entry ≡ Ok value) }
 {
     let _few = set.len();
     Ok(Value::Many(Some(dimension), Cow::owned(alloc, set)?))

@@ -23,7 +23,7 @@ use std::alloc::{AllocError, Global};
 
 /// The form of items: the dummies in scope, the number of key members, whether all are sets.
 #[derive(Drop)]
-pub(crate) struct Shape<'s> {
+pub(crate) struct ItemsForm<'s> {
     pub(crate) scope: Scope<'s>,
     pub(crate) count: u8,
     pub(crate) indexes: bool,
@@ -136,10 +136,10 @@ fn combined(operation: BinOp, first: Option<u8>, second: Option<u8>) -> Option<u
     }
 }
 
-fn begin<'s>(alloc: Global, scope: &Scope<'s>) -> Result<Shape<'s>, AllocError>
+fn begin<'s>(alloc: Global, scope: &Scope<'s>) -> Result<ItemsForm<'s>, AllocError>
     ensures { IfOk result (λ f. f ≡ widths.begin scope.now) }
 {
-    Ok(Shape {
+    Ok(ItemsForm {
         scope: scope.copied(alloc)?,
         count: 0,
         indexes: true,
@@ -149,16 +149,16 @@ fn begin<'s>(alloc: Global, scope: &Scope<'s>) -> Result<Shape<'s>, AllocError>
 fn with_component<'s>(
     alloc: Global,
     env: &Env<'_, 's>,
-    form: Shape<'s>,
+    form: ItemsForm<'s>,
     component: &Expr<'s>,
-) -> Result<Shape<'s>, AllocError>
+) -> Result<ItemsForm<'s>, AllocError>
     ensures { IfOk result (λ f. f ≡ widths.with_component env.now form.entry (tree component.now)) }
 {
     match new_dummy(env, &form.scope, component) {
         None => Ok(form),
         Some(name) => {
             let scope = form.scope.with(alloc, name.copied(), Member::Number(0))?;
-            Ok(Shape {
+            Ok(ItemsForm {
                 scope,
                 count: capped_sum(form.count, 1),
                 indexes: form.indexes,
@@ -170,9 +170,9 @@ fn with_component<'s>(
 fn with_components<'s>(
     alloc: Global,
     env: &Env<'_, 's>,
-    form: Shape<'s>,
+    form: ItemsForm<'s>,
     links: &[LinkedOperand<'s>],
-) -> Result<Shape<'s>, AllocError>
+) -> Result<ItemsForm<'s>, AllocError>
     ensures { IfOk result (λ f. f ≡ widths.with_components env.now form.entry (links_of links.now)) }
 {
     let mut form = form;
@@ -185,10 +185,10 @@ fn with_components<'s>(
 fn with_tuple<'s>(
     alloc: Global,
     env: &Env<'_, 's>,
-    form: Shape<'s>,
+    form: ItemsForm<'s>,
     first: &Expr<'s>,
     more: &[LinkedOperand<'s>],
-) -> Result<Shape<'s>, AllocError>
+) -> Result<ItemsForm<'s>, AllocError>
     ensures { IfOk result (λ f. f ≡ widths.with_components env.now (widths.with_component env.now form.entry (tree first.now)) (links_of more.now)) }
 {
     let form = with_component(alloc, env, form, first)?;
@@ -200,9 +200,9 @@ fn with_tuple<'s>(
 fn with_left<'s>(
     alloc: Global,
     env: &Env<'_, 's>,
-    form: Shape<'s>,
+    form: ItemsForm<'s>,
     left: &Expr<'s>,
-) -> Result<Shape<'s>, AllocError>
+) -> Result<ItemsForm<'s>, AllocError>
     ensures { IfOk result (λ f. f ≡ widths.with_left env.now form.entry (tree left.now)) }
 {
     match left {
@@ -221,15 +221,15 @@ fn with_left<'s>(
 }
 
 /// Adds an item that is a set of this dimension by its form, or not a set.
-fn with_plain<'s>(form: Shape<'s>, dimension: Option<u8>, is_set: bool) -> Shape<'s>
+fn with_plain<'s>(form: ItemsForm<'s>, dimension: Option<u8>, is_set: bool) -> ItemsForm<'s>
     ensures { result ≡ widths.with_plain form.entry dimension is_set }
 {
-    let Shape {
+    let ItemsForm {
         scope,
         count,
         indexes,
     } = form;
-    Shape {
+    ItemsForm {
         scope,
         count: capped_sum(count, counted(dimension)),
         indexes: indexes && is_set,
@@ -324,7 +324,7 @@ fn items_form<'s>(
     scope: &Scope<'s>,
     item: &Expr<'s>,
     more: &[LinkedOperand<'s>],
-) -> Result<Shape<'s>, AllocError>
+) -> Result<ItemsForm<'s>, AllocError>
     ensures { IfOk result (λ f. f ≡ widths.with_items env.now (widths.with_item env.now (widths.begin scope.now) (tree item.now)) (links_of more.now)) }
 {
     let mut form = with_item(alloc, env, begin(alloc, scope)?, item)?;
@@ -338,9 +338,9 @@ fn items_form<'s>(
 fn with_item<'s>(
     alloc: Global,
     env: &Env<'_, 's>,
-    form: Shape<'s>,
+    form: ItemsForm<'s>,
     item: &Expr<'s>,
-) -> Result<Shape<'s>, AllocError>
+) -> Result<ItemsForm<'s>, AllocError>
     ensures { IfOk result (λ f. f ≡ widths.with_item env.now form.entry (tree item.now)) }
 {
     match sides_of(item) {
@@ -353,7 +353,7 @@ fn with_item<'s>(
     }
 }
 
-fn width_of_form(at: Span, form: &Shape<'_>) -> Result<u8, Fault>
+fn width_of_form(at: Span, form: &ItemsForm<'_>) -> Result<u8, Fault>
     ensures { Yields (widths.width_of_form at form.now) result }
 {
     if form.indexes {

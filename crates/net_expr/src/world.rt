@@ -35,17 +35,17 @@ impl<'s> Model for World<'s> {
 }
 
 impl<'s> World<'s> {
-    /// Returns the key of the run.
-    pub fn key(&self) -> HashKey {
+    /// Returns the hash key of the run.
+    pub fn hash_key(&self) -> HashKey {
         self.entries.key()
     }
 
-    /// Creates a world without declarations. The key has to be that of the run.
-    pub fn new(alloc: Global, key: HashKey) -> World<'s>
+    /// Creates a world without declarations. The hash key has to be that of the run.
+    pub fn new(alloc: Global, hash_key: HashKey) -> World<'s>
         ensures { result ≡ [] }
     {
         World {
-            entries: NameMap::new(alloc, key),
+            entries: NameMap::new(alloc, hash_key),
         }
     }
 
@@ -97,9 +97,9 @@ impl<'w, 's> Env<'w, 's> {
         Env { world, known }
     }
 
-    /// Returns the key of the run.
-    pub fn key(&self) -> HashKey {
-        self.world.key()
+    /// Returns the hash key of the run.
+    pub fn hash_key(&self) -> HashKey {
+        self.world.hash_key()
     }
 
     /// Looks up a name.

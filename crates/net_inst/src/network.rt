@@ -161,7 +161,7 @@ fn network_of<'s>(
 ) -> Result<Named<'s>, Fault>
     ensures { AnswersNetwork (found.network (option_copied wanted.now) world.now (declared_in model.now)) result }
 {
-    let mut draft = Draft::new(alloc, world.key());
+    let mut draft = Draft::new(alloc, world.hash_key());
     let declarations = model.declarations.as_slice();
     network_on(alloc, wanted, world, declarations, &mut draft)
 }

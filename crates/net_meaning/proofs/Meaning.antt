@@ -12,7 +12,7 @@ use Rattle.net_tree.specs.Operations.{operation, reduction, is_minus, has_minus,
 use Rattle.net_tree.specs.Role.{role_of}
 use Rattle.net_tree.specs.Spans.{span_of, span_between, braces_span}
 use Rattle.net_tree.specs.Tree.{Tree, Links, Part, Braces, leaf, indexed, parens, tuple, negated, braced, signed, reduced, chain, choice, net, none, link, absent, part, empty, filled}
-use Rattle.net_expr.specs.declared.row.Place.{Place}
+use Rattle.net_expr.specs.declared.row.PartialRow.{PartialRow}
 use Rattle.net_expr.specs.declared.row.Row.{Row}
 use Rattle.net_expr.specs.declared.value.Value.{Value as Found}
 use Rattle.net_expr.specs.declared.value.Value.TheVariants as found
@@ -100,13 +100,13 @@ module _ (af : Name → Option (Tuple → ℤ)) (yf : ℤ) where
       gives_as _ _ (range_of (span_of (chain n x l)) vs) (λ u (ts, r, f). (meaning_of v, h, (map meaning_of us, ts, operand_values (env_with af yf w s) l (map meaning_of us) all, subst (λ zs. IsRangeOf (map meaning_of zs) ts) e r, f))) (span_is (span_of (chain n x l)) vs))
   chain_is w s n x l v h false i j = gives_as _ _ (chained (span_of (chain n x l)) w s l v) (λ u m. (meaning_of v, h, m)) j
 
-  placed_is : (w : World) (n : ℕ) (x : Tree) (o : _) (y : Tree) (t : Tuple) (q : Place) (k : Tuple) → Cuts q.key k → (b : Bool)
+  placed_is : (w : World) (n : ℕ) (x : Tree) (o : _) (y : Tree) (t : Tuple) (q : PartialRow) (k : Tuple) → Cuts q.key k → (b : Bool)
       → (b ≡ true → IfOk (left_place (span_of (chain n x (link o y none))) w x (value w q.scope x) t q) (PlaceIs af yf w (Agrees (key_at af yf w q.scope k) x (IsValue (env_with af yf w q.scope) x) t)))
       → IfOk (if b then left_place (span_of (chain n x (link o y none))) w x (value w q.scope x) t q else Ok (Some (with_key t q)))
       (PlaceIs af yf w (λ r. Whether b (Agrees (key_at af yf w q.scope k) x (IsValue (env_with af yf w q.scope) x) t r) (r ≡ Some (meaning.extended (key_at af yf w q.scope k) t))))
   placed_is w n x o y t q k cut true h = gives_as _ _ (left_place (span_of (chain n x (link o y none))) w x (value w q.scope x) t q) go (h refl)
     where
-      go : (o : Option Place) → PlaceIs af yf w (Agrees (key_at af yf w q.scope k) x (IsValue (env_with af yf w q.scope) x) t) o
+      go : (o : Option PartialRow) → PlaceIs af yf w (Agrees (key_at af yf w q.scope k) x (IsValue (env_with af yf w q.scope) x) t) o
           → PlaceIs af yf w (λ r. Whether true (Agrees (key_at af yf w q.scope k) x (IsValue (env_with af yf w q.scope) x) t r) (r ≡ Some (meaning.extended (key_at af yf w q.scope k) t))) o
       go None i = i
       go (Some z) i = i
@@ -122,7 +122,7 @@ module _ (af : Name → Option (Tuple → ℤ)) (yf : ℤ) where
   long_items : (w : World) → HasSets w → (s : Scope) (i : Tree) (at : Span) (ts : List Tuple) → (if has_in i then set_after w s i else and_then (value w s i) (tuples_of at)) ≡ Ok ts → AllByRecursion (LongIn i) ts
   long_items w g s i at ts e = let set = found_set w s i at ts (keeps_sets w g) e in set.fits
 
-  item_is : (at : Span) (w : World) → HasSets w → (o : _) (i : Tree) (is : Links) (q : Place) (k : Tuple) → Cuts q.key k → (before : List Row)
+  item_is : (at : Span) (w : World) → HasSets w → (o : _) (i : Tree) (is : Links) (q : PartialRow) (k : Tuple) → Cuts q.key k → (before : List Row)
       → IfOk (value w q.scope i) (λ v. IsValue (env_with af yf w q.scope) i (meaning_of v)) → (has_in i ≡ true → IfOk (set_after w q.scope i) (IsSetAfterIn (env_with af yf w q.scope) i))
       → ((t : Tuple) → LongIn i t → IfOk (place w i t q) (PlaceIs af yf w (Extends (key_at af yf w q.scope k) i t))) → Walked af yf w (λ z. Iterates z is) (walk at w is)
       → IfOk (walk at w (link o i is) q before) (Adds af yf w (Iterates (key_at af yf w q.scope k) (link o i is)) before)
@@ -159,7 +159,7 @@ module _ (af : Name → Option (Tuple → ℤ)) (yf : ℤ) where
 
   filled_is : (w : World) → HasSets w → (s : Scope) (o : Token) (i : Tree) (is : Links) (p : Part) (c : Token)
       → IfOk (value w s i) (λ v. IsValue (env_with af yf w s) i (meaning_of v)) → (has_in i ≡ true → IfOk (set_after w s i) (IsSetAfterIn (env_with af yf w s) i))
-      → ((t : Tuple) → LongIn i t → (q : Place) (k : Tuple) → Cuts q.key k → IfOk (place w i t q) (PlaceIs af yf w (Extends (key_at af yf w q.scope k) i t))) → Walked af yf w (λ z. Iterates z is) (walk (span_between o c) w is)
+      → ((t : Tuple) → LongIn i t → (q : PartialRow) (k : Tuple) → Cuts q.key k → IfOk (place w i t q) (PlaceIs af yf w (Extends (key_at af yf w q.scope k) i t))) → Walked af yf w (λ z. Iterates z is) (walk (span_between o c) w is)
       → ((before : List Found) → IfOk (values w s is before) (Operands w s is before)) → ((r : Row) → IfOk (holds (span_between o c) w r.scope p) (HasTruth p (as_key af yf w r)))
       → IfOk (index w s (filled o i is p c)) (λ k. AreKeys (env_with af yf w s) (filled o i is p c) (map (as_key af yf w) k.rows))
   filled_is w g s o i is p c h set lead next operands test =
@@ -183,10 +183,10 @@ module _ (af : Name → Option (Tuple → ℤ)) (yf : ℤ) where
           gives_as _ _ (listed (span_between o c) s (has_part p) vs) (λ k (f, ts, tuples, d, g). inr ((meaning_of v, map meaning_of us, ts, j, all, subst (λ zs. AllZip IsTuple (map meaning_of zs) ts) e tuples, d, g), unsaid p f)) (listed_is af yf w (span_between o c) s (has_part p) vs))
 
   -- a tuple agrees with an expression if it is as long and the components agree
-  in_whole : (w : World) (R : Option Key → Type 0) (L : Type 0) (o : Outcome (Option Place)) → L → IfOk o (PlaceIs af yf w R) → IfOk o (PlaceIs af yf w (λ r. L × R r))
+  in_whole : (w : World) (R : Option Key → Type 0) (L : Type 0) (o : Outcome (Option PartialRow)) → L → IfOk o (PlaceIs af yf w R) → IfOk o (PlaceIs af yf w (λ r. L × R r))
   in_whole w R L o l h = gives_as (PlaceIs af yf w R) (PlaceIs af yf w (λ r. L × R r)) o go h
     where
-      go : (p : Option Place) → PlaceIs af yf w R p → PlaceIs af yf w (λ r. L × R r) p
+      go : (p : Option PartialRow) → PlaceIs af yf w R p → PlaceIs af yf w (λ r. L × R r) p
       go None i = (l, i)
       go (Some q) (k, cut, i) = (k, cut, (l, i))
 
@@ -259,7 +259,7 @@ module _ (af : Name → Option (Tuple → ℤ)) (yf : ℤ) where
     means_keys w g s (filled o i is p c) z =
         filled_is w g s o i is p c (means w g s i z.0) (means_set w g s i z.0) (λ t long q k cut. means_place w g i t q k cut long z.0) (λ q k cut before. means_walk (span_between o c) w g is q k cut before z.1) (λ before. means_values w g s is before z.1) (λ row. means_holds (span_between o c) w g row.scope row.key p z.2)
 
-    means_walk : (at : Span) (w : World) → HasSets w → (l : Links) (q : Place) (k : Tuple) → Cuts q.key k → (before : List Row) → AreArcFree af yf l → IfOk (walk at w l q before) (Adds af yf w (Iterates (key_at af yf w q.scope k) l) before)
+    means_walk : (at : Span) (w : World) → HasSets w → (l : Links) (q : PartialRow) (k : Tuple) → Cuts q.key k → (before : List Row) → AreArcFree af yf l → IfOk (walk at w l q before) (Adds af yf w (Iterates (key_at af yf w q.scope k) l) before)
     means_walk at w g none q k cut before z = row_is af yf w at q.scope q.key k cut before
     means_walk at w g (link o i is) q k cut before z =
         item_is at w g o i is q k cut before (means w g q.scope i z.0) (means_set w g q.scope i z.0) (λ t long. means_place w g i t q k cut long z.0) (λ q k cut before. means_walk at w g is q k cut before z.1)
@@ -270,12 +270,12 @@ module _ (af : Name → Option (Tuple → ℤ)) (yf : ℤ) where
         gives_as _ _ (chosen (span_of (chain n x (link o y none))) (needed x) v) (λ ts e. subst (IsValue (env_with af yf w s) y) e i) (chosen_is (span_of (chain n x (link o y none))) (needed x) v))
     means_set w g s _ z h = cc
 
-    means_place : (w : World) → HasSets w → (i : Tree) (t : Tuple) (q : Place) (k : Tuple) → Cuts q.key k → LongIn i t → IsArcFree af yf i → IfOk (place w i t q) (PlaceIs af yf w (Extends (key_at af yf w q.scope k) i t))
+    means_place : (w : World) → HasSets w → (i : Tree) (t : Tuple) (q : PartialRow) (k : Tuple) → Cuts q.key k → LongIn i t → IsArcFree af yf i → IfOk (place w i t q) (PlaceIs af yf w (Extends (key_at af yf w q.scope k) i t))
     means_place w g (chain n x (link o y none)) t q k cut long z =
         placed_is w n x o y t q k cut (is_in (operation o)) (λ e. means_left (span_of (chain n x (link o y none))) w g x t q k cut (long e) z.0 (means w g q.scope x z.0))
     means_place w g _ t q k cut long z = (k ++ t, cut_longer t q.key k cut, refl)
 
-    means_left : (at : Span) (w : World) → HasSets w → (x : Tree) (t : Tuple) (q : Place) (k : Tuple) → Cuts q.key k → IsLong (needed x) t → IsArcFree af yf x → IfOk (value w q.scope x) (λ v. IsValue (env_with af yf w q.scope) x (meaning_of v))
+    means_left : (at : Span) (w : World) → HasSets w → (x : Tree) (t : Tuple) (q : PartialRow) (k : Tuple) → Cuts q.key k → IsLong (needed x) t → IsArcFree af yf x → IfOk (value w q.scope x) (λ v. IsValue (env_with af yf w q.scope) x (meaning_of v))
         → IfOk (left_place at w x (value w q.scope x) t q) (PlaceIs af yf w (Agrees (key_at af yf w q.scope k) x (IsValue (env_with af yf w q.scope) x) t))
     means_left at w g (tuple o x l c) [] q k cut long z h = absurd (let e = long in omega arith)
     means_left at w g (tuple o x l c) (m ∷ ms) q k cut long z h =
@@ -287,7 +287,7 @@ module _ (af : Name → Option (Tuple → ℤ)) (yf : ℤ) where
         as_dummy w q.scope x (λ d. IfOk (left_place at w x (value w q.scope x) t q) (PlaceIs af yf w (MatchesWhole (key_at af yf w q.scope k) d (IsValue (env_with af yf w q.scope) x) t)))
         (meets_whole af yf w at (items.new_dummy w q.scope x) (value w q.scope x) (IsValue (env_with af yf w q.scope) x) t q k (fits_alone af yf w q.scope x t long) cut h)
 
-    means_places : (at : Span) (w : World) → HasSets w → (l : Links) (ms : Tuple) (q : Place) (k : Tuple) → Cuts q.key k → length ms ≡ items.size l → AreArcFree af yf l → IfOk (places at w l ms q) (PlaceIs af yf w (AllAgree (key_at af yf w q.scope k) l ms))
+    means_places : (at : Span) (w : World) → HasSets w → (l : Links) (ms : Tuple) (q : PartialRow) (k : Tuple) → Cuts q.key k → length ms ≡ items.size l → AreArcFree af yf l → IfOk (places at w l ms q) (PlaceIs af yf w (AllAgree (key_at af yf w q.scope k) l ms))
     means_places at w g none [] q k cut long z = (k, cut, refl)
     means_places at w g none (m ∷ ms) q k cut long z = absurd (let e = long in omega arith)
     means_places at w g (link o x l) [] q k cut long z = absurd (let e = long in omega arith)

@@ -11,7 +11,7 @@ use Rattle.net_sets.specs.Limits.{arity_limit, tuples_limit}
 use Rattle.net_sets.specs.Operations.{union}
 use Rattle.net_sets.specs.Sets.{Tuple, same_member, same_tuple}
 use Rattle.net_tree.specs.Tree.{Tree, leaf}
-use Rattle.net_expr.specs.declared.row.Place.{Place}
+use Rattle.net_expr.specs.declared.row.PartialRow.{PartialRow}
 use Rattle.net_expr.specs.declared.row.Row.{Row}
 use Rattle.net_expr.specs.declared.row.Keys.{Keys}
 use Rattle.net_expr.specs.declared.value.Value.{Value as Found}
@@ -51,17 +51,17 @@ module _ (af : Name → Option (Tuple → ℤ)) (yf : ℤ) (w : World) where
   as_key r = key_at r.scope r.key
 
   -- a place stands for a key, and no place for none
-  abbrev pub PlaceIs : (Option Key → Type 0) → Option Place → Type 0
+  abbrev pub PlaceIs : (Option Key → Type 0) → Option PartialRow → Type 0
   PlaceIs R None = R None
   PlaceIs R (Some q) = (k : Tuple) × Cuts q.key k × R (Some (key_at q.scope k))
 
   -- from any key that the place stands for, what comes out is told by R
-  abbrev pub Steps : (Key → Option Key → Type 0) → (Place → Outcome (Option Place)) → Type 0
-  Steps R next = (q : Place) (k : Tuple) → Cuts q.key k → IfOk (next q) (PlaceIs (R (key_at q.scope k)))
+  abbrev pub Steps : (Key → Option Key → Type 0) → (PartialRow → Outcome (Option PartialRow)) → Type 0
+  Steps R next = (q : PartialRow) (k : Tuple) → Cuts q.key k → IfOk (next q) (PlaceIs (R (key_at q.scope k)))
 
   -- a component
-  pub meets : (at : Span) (o : Option Name) (own : Outcome Found) (Own : Value → Type 0) (m : Member) (p : Place) (k : Tuple) → Cuts p.key k → IfOk own (λ v. Own (meaning_of v))
-      → (Rest : Key → Option Key → Type 0) (next : Place → Outcome (Option Place)) → Steps Rest next
+  pub meets : (at : Span) (o : Option Name) (own : Outcome Found) (Own : Value → Type 0) (m : Member) (p : PartialRow) (k : Tuple) → Cuts p.key k → IfOk own (λ v. Own (meaning_of v))
+      → (Rest : Key → Option Key → Type 0) (next : PartialRow → Outcome (Option PartialRow)) → Steps Rest next
       → IfOk (and_then (match_component at o own m p) (if_fits next)) (PlaceIs (Matches (key_at p.scope k) o Own m Rest))
   meets at (Some name) own Own m p k c h Rest next rest = rest (bind name m p) (k ++ m ∷ []) (cut_longer (m ∷ []) p.key k c)
   meets at None own Own m p k c h Rest next rest =
@@ -75,7 +75,7 @@ module _ (af : Name → Option (Tuple → ℤ)) (yf : ℤ) (w : World) where
       member (found.Many d ts) g = tt
       member (found.Truth b) g = tt
 
-      fitting : (u : Member) → Own (One u) → same_member u m ≡ true → (o : Option Place) → PlaceIs (Rest (key_at p.scope k)) o → PlaceIs (Matches (key_at p.scope k) None Own m Rest) o
+      fitting : (u : Member) → Own (One u) → same_member u m ≡ true → (o : Option PartialRow) → PlaceIs (Rest (key_at p.scope k)) o → PlaceIs (Matches (key_at p.scope k) None Own m Rest) o
       fitting u g e None r = (u, g, subst (λ b. Whether b (Rest (key_at p.scope k) None) (no_key ≡ None)) (sym e) r)
       fitting u g e (Some q) (j, d, r) = (j, d, (u, g, subst (λ b. Whether b (Rest (key_at p.scope k) (Some (key_at q.scope j))) (Some (key_at q.scope j) ≡ None)) (sym e) r))
 
@@ -97,7 +97,7 @@ module _ (af : Name → Option (Tuple → ℤ)) (yf : ℤ) (w : World) where
   fits_alone s _ t h = tt
 
   -- what stands alone
-  pub meets_whole : (at : Span) (o : Option Name) (own : Outcome Found) (Own : Value → Type 0) (t : Tuple) (p : Place) (k : Tuple) → FitsAlone o t → Cuts p.key k → IfOk own (λ v. Own (meaning_of v))
+  pub meets_whole : (at : Span) (o : Option Name) (own : Outcome Found) (Own : Value → Type 0) (t : Tuple) (p : PartialRow) (k : Tuple) → FitsAlone o t → Cuts p.key k → IfOk own (λ v. Own (meaning_of v))
       → IfOk (match_whole at o own t p) (PlaceIs (MatchesWhole (key_at p.scope k) o Own t))
   meets_whole at (Some name) own Own [] p k f c h = absurd (let l = f in omega arith)
   meets_whole at (Some name) own Own (m ∷ []) p k f c h = (k ++ m ∷ [], cut_longer (m ∷ []) p.key k c, refl)
@@ -121,15 +121,15 @@ module _ (af : Name → Option (Tuple → ℤ)) (yf : ℤ) (w : World) where
   abbrev pub Adds : (List Key → Type 0) → List Row → List Row → Type 0
   Adds R found rows = (new : List Row) × (rows ≡ found ++ new) × R (map as_key new)
 
-  abbrev pub Walked : (Key → List Key → Type 0) → (Place → List Row → Outcome (List Row)) → Type 0
-  Walked Next next = (q : Place) (k : Tuple) → Cuts q.key k → (found : List Row) → IfOk (next q found) (Adds (Next (key_at q.scope k)) found)
+  abbrev pub Walked : (Key → List Key → Type 0) → (PartialRow → List Row → Outcome (List Row)) → Type 0
+  Walked Next next = (q : PartialRow) (k : Tuple) → Cuts q.key k → (found : List Row) → IfOk (next q found) (Adds (Next (key_at q.scope k)) found)
 
-  goes_on : (Next : Key → List Key → Type 0) (next : Place → List Row → Outcome (List Row)) → Walked Next next → (R : Option Key → Type 0) (found : List Row) (o : Option Place) → PlaceIs R o
+  goes_on : (Next : Key → List Key → Type 0) (next : PartialRow → List Row → Outcome (List Row)) → Walked Next next → (R : Option Key → Type 0) (found : List Row) (o : Option PartialRow) → PlaceIs R o
       → IfOk (go_on next found o) (Adds (λ keys. (r : Option Key) × R r × Continues Next r keys) found)
   goes_on Next next h R found None r = ([], sym (append-nil found), (None, r, refl))
   goes_on Next next h R found (Some q) (k, c, r) = gives_as _ _ (next q found) (λ rows (new, e, n). (new, e, (Some (key_at q.scope k), r, n))) (h q k c found)
 
-  pub from_each : (Long : Tuple → Type 0) (Place' : Tuple → Option Key → Type 0) (place : Tuple → Place → Outcome (Option Place)) (Next : Key → List Key → Type 0) (next : Place → List Row → Outcome (List Row)) (p : Place)
+  pub from_each : (Long : Tuple → Type 0) (Place' : Tuple → Option Key → Type 0) (place : Tuple → PartialRow → Outcome (Option PartialRow)) (Next : Key → List Key → Type 0) (next : PartialRow → List Row → Outcome (List Row)) (p : PartialRow)
       → ((t : Tuple) → Long t → IfOk (place t p) (PlaceIs (Place' t))) → Walked Next next → (ts : List Tuple) (found : List Row) → AllByRecursion Long ts → IfOk (each (onward place next p) ts found) (Adds (FromEach Place' Next ts) found)
   from_each Long Place' place Next next p h k [] found l = ([], sym (append-nil found), refl)
   from_each Long Place' place Next next p h k (t ∷ ts) found long =

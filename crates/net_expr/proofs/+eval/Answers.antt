@@ -59,17 +59,17 @@ eval::evaluate-returns-in-If t c =
 
 pub fitting::left_place-returns-in-Tuple : goal.fitting::left_place-returns-in-Tuple
 fitting::left_place-returns-in-Tuple t c =
-    answers_by _ _ _ (left-tuple _ c.args.env.now (tree c.args.left.now) _ _ _ _ _ c.args.tuple.now c.args.place.now (in_tuple c.args.left.now c.in-Tuple.parts c.get.result.now _ c.in-Tuple.is c.get.ensures refl)) c.components.ensures
+    answers_by _ _ _ (left-tuple _ c.args.env.now (tree c.args.left.now) _ _ _ _ _ c.args.tuple.now c.args.partial.now (in_tuple c.args.left.now c.in-Tuple.parts c.get.result.now _ c.in-Tuple.is c.get.ensures refl)) c.components.ensures
 
 pub fitting::left_place-returns-in-Leaf : goal.fitting::left_place-returns-in-Leaf
 fitting::left_place-returns-in-Leaf t c =
     let other : is_tuple (tree c.args.left.now) ≡ false = search (rules, views) in
-    answers_by _ _ _ (left-other _ c.args.env.now (tree c.args.left.now) _ c.args.tuple.now c.args.place.now other) c.alone-in-Leaf.ensures
+    answers_by _ _ _ (left-other _ c.args.env.now (tree c.args.left.now) _ c.args.tuple.now c.args.partial.now other) c.alone-in-Leaf.ensures
 
 pub fitting::left_place-returns-in-Braced : goal.fitting::left_place-returns-in-Braced
 fitting::left_place-returns-in-Braced t c =
     let other : is_tuple (tree c.args.left.now) ≡ false = search (rules, views) in
-    answers_by _ _ _ (left-other _ c.args.env.now (tree c.args.left.now) _ c.args.tuple.now c.args.place.now other) c.alone-in-Braced.ensures
+    answers_by _ _ _ (left-other _ c.args.env.now (tree c.args.left.now) _ c.args.tuple.now c.args.partial.now other) c.alone-in-Braced.ensures
 
 pub keys::index-returns-in-Filled : goal.keys::index-returns-in-Filled
 keys::index-returns-in-Filled t c =
@@ -122,19 +122,19 @@ pub keys::onward-returns-in_err-frame-in-len1-up-clause-leads : goal.keys::onwar
 keys::onward-returns-in_err-frame-in-len1-up-clause-leads t c =
     let y = err_from_is_err_and c.from_residual-in_err-frame-in-len1-up.result c.from_residual-in_err-frame-in-len1-up.ensures.1 in
     rw y.1 (rw y.2
-    (entering_stops c.args.at c.args.env.now c.args.items.now c.link-item.result c.args.place c.in-Some.place c.args.found.now.items _ c.in_err-frame-in-len1-up.field-0.0 c.in-Some.is c.in-len1-up.len_at_least c.link-item.is c.in_err-frame-in-len1-up.ensures))
+    (entering_stops c.args.at c.args.env.now c.args.items.now c.link-item.result c.args.partial c.in-Some.partial c.args.found.now.items _ c.in_err-frame-in-len1-up.field-0.0 c.in-Some.is c.in-len1-up.len_at_least c.link-item.is c.in_err-frame-in-len1-up.ensures))
 
 pub keys::onward-returns-in_ok-frame-in-len1-up-clause-leads : goal.keys::onward-returns-in_ok-frame-in-len1-up-clause-leads
 keys::onward-returns-in_ok-frame-in-len1-up-clause-leads t c =
-    entering_leads c.args.at c.args.env.now c.args.items.now c.link-item.result c.args.place c.in-Some.place c.args.found.now.items _ c.in_ok-frame-in-len1-up.frame c.in-Some.is c.in-len1-up.len_at_least c.link-item.is (λ ts. refl) c.in_ok-frame-in-len1-up.ensures
+    entering_leads c.args.at c.args.env.now c.args.items.now c.link-item.result c.args.partial c.in-Some.partial c.args.found.now.items _ c.in_ok-frame-in-len1-up.frame c.in-Some.is c.in-len1-up.len_at_least c.link-item.is (λ ts. refl) c.in_ok-frame-in-len1-up.ensures
 
 pub keys::onward-returns-in_ok-frame-in-len1-up-clause-lighter : goal.keys::onward-returns-in_ok-frame-in-len1-up-clause-lighter
 keys::onward-returns-in_ok-frame-in-len1-up-clause-lighter t c =
-    entering_lighter c.args.at c.args.env.now c.args.items.now c.link-item.result c.in-Some.place _ c.in_ok-frame-in-len1-up.frame c.in-len1-up.len_at_least c.link-item.is (λ ts. refl) c.in_ok-frame-in-len1-up.ensures
+    entering_lighter c.args.at c.args.env.now c.args.items.now c.link-item.result c.in-Some.partial _ c.in_ok-frame-in-len1-up.frame c.in-len1-up.len_at_least c.link-item.is (λ ts. refl) c.in_ok-frame-in-len1-up.ensures
 
 pub keys::onward-returns-in_ok-frame-in-len1-up-clause-steps : goal.keys::onward-returns-in_ok-frame-in-len1-up-clause-steps
 keys::onward-returns-in_ok-frame-in-len1-up-clause-steps t c =
-    entering_steps c.args.at c.args.env.now c.args.items.now c.link-item.result c.args.place c.in-Some.place _ c.in_ok-frame-in-len1-up.frame c.in-Some.is c.in-len1-up.len_at_least c.link-item.is (λ ts. refl) c.in_ok-frame-in-len1-up.ensures
+    entering_steps c.args.at c.args.env.now c.args.items.now c.link-item.result c.args.partial c.in-Some.partial _ c.in_ok-frame-in-len1-up.frame c.in-Some.is c.in-len1-up.len_at_least c.link-item.is (λ ts. refl) c.in_ok-frame-in-len1-up.ensures
 
 pub keys::walk-returns-in-None-pop : goal.keys::walk-returns-in-None-pop
 keys::walk-returns-in-None-pop t c =
@@ -188,14 +188,14 @@ keys::collect-returns-in_err-walk t c =
     let y = err_from_is_err_and c.from_residual-in_err-walk.result c.from_residual-in_err-walk.ensures.1 in
     rw y.1 (rw y.2
     (leaves_answers _ _ c.in_err-walk.field-0.0 _
-    (from_start c.args.items.now.at c.args.env.now (tree c.args.items.now.first.now) (links_of c.args.items.now.more.now) c.args.scope.now c.in_ok-place.place c.args.tuples _ (ok_same _ _ _ _ refl refl c.in_ok-place.ensures) c.new-found.ensures.items
-    ∙ sym (selected_from c.args.env.now (tree c.args.items.now.first.now) _ c.in_ok-place.place c.args.tuples c.selected-left.result _ c.selected-left.ensures))
+    (from_start c.args.items.now.at c.args.env.now (tree c.args.items.now.first.now) (links_of c.args.items.now.more.now) c.args.scope.now c.in_ok-partial.partial c.args.tuples _ (ok_same _ _ _ _ refl refl c.in_ok-partial.ensures) c.new-found.ensures.items
+    ∙ sym (selected_from c.args.env.now (tree c.args.items.now.first.now) _ c.in_ok-partial.partial c.args.tuples c.selected-left.result _ c.selected-left.ensures))
     c.in_err-walk.ensures))
 
 pub keys::collect-returns : goal.keys::collect-returns
 keys::collect-returns t c =
-    from_start c.args.items.now.at c.args.env.now (tree c.args.items.now.first.now) (links_of c.args.items.now.more.now) c.args.scope.now c.in_ok-place.place c.args.tuples _ (ok_same _ _ _ _ refl refl c.in_ok-place.ensures) c.new-found.ensures.items
-    ∙ sym (selected_from c.args.env.now (tree c.args.items.now.first.now) _ c.in_ok-place.place c.args.tuples c.selected-left.result _ c.selected-left.ensures)
+    from_start c.args.items.now.at c.args.env.now (tree c.args.items.now.first.now) (links_of c.args.items.now.more.now) c.args.scope.now c.in_ok-partial.partial c.args.tuples _ (ok_same _ _ _ _ refl refl c.in_ok-partial.ensures) c.new-found.ensures.items
+    ∙ sym (selected_from c.args.env.now (tree c.args.items.now.first.now) _ c.in_ok-partial.partial c.args.tuples c.selected-left.result _ c.selected-left.ensures)
     ∙ c.in_ok-walk.ensures ∙ ap Ok (sym c.new.ensures)
 
 pub fitting::places-fit_all-requires : goal.fitting::places-fit_all-requires
@@ -204,14 +204,14 @@ fitting::places-fit_all-requires t c = omega (arith, ap weights (rest_first c.ar
 pub fitting::places-returns-in-len1-up-members : goal.fitting::places-returns-in-len1-up-members
 fitting::places-returns-in-len1-up-members t c =
     answers_by _ _ _
-    (ap (λ k. places (span_of (tree c.args.whole.now)) c.args.env.now k c.args.members.now c.args.place) (rest_first c.args.links.now c.link-item.result c.in-len1-up.len_at_least c.link-item.is)
-    ∙ ap (λ ms. places (span_of (tree c.args.whole.now)) c.args.env.now (link c.link-item.result.operator (tree c.link-item.result.operand) (links_of (take (length c.args.links.now - 1) (drop 1 c.args.links.now)))) ms c.args.place)
+    (ap (λ k. places (span_of (tree c.args.whole.now)) c.args.env.now k c.args.members.now c.args.partial) (rest_first c.args.links.now c.link-item.result c.in-len1-up.len_at_least c.link-item.is)
+    ∙ ap (λ ms. places (span_of (tree c.args.whole.now)) c.args.env.now (link c.link-item.result.operator (tree c.link-item.result.operand) (links_of (take (length c.args.links.now - 1) (drop 1 c.args.links.now)))) ms c.args.partial)
     (split_first c.args.members.now c.member-item.result c.in-len1-up-members.len_at_least c.member-item.is))
     c.fit_all.ensures
 
 pub fitting::place_at-returns-in-Some : goal.fitting::place_at-returns-in-Some
 fitting::place_at-returns-in-Some t c =
-    answers_by _ _ _ (place-sides c.args.env.now (tree c.args.item.now) (tree c.in-Some.left.now) _ c.args.tuple.now c.args.place.now c.in-Some.ensures) c.left_place.ensures
+    answers_by _ _ _ (place-sides c.args.env.now (tree c.args.item.now) (tree c.in-Some.left.now) _ c.args.tuple.now c.args.partial.now c.in-Some.ensures) c.left_place.ensures
 
 pub keys::keep-loop-row-preserved : goal.keys::keep-loop-row-preserved
 keys::keep-loop-row-preserved t c =
@@ -260,7 +260,7 @@ eval::gather-loop-row-preserved t c =
 pub fitting::components-returns-in_ok-here-in-len1-up : goal.fitting::components-returns-in_ok-here-in-len1-up
 fitting::components-returns-in_ok-here-in-len1-up t c =
     answers_by _ _ _
-    (ap (λ ms. component_places (span_of (tree c.args.whole.now)) c.args.env.now (tree (out-Operands c.args.series.now).first) (links_of (out-Operands c.args.series.now).more) ms c.args.place.now)
+    (ap (λ ms. component_places (span_of (tree c.args.whole.now)) c.args.env.now (tree (out-Operands c.args.series.now).first) (links_of (out-Operands c.args.series.now).more) ms c.args.partial.now)
     (sym c.as_slice.ensures.members ∙ split_first c.as_slice.result.now c.member-item.result c.in-len1-up.len_at_least c.member-item.is)
     ∙ ap
     (component_places (span_of (tree c.args.whole.now)) c.args.env.now (tree (out-Operands c.args.series.now).first) (links_of (out-Operands c.args.series.now).more) (c.member-item.result ∷ take (length c.as_slice.result.now - 1) (drop 1 c.as_slice.result.now)))
@@ -285,13 +285,13 @@ eval::chain-returns-then-begins_range t c =
 pub fitting::alone-returns-in-None : goal.fitting::alone-returns-in-None
 fitting::alone-returns-in-None t c =
     answers_by _ _ _
-    (ap (λ o. match_whole (span_of (tree c.args.item.now)) o (value c.args.env.now c.args.place.now.scope (tree c.args.left.now)) c.args.tuple.now c.args.place.now) (sym c.in-None.ensures))
+    (ap (λ o. match_whole (span_of (tree c.args.item.now)) o (value c.args.env.now c.args.partial.now.scope (tree c.args.left.now)) c.args.tuple.now c.args.partial.now) (sym c.in-None.ensures))
     (c.matches_as_tuple.ensures _ c.evaluate-value.ensures)
 
 pub fitting::fit-returns-in-None : goal.fitting::fit-returns-in-None
 fitting::fit-returns-in-None t c =
     answers_by _ _ _
-    (ap (λ o. match_component (span_of (tree c.args.whole.now)) o (value c.args.env.now c.args.place.scope (tree c.args.component.now)) c.args.member.now c.args.place) (sym c.in-None.ensures))
+    (ap (λ o. match_component (span_of (tree c.args.whole.now)) o (value c.args.env.now c.args.partial.scope (tree c.args.component.now)) c.args.member.now c.args.partial) (sym c.in-None.ensures))
     (c.matches_member.ensures _ c.evaluate-value.ensures)
 
 pub keys::choose-returns : goal.keys::choose-returns

@@ -1,6 +1,6 @@
 use Rattle.std.proofs.Common.{arith}
 use Rattle.std.proofs.lemmas.Grind.{common_steps}
-use Rattle.net_expr.proofs.row.Place.finish.Goals as goal
+use Rattle.net_expr.proofs.row.PartialRow.finish.Goals as goal
 
 pub returns-in-None : goal.returns-in-None
 returns-in-None c = grind (arith, common_steps)
