@@ -14,32 +14,8 @@ use net_data::parse_data;
 use net_inst::{Named, instantiate_for};
 use net_lex::{lex_data, lex_model};
 use net_model::{CheckedModel, free_model, parse_model};
-use net_names::Hints;
 use net_sets::HashKey;
-use net_tree::Model;
 use std::alloc::Global;
-
-/// Returns the network of a model with its hints and a data file.
-fn network_with<'s>(
-    alloc: Global,
-    declared: &Model<'s>,
-    hints: &Hints<'s>,
-    data: &'s [u8],
-    objective: Option<&str>,
-) -> Result<Named<'s>, Fault>
-    requires { AreNew [] (view.model declared.now) }
-    ensures ok { (text : List ℕ) → IsModel text (view.model declared.now) → IfOk result (λ n. IsNetworkOf (option_copied objective.entry) text
-        «data».entry.now (seen_as n)) }
-    ensures rejected { (text : List ℕ) → IsModel text (view.model declared.now) → IfErr result (IsStop (option_copied objective.entry) text «data».entry.now) }
-{
-    // The tokens and statements of the data are freed before the network is built.
-    let world = {
-        let tokens = lex_data(alloc, data)?;
-        let tables = parse_data(alloc, &tokens.words())?;
-        bind(alloc, declared, hints, &tables)?
-    };
-    instantiate_for(alloc, declared, &world, objective)
-}
 
 /// Returns the network of a checked model and a data file.
 fn network_of<'s>(
@@ -53,7 +29,14 @@ fn network_of<'s>(
         «data».entry.now (seen_as n)) }
     ensures rejected { (text : List ℕ) → IsModel text (view.model declared.now) → IfErr result (IsStop (option_copied objective.entry) text «data».entry.now) }
 {
-    network_with(alloc, declared.model(), declared.hints(), data, objective)
+    let model = declared.model();
+    // The tokens and statements of the data are freed before the network is built.
+    let world = {
+        let tokens = lex_data(alloc, data)?;
+        let tables = parse_data(alloc, &tokens.words())?;
+        bind(alloc, model, declared.hints(), &tables)?
+    };
+    instantiate_for(alloc, model, &world, objective)
 }
 
 /// Returns the network of a model with its data, and its names, for the objective of the given name
