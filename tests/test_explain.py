@@ -8,7 +8,7 @@ import sys
 
 import pytest
 
-from cases import bread_mistakes, mistakes, planner_mistakes, port_mistakes
+from cases import bread_mistakes, habit_mistakes, mistakes, planner_mistakes, port_mistakes
 from lib.examples import rows
 from netflow.hints import diagnostic as diagnostics
 from netflow.hints import explanation
@@ -83,7 +83,8 @@ def mistakes_of_planners():
     """Yields texts, a mistake in them, the code and what has to be named, and what must not be said."""
     cases = [(bread_mistakes.TEXTS, *case, None) for case in bread_mistakes.MISTAKES]
     cases += [(port_mistakes.TEXTS, *case) for case in port_mistakes.MISTAKES]
-    return [pytest.param(whole, *case, id=name) for whole, name, *case in [*cases, *planner_mistakes.MISTAKES]]
+    cases += [*planner_mistakes.MISTAKES, *habit_mistakes.MISTAKES]
+    return [pytest.param(whole, *case, id=name) for whole, name, *case in cases]
 
 
 @pytest.mark.parametrize("whole, text, right, wrong, code, named, absent", mistakes_of_planners())

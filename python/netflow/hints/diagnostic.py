@@ -3,12 +3,12 @@ from __future__ import annotations
 
 import os
 import re
-import unicodedata
 from typing import TYPE_CHECKING, Iterator, Sequence
 
 from ..errors import ProgramError
 from ..program import HERE
 from ..reading.text import TOKEN, Token, read, tokens
+from .lookalikes import with_difference
 
 if TYPE_CHECKING:
     from ..inputs.instance import Instance
@@ -190,20 +190,12 @@ class Diagnostic:
 
     def hints(self) -> list[str]:
         """Returns the hints, sure ones first; if one is sure, only those that are."""
-        result = [(composed(text), is_sure) for text, is_sure in dict.fromkeys(self.graded_hints())]
+        result = [(with_difference(text), is_sure) for text, is_sure in dict.fromkeys(self.graded_hints())]
         sure = [text for text, is_sure in result if is_sure]
         return sure or [text for text, _ in result]
 
     def has_sure_hint(self) -> bool:
         return any(is_sure for _, is_sure in self.graded_hints())
-
-
-def composed(hint: str) -> str:
-    """Returns a hint that asks for the same name in other characters with the difference in words."""
-    match = re.fullmatch(r"(.+?): is (.+) meant\?", hint)
-    if match and match[1] != match[2] and len({unicodedata.normalize("NFC", match[part]) for part in (1, 2)}) == 1:
-        return f"{match[1]} looks like {match[2]}, but its letters are composed differently: copy the name from there"
-    return hint
 
 
 def catalogue(number: str) -> list[str]:

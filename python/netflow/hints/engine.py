@@ -6,12 +6,17 @@ whether this is sure.
 from __future__ import annotations
 
 import difflib
+import itertools
 import re
 
 from ..reading.text import TOKEN, tokens
+from . import cells as hints_cells
 from . import data as hints_data
+from . import declarations as hints_declarations
+from . import files as hints_files
 from . import forms as hints_forms
 from . import keys as hints_keys
+from . import members as hints_members
 from . import names as hints_names
 from . import network as hints_network
 from . import numbers as hints_numbers
@@ -34,13 +39,16 @@ PAIRS = {")": "(", "]": "[", "}": "{"}
 def hints_of(diagnostic: Diagnostic) -> Hints:
     """Yields the hints for an error. Some leave no doubt, and come without others, which would be wrong next to
     them."""
-    alone = [
-        found
-        for numbers, hint in (*hints_pasted.ALONE, *hints_numbers.ALONE, *hints_tables.ALONE, *hints_network.ALONE)
+    tables = (hints_files, hints_members, hints_cells, hints_declarations)
+    others = (hints_pasted, hints_numbers, hints_tables, hints_network)
+    found = (
+        hint
+        for table in (*tables, *others)
+        for numbers, hints in table.ALONE
         if diagnostic.number in numbers
-        for found in hint(diagnostic)
-    ]
-    yield from alone[:1] or all_hints(diagnostic)
+        for hint in hints(diagnostic)
+    )
+    yield from list(itertools.islice(found, 1)) or all_hints(diagnostic)
 
 
 def all_hints(diagnostic: Diagnostic) -> Hints:

@@ -8,7 +8,10 @@ import unicodedata
 
 from ..reading.text import tokens
 from .diagnostic import Diagnostic
-from .hint import Hints
+from .hint import Hints, HintTable
+
+# A carriage return that ends a line alone, inside a comment, which it does not end.
+LONE_RETURN = re.compile(r"#[^\n]*?\r(?![\r\n])[^\n]")
 
 
 def unread_file(diagnostic: Diagnostic) -> Hints:
@@ -97,3 +100,40 @@ def exchanged(diagnostic: Diagnostic) -> Hints:
 def empty_model(diagnostic: Diagnostic) -> Hints:
     if not list(tokens(diagnostic.texts.get("model", ""))):
         yield "the model is empty: is the first file the right one?", True
+
+
+def web_page(diagnostic: Diagnostic) -> Hints:
+    """The page of netflow-report as a model or as data."""
+    if re.match(r"(?i)\s*<(?:!doctype\s+html|html)\b", diagnostic.at()) and not diagnostic.before.strip():
+        name = diagnostic.called or "FILE.html"
+        kind = "a model" if diagnostic.text == "model" else "data"
+        yield f"{name} is a web page, not {kind}; to write a page: netflow-report MODEL DATA > {name}", True
+
+
+def code_fence(diagnostic: Diagnostic) -> Hints:
+    """The lines with three grave accents around code that is copied from a chat."""
+    if diagnostic.at().startswith("```"):
+        yield "``` is no part of the code, but marks it in a chat or in Markdown: delete each line with ```", True
+
+
+def lone_returns(diagnostic: Diagnostic) -> Hints:
+    """Lines that end with a carriage return alone, so that the first comment is the rest of the file."""
+    for kind, name in zip(("model", "data"), diagnostic.asked[2]):
+        text = diagnostic.texts.get(kind, "")
+        match = LONE_RETURN.search(text)
+        if match:
+            row = text.count("\n", 0, match.start()) + 1
+            place = diagnostic.rows_text([row]) if kind == "data" else f"line {row}"
+            yield (
+                f"the lines of the {kind} {name or ''} end with a carriage return (CR) alone, so that the comment"
+                f" in {place} goes on to the end: save the file with LF or CR LF as line ends"
+            ), True
+            return
+
+
+# As in hints_tables.
+ALONE: HintTable = (
+    (("E01", "E10"), web_page),
+    (("E01",), code_fence),
+    (("E10", "E12", "E14", "E20", "E30", "E32", "E56"), lone_returns),
+)

@@ -147,10 +147,15 @@ def early_end(diagnostic: Diagnostic) -> Hints:
 
 def two_conditions(diagnostic: Diagnostic) -> Hints:
     """`net_in >= 2, net_in <= 5`."""
-    match = re.search(r"(net_in|net_out)\s*>=\s*([^,;]*?)\s*$", diagnostic.before)
-    after = re.match(r",\s*(?:(net_in|net_out)\s*)?<=\s*([^,;]*)", diagnostic.at())
-    if diagnostic.text == "model" and match and after and after[1] in (None, match[1]) and after[1]:
-        yield f"a node has one condition: {match[2]} <= {match[1]} <= {after[2].strip()}", True
+    match = re.search(r"(net_in|net_out)\s*(<=|>=|=)\s*([^,;:]*?)\s*$", diagnostic.before)
+    after = re.match(r"(?:,|and\b|&&)\s*(?:(net_in|net_out)\s*)?(<=|>=|=)\s*([^,;]*)", diagnostic.at())
+    if diagnostic.text != "model" or not match or not after or not after[1]:
+        return
+    sides = {match[2]: match[3], after[2]: after[3].strip()}
+    if after[1] == match[1] and set(sides) == {"<=", ">="}:
+        yield f"a node has one condition: {sides['>=']} <= {match[1]} <= {sides['<=']}", True
+    else:
+        yield f"a node has one condition, and {after[1]} {after[2]} {after[3].strip()} is a second one", True
 
 
 HINTS: HintTable = (
