@@ -1,20 +1,57 @@
-"""What netflow accepts and is often a mistake: limits without an effect, declarations of arcs without arcs."""
+"""What netflow accepts and is often a mistake: limits without an effect, declarations of arcs without arcs, codes that
+are read as numbers."""
 from __future__ import annotations
 
 import re
 
+from ..exact import parse_numeral
 from ..inputs.instance import Instance
 from ..reading.model import Shapes, Unparsed, parse
 from ..reading.network import Network, Node
 from ..reading.text import tokens
 from .circles import circle_lines, nothing_flows
+from .omissions import nothing_required, omission_lines
+
+NAMED = 6
 
 
 def remark_lines(instance: Instance, net: Network) -> list[str]:
+    """Returns what is worth a look, for all tools."""
     model, data = instance.model.text(), [source.text() for source in instance.data]
-    lines = [*limits_without_effect(net), *without_arcs(net, model, data)]
-    lines += [*nothing_flows(net), *(circle_lines(net) if net.cut is None else [])]
-    return [*lines, *unused_parameters(instance, model, data), *ranges_in_data(data)]
+    nothing = [*nothing_required(net), *nothing_flows(net)]
+    lines = [*idle_lines(net, bool(nothing)), *omission_lines(net, model), *limits_without_effect(net)]
+    lines += [*without_arcs(net, model, data), *nothing, *(circle_lines(net) if net.cut is None else [])]
+    return [*lines, *unused_parameters(instance, model, data), *ranges_in_data(data), *codes_in_data(data)]
+
+
+def idle_lines(net: Network, is_explained: bool = False) -> list[str]:
+    """Returns a sentence for each kind of nodes and arcs without an effect: without arcs, flow or costs. `is_explained`
+    leaves out that nothing flows, if another line says why. In a maximum most arcs have no price."""
+    declared, has_plan = net.declared().items(), net.cut is None
+    met = {end for arc in net.arcs for end in (arc.src, arc.dst)}
+    unpriced = [name for name, arcs in declared if not any(arc.price for arc in arcs)]
+    found = (
+        ([node.text for number, node in enumerate(net.nodes) if number not in met], "has no arc", "have no arc"),
+        ([arc.text for arc in net.arcs if arc.lower == arc.upper == 0], "can carry nothing", "can carry nothing"),
+        (
+            unpriced if has_plan and net.sign > 0 and len(unpriced) < len(declared) else [],
+            "has no price",
+            "have no price",
+        ),
+        (
+            [name for name, arcs in declared if has_plan and not is_explained and not any(arc.flow for arc in arcs)],
+            "carries nothing",
+            "carry nothing",
+        ),
+    )
+    lines = [
+        f"{', '.join(names[:NAMED])}{' and others' * (len(names) > NAMED)} {one if len(names) == 1 else many}."
+        for names, one, many in found
+        if names
+    ]
+    if has_plan and declared and len(unpriced) == len(declared):
+        lines.append(f"No arc has a price, so every plan is worth {net.value}: is `obj {net.objective} ..` missing?")
+    return lines
 
 
 def unused_parameters(instance: Instance, model: str, data: list[str]) -> list[str]:
@@ -46,6 +83,26 @@ def ranges_in_data(data: list[str]) -> list[str]:
                     f"{name} has the text '{token.text}' as a member: data have no ranges: {meant} in the model?"
                 )
             name = "" if token.text == ";" or word == "param" else name
+    return lines
+
+
+def codes_in_data(data: list[str]) -> list[str]:
+    """Returns a line for each set of the data with a member such as 3E2, which is the number 300."""
+    lines: list[str] = []
+    statement = [""]
+    for text in data:
+        for token in tokens(text):
+            statement = [""] if token.text == ";" else [*statement[:3], token.text]
+            number = parse_numeral(token.text) if re.fullmatch(r"\d+[EeDd]\d+", token.text) else None
+            if (
+                number is not None
+                and statement[1] == "set"
+                and not any(f"{statement[2]} has" in line for line in lines)
+            ):
+                lines.append(
+                    f"{statement[2]} has the number {number} as a member, written as {token.text}: if it is a code,"
+                    f" quote it everywhere, '{token.text}'"
+                )
     return lines
 
 

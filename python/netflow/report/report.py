@@ -180,26 +180,8 @@ class Report:
 
     def remarks(self) -> str:
         """Returns what is allowed, and often a mistake."""
-        net, met = self.net, {end for arc in self.net.arcs for end in (arc.src, arc.dst)}
-        declared = net.declared().items()
-        found = (
-            ([node.text for number, node in enumerate(net.nodes) if number not in met], "has no arc", "have no arc"),
-            ([arc.text for arc in net.arcs if arc.lower == arc.upper == 0], "can carry nothing", "can carry nothing"),
-            ([name for name, arcs in declared if not any(arc.price for arc in arcs)], "has no price", "have no price"),
-            (
-                [name for name, arcs in declared if self.has_plan and not any(arc.flow for arc in arcs)],
-                "carries nothing",
-                "carry nothing",
-            ),
-        )
-        lines = [
-            f"{', '.join(names[:6])}{' and others' * (len(names) > 6)} {one if len(names) == 1 else many}."
-            for names, one, many in found
-            if names
-        ]
-        fractions = fractions_text(net)
-        lines += [f"{fractions[:1].upper()}{fractions[1:]}."] if fractions else []
-        lines += self.odd
+        fractions = fractions_text(self.net)
+        lines = [*([f"{fractions[:1].upper()}{fractions[1:]}."] if fractions else []), *self.odd]
         return section("Worth a look", bullets(lines)) if lines else ""
 
     def tables(self) -> list[str]:

@@ -212,20 +212,13 @@ def place_lines(net: Network, marginal: Marginal, most: int) -> list[str]:
 
 
 def warning_lines(net: Network) -> list[str]:
-    """Returns what is allowed and often a mistake: a value of 0, declarations of arcs without a price."""
-    unpriced = [name for name, arcs in net.declared().items() if not any(arc.price for arc in arcs)]
-    if net.arcs and not any(arc.price for arc in net.arcs):
-        return ["", f"No arc has a price, so every plan is worth {net.value}: is `obj {net.objective} ..` missing?"]
-    if net.value == 0:
-        return [
-            "",
-            (
-                f"The value is 0. Without a price: {few(unpriced, 5)}."
-                if unpriced
-                else "The value is 0: the plan uses no arc with a price."
-            ),
-        ]
-    return ["", f"Without a price: {few(unpriced, 5)}."] if unpriced else []
+    """Returns what is allowed and often a mistake: a value of 0, though arcs have prices."""
+    prices = [bool(arc.flow) for arc in net.arcs if arc.price]
+    return (
+        ["", "The value is 0: the plan uses no arc with a price."]
+        if net.value == 0 and prices and not any(prices)
+        else []
+    )
 
 
 def feasible_lines(net: Network, most: int) -> list[str]:
