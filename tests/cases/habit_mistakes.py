@@ -1,6 +1,6 @@
 """Mistakes by the habits of other modelling languages, spreadsheets, accounts and article numbers, in the bread of
 examples/bread and the cities of examples/cities. The fields are those of planner_mistakes."""
-from .planner_mistakes import BREAD, CITIES
+from .planner_mistakes import BREAD, CITIES, WEEKS
 
 NODES = {
     **BREAD,
@@ -50,6 +50,10 @@ MISTAKES = (
      "to is a reserved word: choose another name, such as to_members", "meant"),
     (BREAD, "no name of a parameter", "model", "param van >= 0;", "param integer >= 0;", "E10",
      "param is followed by a name, and integer is a reserved word", "choose"),
+    (BREAD, "no name of an arc", "model", "arc Drive {b in BAKERIES, s in SHOPS} >= 0, <= van,\n    from", "arc from",
+     "E10", "arc is followed by a name, and from is a reserved word: arc NAME from", "choose"),
+    (BREAD, "no name of a sum", "model", "minimize Total;", "minimize sum {s in SHOPS} wants[s];", "E10",
+     "the objective's name comes directly after minimize: minimize Total: sum ..", "choose"),
     (BREAD, "a fence of a chat", "model", "# Bread", "```ampl\n# Bread", "E01",
      "delete each line with ```", "write '"),
     (BREAD, "line ends of an old Mac", "model", "", BREAD["model"].replace("\n", "\r"), "E30",
@@ -61,6 +65,8 @@ MISTAKES = (
      "line 7 ends with ;, and line 8 goes on with cost: only the last row has a ;", "is set or param"),
     (BREAD, "a statement without param", "data", "param van := 40;", "van 40;", "E20",
      "is set or param missing before van?", "goes on"),
+    (BREAD, "a row without param below another one", "data", "north 60, south 50;\n",
+     "north 60,\nsouth 50;\nvan 40;\n", "E20", "is set or param missing before van?", "goes on"),
     (BREAD, "a blank of a spreadsheet between digits", "data", "van := 40", "van := 1\u202f080", "E01",
      "is 1080 meant? Digits are not grouped; the blank is NARROW NO-BREAK SPACE (U+202F)", "plain"),
     (BREAD, "a blank of a web page between words", "data", "hill 30", "hill\u00a030", "E01", "write a plain one",
@@ -69,6 +75,8 @@ MISTAKES = (
      "(4): is -4 meant? A negative number has a - before it", "look for"),
     (BREAD, "a negative value in parentheses", "data", "van := 40", "van := (40)", "E20", "(40): is -40 meant?",
      "look for"),
+    (WEEKS, "keys in parentheses", "data", "1 10 2 20 3 30", "(1) 10 (2) 20 (3) 30", "E20",
+     "the keys of a value have no parentheses: 1 10", "meant?"),
     (BREAD, "a sign after the number", "data", "4    6    9", "4-    6    9", "E36",
      "4-: is -4 meant? The sign comes before the number", "4O"),
     (BREAD, "a name with &", "data", "mill;", "H&M;", "E01", "quote the name: 'H&M'", "remove the character"),

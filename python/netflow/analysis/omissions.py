@@ -26,11 +26,11 @@ def missing_ends(net: Network) -> list[str]:
     place."""
     lines = []
     met = {end for arc in net.arcs for end in (arc.src, arc.dst)}
+    sides = (
+        ("from", "come from", [arc for arc in net.arcs if arc.src is None and arc.dst is not None]),
+        ("to", "go to", [arc for arc in net.arcs if arc.dst is None and arc.src is not None]),
+    )
     for name, nodes in declared_nodes(net).items():
-        sides = (
-            ("from", "come from", [arc for arc in net.arcs if arc.src is None and arc.dst is not None]),
-            ("to", "go to", [arc for arc in net.arcs if arc.dst is None and arc.src is not None]),
-        )
         gives, takes = any(node.low < 0 for node in nodes.values()), any(node.high > 0 for node in nodes.values())
         word, verb, arcs = sides[0] if gives else sides[1]
         if met & set(nodes) or not arcs or gives == takes:

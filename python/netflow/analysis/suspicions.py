@@ -19,9 +19,9 @@ def remark_lines(instance: Instance, net: Network) -> list[str]:
     """Returns what is worth a look, for all tools."""
     model, data = instance.model.text(), [source.text() for source in instance.data]
     nothing = [*nothing_required(net), *nothing_flows(net)]
-    lines = [*idle_lines(net, bool(nothing)), *omission_lines(net, model), *limits_without_effect(net)]
-    lines += [*without_arcs(net, model, data), *nothing, *(circle_lines(net) if net.cut is None else [])]
-    return [*lines, *unused_parameters(instance, model, data), *ranges_in_data(data), *codes_in_data(data)]
+    lines = [*omission_lines(net, model), *limits_without_effect(net), *without_arcs(net, model, data), *nothing]
+    lines += [*(circle_lines(net) if net.cut is None else []), *unused_parameters(instance, model, data)]
+    return [*lines, *ranges_in_data(data), *codes_in_data(data), *idle_lines(net, bool(nothing))]
 
 
 def idle_lines(net: Network, is_explained: bool = False) -> list[str]:

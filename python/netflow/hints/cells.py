@@ -7,6 +7,7 @@ import unicodedata
 
 from ..exact import parse_numeral
 from ..reading.text import Token, tokens
+from .data import declared
 from .diagnostic import Diagnostic
 from .hint import Hints, HintTable
 from .values import misspelt_statement
@@ -28,6 +29,7 @@ def semicolon_each_row(diagnostic: Diagnostic) -> Hints:
     last = rows.get(above, [])
     last = last[len(last) - last[::-1].index(":=") :] if ":=" in last else last
     is_row = diagnostic.before.strip() == "" and here[:1] != [";"] and not {":=", ":", "set", "param"} & set(here)
+    is_row = is_row and here[0] not in declared(diagnostic)
     statement = previous_statement(diagnostic)
     if (
         is_row
@@ -71,7 +73,12 @@ def parenthesised(diagnostic: Diagnostic) -> Hints:
     opened = "" if diagnostic.at().startswith("(") else "("
     match = re.match(r"\(\s*(\d+(?:\.\d+)?)\s*\)", opened + diagnostic.at())
     is_open = not opened or diagnostic.before.rstrip().endswith("(")
-    if diagnostic.text == "data" and words[:1] == ["param"] and ":=" in words and match and is_open:
+    if diagnostic.text != "data" or words[:1] != ["param"] or ":=" not in words or not match or not is_open:
+        return
+    # A number in parentheses that begins a row is a key.
+    before = [word for word in words if word != "("][-1]
+    is_key = before in (":=", ",") and not (opened + diagnostic.at())[match.end() :].lstrip().startswith(";")
+    if not is_key:
         yield f"({match[1]}): is -{match[1]} meant? A negative number has a - before it, and no parentheses", True
 
 

@@ -14,7 +14,7 @@ NAME = r"[A-Za-z_]\w*"
 # Words that are written in small letters, in capitals in SQL, spreadsheets and other modelling languages.
 OPERATORS = frozenset("and by cross diff div else if in inter mod not or sum then union within".split())
 # Words that can come after a name that is missing.
-PHRASES = {"default", "within", "in", "dimen", "symbolic", "integer"}
+PHRASES, ENDS = {"default", "within", "in", "dimen", "symbolic", "integer"}, {"from", "to", "obj"}
 KIND_NAMES = {"set": "members", "param": "value", "node": "place", "arc": "flow"}
 # The members before three dots, or before two with a comma, and the last one.
 SERIES = re.compile(r"(?<![\w.])(?P<first>\w+)(?:\s*,\s*(?P<second>\w+))?\s*,\s*\.\.\.?\s*,?\s*(?P<last>\w+)")
@@ -118,10 +118,13 @@ def reserved_name(diagnostic: Diagnostic) -> Hints:
     words, word = [token.text for token in diagnostic.statement_before()], diagnostic.word()
     if diagnostic.text != "model" or len(words) != 1 or words[0] not in DECLARING - {"check"} or word not in RESERVED:
         return
-    following = TOKEN.findall(diagnostic.at())[1:2]
-    if word in PHRASES:
+    following = (TOKEN.findall(diagnostic.at())[1:2] or [""])[0]
+    is_name = re.fullmatch(NAME, following) is not None
+    if words[0] in ("minimize", "maximize") and following in ("{", "("):
+        yield f"the objective's name comes directly after {words[0]}: {words[0]} Total: {word} ..", True
+    elif word in PHRASES or word in ENDS and is_name:
         yield f"{words[0]} is followed by a name, and {word} is a reserved word: {words[0]} NAME {word}", True
-    elif not (word in DECLARING and following and re.fullmatch(NAME, following[0])):
+    elif not (word in DECLARING and is_name):
         other = f"{word}_{KIND_NAMES.get(words[0], 'total')}"
         yield f"{word} is a reserved word: choose another name, such as {other}", True
 
