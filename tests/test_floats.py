@@ -75,13 +75,13 @@ def test_factor_that_is_too_small_names_the_cell():
 
 
 def test_nan_that_leaves_the_value_of_a_file():
-    """A NaN of a failed merge must not use the old number in silence; None says that on purpose."""
+    """A NaN of a failed merge must not use the old number in silence. A key that is left out says that on purpose."""
     data = "set S := Linz Wels;\nparam need := Linz 3 Wels 4;\n"
     with pytest.warns(UserWarning, match=r"need\['Wels'\] is NaN, .* the data text counts: 4"):
         assert netflow.solve(NEEDS, data, need={"Linz": 5, "Wels": float("nan")}).value == 9
     with warnings.catch_warnings():
         warnings.simplefilter("error")
-        assert netflow.solve(NEEDS, data, need={"Linz": 5, "Wels": None}).value == 9
+        assert netflow.solve(NEEDS, data, need={"Linz": 5}).value == 9
 
 
 def test_nan_names_the_file(tmp_path):

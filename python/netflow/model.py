@@ -11,7 +11,8 @@ from .hints.diagnostic import Diagnostic
 from .inputs.arguments import input_of, inputs_of, require_no_parameter, require_options
 from .inputs.grouped_digits import grouped_lines_of
 from .inputs.instance import Instance
-from .inputs.python_data import Layers, declared_text, override
+from .inputs.python_data import OPTIONS, Layers, declared_text, override
+from .inputs.python_values import read_once
 from .program import REJECTED, UNREADABLE_FILE
 from .reading.headings import headings
 from .reading.model import Shapes, Unparsed, parse
@@ -63,12 +64,23 @@ class Model(MutableMapping[str, Data]):
 
     def __setitem__(self, name: str, value: Data) -> None:
         self._require_declared(name)
-        self._values[name] = value
+        self._values[name] = read_once(name, value)
 
     def __delitem__(self, name: str) -> None:
         if name not in self._values:
             raise KeyError(f"{name} has no value from Python")
         del self._values[name]
+
+    def __setattr__(self, name: str, value: object) -> None:
+        """Sets an option. Raises AttributeError for a set or parameter, which `model["van"] = 25` changes, and for an
+        unknown name; a subclass can have attributes of its own."""
+        if name not in OPTIONS and not name.startswith("_"):
+            shapes = self._shapes()
+            if shapes is not None and name in (*shapes.names("set"), *shapes.names("param")):
+                raise AttributeError(f"{name} is no attribute of a Model: data are changed by model[{name!r}] = ..")
+            if type(self) is Model and not hasattr(Model, name):
+                raise AttributeError(f"a Model has no attribute {name}: its options are {', '.join(OPTIONS)}")
+        super().__setattr__(name, value)
 
     def __iter__(self) -> Iterator[str]:
         return iter(self._values)
@@ -121,14 +133,18 @@ class Model(MutableMapping[str, Data]):
     def _title(self) -> str:
         return os.path.basename(self._model.path) if self._model.path else "model"
 
+    def _shapes(self) -> Shapes | None:
+        """Returns the sets and parameters of the model; None if it is not read yet, or has an error."""
+        text = self._model.text() if "_model" in self.__dict__ else ""
+        try:
+            return Shapes(parse(text), text)
+        except Unparsed:
+            return None
+
     def _require_declared(self, name: str) -> None:
         """Raises DataError for a name that is no set and no parameter of the model."""
-        text = self._model.text()
-        try:
-            shapes = Shapes(parse(text), text)
-        except Unparsed:
-            return
-        if name not in (*shapes.names("set"), *shapes.names("param")):
+        shapes = self._shapes()
+        if shapes is not None and name not in (*shapes.names("set"), *shapes.names("param")):
             raise DataError(
                 f"{name}: the model declares no such set or parameter{declared_text(shapes, name, 'set', 'param')}"
             )

@@ -25,11 +25,13 @@ PLAIN_WORDS = {"=": ":=", "==": ":=", "!=": "<>", "binary": "in {0, 1}", "logica
 
 @dataclasses.dataclass
 class Converted:
-    """A model of nodes and arcs, with notes on what changed. `decls` are the sets and parameters."""
+    """A model of nodes and arcs, with notes on what changed. `decls` are the sets and parameters; `is_plain` if no
+    declaration had to be changed."""
 
     text: str
     decls: list[Decl]
     notes: list[str]
+    is_plain: bool = False
 
 
 class Conversion:
@@ -54,7 +56,13 @@ class Conversion:
         self.require()
         result = self.converted(decls, names)
         self.require()
-        return Converted(result, [item for item in decls if item.kind in ("set", "param")], self.notes)
+        kept = [item for item in decls if item.kind in ("set", "param")]
+        is_network = any(item.kind == "arc" for item in decls) and not parser.left_out
+        is_plain = is_network and all(
+            item.kind not in ("var", "constraint") and self.kept(item) == self.source[item.start : item.end]
+            for item in decls
+        )
+        return Converted(result, kept, self.notes, is_plain)
 
     def require(self) -> None:
         if self.problems:

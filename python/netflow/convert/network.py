@@ -13,6 +13,7 @@ from .indices import Index, Match, Names, index_of, match, simplified_sums, with
 from .linear import Collector, Term, total
 from .problems import Inexpressible
 from .sets import SetFacts
+from .side_constraints import side_constraint
 from .trees import braces, join, make, name, number, text, ungrouped
 
 FLIPPED = {"=": "=", "<=": ">=", ">=": "<=", "<": ">", ">": "<"}
@@ -155,6 +156,11 @@ class Analysis:
             balance.flip = unit(nets[0]) * (1 if nets[0].variable.value == "net_in" else -1)
         elif nets:
             raise Inexpressible(decl.start, f"{decl.name}: net_in and net_out belong to nodes")
+        arcs = [term for term in terms if term not in nets]
+        for term in arcs:
+            if not is_unit(term):
+                what = side_constraint(decl.name, term, arcs, index, self.network.variables)
+                raise Inexpressible(term.variable.start, coefficient_message(term, what))
         for term in terms:
             if term not in nets:
                 balance.signs.append(unit(term))
@@ -208,16 +214,22 @@ def chain(comparison: Expr) -> Expr:
     return join("and", [make(op, left, right) for op, left, right in pairs])
 
 
+def is_unit(term: Term) -> bool:
+    return not term.around.factors and abs(term.around.coefficient) == 1
+
+
 def unit(term: Term) -> int:
     """Returns the coefficient of a term, 1 or -1."""
-    if term.around.factors or abs(term.around.coefficient) != 1:
+    if not is_unit(term):
         raise Inexpressible(term.variable.start, coefficient_message(term))
     return int(term.around.coefficient)
 
 
-def coefficient_message(term: Term) -> str:
+def coefficient_message(term: Term, what: str = "") -> str:
+    """Returns what is wrong with a coefficient; `what` is the kind of constraint, if known."""
     size = dataclasses.replace(term.around, coefficient=abs(term.around.coefficient))
-    return f"`{text(size.product(term.variable))}`: the coefficient has to be 1 or -1, as an arc has no gains or losses"
+    said = what or "the coefficient has to be 1 or -1, as an arc has no gains or losses"
+    return f"`{text(size.product(term.variable))}`: {said}"
 
 
 def scaled(value: Expr, factor: Fraction, term: Term) -> Expr:

@@ -4,6 +4,7 @@ from __future__ import annotations
 from fractions import Fraction
 from typing import Any, Callable, Dict, Hashable, List, Mapping, Union
 
+from .attributes import warn_of_missing
 from .errors import graph_error
 from .networkx import Edge, Graph, edges_of, solved
 from .problem import Arc, GraphNumber, Numbers, Problem
@@ -26,6 +27,8 @@ def maximum_flow(
         raise graph_error("GraphError", "MultiGraph and MultiDiGraph not supported (yet).")
     number, index = Numbers(), {node: here for here, node in enumerate(flowG)}
     edges = [edge for edge in edges_of(flowG) if edge[0] != edge[1]]
+    rows = [data for *_, data in edges]
+    warn_of_missing("edge", capacity, "capacity", rows, (), "none has a limit")
     arcs = [_limited(index, number, edge, capacity) for edge in edges]
     if not flowG.is_directed():
         arcs += [Arc(arc.dst, arc.src, arc.capacity, arc.cost) for arc in arcs]
@@ -108,6 +111,9 @@ def _weighted(G: Graph, weight: Weight, number: Numbers | None = None) -> list[t
     """Returns the arcs of a graph with their weights; an undirected edge is two arcs."""
     number = number or Numbers()
     arcs = []
+    if isinstance(weight, str):
+        rows = [data for *_, data in edges_of(G)]
+        warn_of_missing("edge", weight, "weight", rows, (), "each counts 1")
     for src, dst, _, data in edges_of(G):
         for tail, head in ((src, dst),) if G.is_directed() else ((src, dst), (dst, src)):
             given = weight(tail, head, data) if callable(weight) else 1 if weight is None else data.get(weight, 1)

@@ -2,9 +2,11 @@
 from __future__ import annotations
 
 from fractions import Fraction
-from typing import Any, Dict, Hashable, Iterator, Mapping, Protocol, Tuple, Union
+from typing import Any, Callable, Dict, Hashable, Iterator, Mapping, Protocol, Sequence, Tuple, Union
 
-from ..errors import Infeasible, Unbounded
+from ..errors import Infeasible, NetflowError, Unbounded
+from ..reading.text import few
+from .attributes import warn_of_missing
 from .errors import graph_error, infeasible_graph
 from .problem import Arc, GraphNumber, Numbers, Problem, Result
 
@@ -55,6 +57,7 @@ def network_simplex(
         raise graph_error("GraphError", "graph has no nodes")
     supplies = {index[node]: -demand_of(number, node, amount) for node, amount in G.nodes(data=demand, default=0)}
     edges = edges_of(G)
+    warn_of_defaults(G, edges, demand, capacity, weight)
     arcs = [_arc_of(index, number, edge, capacity, weight) for edge in edges]
     total = -sum(supplies.values())
     if total:
@@ -64,7 +67,8 @@ def network_simplex(
     for (src, dst, _, _), arc in zip(edges, arcs):
         if arc.capacity is not None and arc.capacity < 0:
             raise infeasible_graph(f"edge {(src, dst)!r} has negative capacity")
-    result = solved(G, Problem(len(index), supplies, arcs, number.has_float), certify)
+    problem = Problem(len(index), supplies, arcs, number.has_float)
+    result = solved(G, problem, certify, lambda found: shortage(problem, list(index), number, found))
     flows: GraphFlows = {node: {} for node in G}
     for (src, dst, key, _), flow in zip(edges, result.flows):
         amount = number.shown(flow)
@@ -74,6 +78,14 @@ def network_simplex(
         else:
             flows[src][dst] = amount
     return number.shown(result.cost), flows
+
+
+def warn_of_defaults(G: Graph, edges: Sequence[Edge], demand: str, capacity: str, weight: str) -> None:
+    """Warns if no node or edge has an attribute, so that NetworkX's default counts everywhere."""
+    rows = [edge[3] for edge in edges]
+    warn_of_missing("node", demand, "demand", [data for _, data in G.nodes(data=True)], (), "none needs anything")
+    warn_of_missing("edge", capacity, "capacity", rows, (weight,), "none has a limit")
+    warn_of_missing("edge", weight, "weight", rows, (capacity,), "every cost is 0")
 
 
 def min_cost_flow(
@@ -105,15 +117,42 @@ def demand_of(number: Numbers, node: Hashable, amount: Any) -> Fraction:
     return result
 
 
-def solved(G: Graph, problem: Problem, certify: bool) -> Result:
-    """Returns the solution of a graph's problem; the exceptions name its nodes, and are NetworkX's too."""
+def solved(G: Graph, problem: Problem, certify: bool, reason: Callable[[Infeasible], str] = lambda found: "") -> Result:
+    """Returns the solution of a graph's problem; the exceptions name its nodes, and are NetworkX's too. `reason` is
+    added to the message if no flow is feasible."""
     try:
         return problem.solve(certify)
     except Infeasible as found:
-        nodes = list(G)
-        raise infeasible_graph(str(found), [nodes[place] for place in found.cut], found.side) from None
+        nodes, said = list(G), f"{found}{reason(found)}"
+        raise infeasible_graph(said, [nodes[place] for place in found.cut], found.side) from None
     except Unbounded as found:
         raise graph_error("UnboundedGraph", str(found)) from None
+
+
+def shortage(problem: Problem, nodes: Sequence[Hashable], number: Numbers, found: Infeasible) -> str:
+    """Returns in words what the nodes of a cut need or give, with the capacity of the edges there, and whether the
+    signs of the demands are the reason."""
+    inside = set(found.cut)
+    total = sum((problem.supplies.get(node, Fraction(0)) for node in inside), Fraction(0))
+    room = Fraction(0)
+    for arc in problem.arcs:
+        end, other = (arc.dst, arc.src) if total < 0 else (arc.src, arc.dst)
+        if end in inside and other not in inside and arc.capacity is not None:
+            room += arc.capacity
+    names, ending = few([repr(nodes[node]) for node in sorted(inside)], 3), "s" * (len(inside) == 1)
+    verb, way = ("need", "come") if total < 0 else ("give", "leave")
+    said = f": {names} {verb}{ending} {number.shown(abs(total))}, and {number.shown(room)} can {way}"
+    opposite = Problem(problem.count, {node: -supply for node, supply in problem.supplies.items()}, problem.arcs)
+    try:
+        opposite.solve()
+    except Infeasible:
+        return said
+    except NetflowError:
+        pass  # such as Unbounded, which has a flow
+    return (
+        f"{said}; with the opposite signs there is a flow: are they exchanged? A node that supplies units has a demand"
+        " below 0"
+    )
 
 
 def _arc_of(index: Mapping[Hashable, int], number: Numbers, edge: Edge, capacity: str, weight: str) -> Arc:

@@ -4,6 +4,7 @@ from __future__ import annotations
 
 import re
 
+from . import outputs
 from .data import bare, declared_as, listed
 from .diagnostic import Diagnostic
 from .hint import Hints, HintTable
@@ -100,6 +101,7 @@ def asks_flow(diagnostic: Diagnostic) -> Hints:
 
 # As in hints_tables.
 ALONE: HintTable = (
+    *outputs.ALONE,
     (("E20", "E21", "E31", "E33", "E36"), semicolons),
     (("E21",), corner),
     (("E31",), column_twice),

@@ -317,7 +317,7 @@ class Instance:
             ignore_outside=self.ignore_outside,
         )
         rewriting.run()
-        self.notes += rewriting.outside_lines
+        self.notes += rewriting.outside_lines + rewriting.idle_lines
         self.factors, self.edited = rewriting.factors, rewriting.edited
         self.changed, self.changed_text = rewriting.changed, rewriting.changed_text
         self.session.files = [self.session.write(text) for text in rewriting.texts()]

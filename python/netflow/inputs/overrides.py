@@ -1,6 +1,9 @@
 """What later data replace in earlier ones, as edits of their texts."""
 from __future__ import annotations
 
+import os
+from typing import Hashable, Sequence
+
 from ..reading.data import Cell, DataText
 from ..types import Edit
 from .python_data import PythonData
@@ -47,6 +50,32 @@ class Overrides:
                 (cell.token.start, cell.token.end, ".") for cell in statement.cells if (cell.name, cell.key) in cells
             ]
         return result
+
+
+def contents(piece: DataText) -> set[Hashable]:
+    """Returns what a data text gives: values by name and key, sets and defaults by name."""
+    result: set[Hashable] = {(cell.name, cell.key) for cell in piece.cells()}
+    for statement in piece.statements:
+        set_name = statement.name if statement.kind == "set" else statement.set_name
+        result |= {("set", set_name)} if set_name else set()
+        result |= {("default", statement.name)} if statement.default is not None else set()
+    return result
+
+
+def lines_without_effect(names: Sequence[str | None], pieces: Sequence[DataText]) -> list[str]:
+    """Returns a line for each data text that later ones override as a whole, and that has less than they have: it was
+    probably meant to come last. A text with the same contents is another version of the later one."""
+    titles = [os.path.basename(name) if name else f"data text {index}" for index, name in enumerate(names, 1)]
+    given, result = [contents(piece) for piece in pieces], []
+    for index, mine in enumerate(given[:-1]):
+        later: set[Hashable] = set().union(*given[index + 1 :])
+        if mine and mine < later:
+            after = [title for title, other in zip(titles[index + 1 :], given[index + 1 :]) if mine & other]
+            result.append(
+                f"{titles[index]} has no effect: {' and '.join(after)} {'gives' if len(after) == 1 else 'give'} all its"
+                f" values again, and later data override earlier ones: is {titles[index]} meant to come last?"
+            )
+    return result
 
 
 def blank(text: str, start: int, end: int) -> Edit:

@@ -12,7 +12,7 @@ from ..reading.data import member_text, set_statement
 from ..reading.model import Shapes
 from ..reading.text import few
 from ..types import Key, Member, Value
-from .python_values import Leaf, key_text, leaves_of, members_of
+from .python_values import Leaf, key_text, leaves_of, members_of, read_once
 from .scaling import BOUND, scaled_value
 
 OPTIONS = ("objective", "scale", "bounds")
@@ -26,6 +26,7 @@ def override(values: dict[str, Any], others: Mapping[str, Any]) -> None:
     """Adds sets and parameters to those of a dict, which they override."""
     for name, value in others.items():
         before = values.get(name)
+        value = read_once(name, value)
         values[name] = (
             Layers([*(before if isinstance(before, Layers) else [before]), value]) if name in values else value
         )
@@ -33,11 +34,13 @@ def override(values: dict[str, Any], others: Mapping[str, Any]) -> None:
 
 @dataclasses.dataclass
 class Remark:
-    """What a reader has to know of a value from Python: that NaN gave none, or the rounding (`value`)."""
+    """What a reader has to know of a value from Python: that NaN or None gave none (`missing`), or the rounding
+    (`value`)."""
 
     name: str
     key: Key
     value: Fraction | None
+    missing: str = ""
 
     def cell(self) -> str:
         return f"{self.name}[{', '.join(map(repr, self.key))}]" if self.key else self.name
@@ -46,8 +49,8 @@ class Remark:
 class PythonData:
     """Sets and parameters by name; `sets` are lists of tuples, `params` dicts from keys to a Fraction or a text.
     `origins` has for each line of the text its content: a name, with the key of its value or the member, or None if
-    the line is a statement's first or last. `rounded` has the floats with too many digits, `nans` the keys at which NaN
-    gives no value.
+    the line is a statement's first or last. `rounded` has the floats with too many digits, `missing` the keys at which
+    NaN or None gives no value.
 
     A part of a key that is a text in the form of a number becomes that number, unless a set has the text as a member:
     `texts` are those of the model and of data texts. With None every text stays one."""
@@ -68,7 +71,7 @@ class PythonData:
         self.params: dict[str, dict[Key, Value]] = {}
         self.origins: list[tuple[str, Key | None]] = []
         self.rounded: list[Remark] = []
-        self.nans: list[Remark] = []
+        self.missing: list[Remark] = []
         kept = None if texts is None else texts | {part for rows in self.sets.values() for row in rows for part in row}
         for name, given in layers.items():
             if name in keys:
@@ -85,7 +88,7 @@ class PythonData:
         computed: dict[Key, Fraction] = {}
         for key, leaf in leaves:
             if leaf.value is None:
-                self.nans += [Remark(name, key, None)] if leaf.is_nan else []
+                self.missing.append(Remark(name, key, None, leaf.missing))
                 continue
             rows[key] = leaf.value
             if leaf.is_computed and isinstance(leaf.value, Fraction):

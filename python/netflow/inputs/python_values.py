@@ -2,12 +2,14 @@
 from __future__ import annotations
 
 import dataclasses
+import inspect
 from typing import Any, Iterable, Iterator, Sized, Tuple
 
 from ..errors import DataError
 from ..exact import as_fraction, has_many_digits, parse_numeral
 from ..reading.data import KEY_NUMBER
 from ..types import Key, Member, Value
+from ..warning import warn
 
 # A key and a value as Python gives them.
 Pair = Tuple[Tuple[Any, ...], Any]
@@ -19,12 +21,26 @@ FORMS = "give a dict by key, a list of tuples (key, .., value), a list of dicts,
 
 @dataclasses.dataclass
 class Leaf:
-    """A value of a parameter: None if missing. `is_computed` for a float with more digits than netflow takes,
-    `is_nan` for a missing value that is NaN or NA, not None."""
+    """A value of a parameter: None if missing, and `missing` is then its word, None or NaN. `is_computed` for a float
+    with more digits than netflow takes."""
 
     value: Value | None
     is_computed: bool = False
-    is_nan: bool = False
+    missing: str = ""
+
+
+def read_once(name: str, value: Any) -> Any:
+    """Returns a value; what can be read only once, such as a generator, as a list. Raises DataError for a generator
+    that was read before, and warns if another iterator has nothing."""
+    if not hasattr(value, "__next__"):
+        return value
+    kind = "generator" if inspect.isgenerator(value) else type(value).__name__
+    if inspect.isgenerator(value) and inspect.getgeneratorstate(value) == inspect.GEN_CLOSED:
+        raise DataError(f"{name}: the {kind} has been read, and can be read only once: give a list, such as list(..)")
+    items = list(value)
+    if not items and kind != "generator":
+        warn(f"{name}: the {kind} has no items; it can be read only once, so give a list if it was read before")
+    return items
 
 
 def members_of(name: str, value: Any, size: int) -> list[Key]:
@@ -115,7 +131,7 @@ def key_part(part: Member, texts: set[Member] | None) -> Member:
 def leaf_of(name: str, key: Key, value: Any) -> Leaf:
     """Returns a number as a Fraction, a text, an infinite float, or a missing value."""
     if is_missing(value):
-        return Leaf(None, is_nan=value is not None)
+        return Leaf(None, missing="None" if value is None else "NaN")
     if isinstance(value, str):
         number = parse_numeral(value)
         return Leaf(value if number is None else number)

@@ -14,8 +14,9 @@ from ..reading.keys import shown
 from ..reading.memberships import Memberships
 from ..reading.model import Decl, Shapes, Unparsed, parse
 from ..types import Edit, Key
+from .command_changes import require_changes
 from .outside import Outside
-from .overrides import Overrides, numbered_cells
+from .overrides import Overrides, lines_without_effect, numbered_cells
 from .python_data import PythonData, declared_text
 from .scaling import BOUND, Factors, Scaler, scaled_value
 from .source import Input, texts_of
@@ -45,6 +46,7 @@ class Rewriting:
         self.scale, self.add_bounds, self.is_command = scale, add_bounds, is_command
         self.ignore_outside = ignore_outside
         self.outside_lines: list[str] = []
+        self.idle_lines: list[str] = []
         self.parsed, self.is_model_parsed = 0, False
         self.pieces: list[DataText] = []
         self.edited: dict[str, list[EditedText]] = {}
@@ -60,6 +62,9 @@ class Rewriting:
         for source in self.data:
             self.pieces.append(DataText(source.text(), params, shapes.sets))
             self.parsed += 1
+        self.idle_lines = lines_without_effect([source.name for source in self.data], self.pieces)
+        if self.is_command:
+            require_changes(self.changes, shapes, self.pieces)
         texts = None if self.is_command else texts_of(self.model, self.pieces)
         changed = self.changed = PythonData(self.changes, shapes.sets, params, texts, shapes)
         edits = [Overrides(self.pieces, changed).edits(piece) for piece in self.pieces]
@@ -187,17 +192,17 @@ class Rewriting:
         return found
 
     def remark_lines(self) -> list[str]:
-        """Returns what a reader has to know of values from Python: floats that were rounded, and NaN in place of which
-        a value of a file counts."""
+        """Returns what a reader has to know of values from Python: floats that were rounded, and NaN or None in place
+        of which a value of a file counts."""
         if self.changed is None:
             return []
         lines, shown_names = self.changed.rounding_lines(), set()
         cells: dict[tuple[str, Key], tuple[Cell, Input]] = {
             (cell.name, cell.key): (cell, source)
             for source, piece in zip(self.data, self.pieces)
-            for cell in (piece.cells() if self.changed.nans else ())
+            for cell in (piece.cells() if self.changed.missing else ())
         }
-        for remark in self.changed.nans:
+        for remark in self.changed.missing:
             value = self.changed.params[remark.name].get(remark.key)
             cell, source = cells.get((remark.name, remark.key), (None, None))
             if remark.name in shown_names or value is None and cell is None:
@@ -205,7 +210,9 @@ class Rewriting:
             shown_names.add(remark.name)
             where = "earlier data" if value is not None or source is None else source.name or "the data text"
             text = decimal_text(value) if isinstance(value, Fraction) else cell.token.text if cell else value
-            lines.append(f"{remark.cell()} is NaN, which gives no value, so that of {where} counts: {text}")
+            lines.append(
+                f"{remark.cell()} is {remark.missing}, which gives no value, so that of {where} counts: {text}"
+            )
         return lines
 
 

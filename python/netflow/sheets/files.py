@@ -20,10 +20,10 @@ ERROR_VALUE = re.compile(r"#(?:N/A|REF!|DIV/0!|VALUE!|NAME\?|NUM!|NULL!)")
 
 
 class Cell:
-    """The text of a cell, and its place."""
+    """The text of a cell, and its place. `mark` is what is between the cells of its file; empty in a workbook."""
 
-    def __init__(self, text: str, path: str, row: int, column: int) -> None:
-        self.text, self.path, self.row, self.column = text.strip(), path, row, column
+    def __init__(self, text: str, path: str, row: int, column: int, mark: str = "") -> None:
+        self.text, self.path, self.row, self.column, self.mark = text.strip(), path, row, column, mark
         self.is_number, self.is_date = isinstance(text, NumberText), isinstance(text, DateText)
 
     def place(self) -> str:
@@ -101,22 +101,34 @@ def read_sheet(source: str) -> list[list[Cell]]:
             texts: Iterable[Sequence[str]] = xlsx_rows(
                 source if not sheet.startswith(":") else f"{path}.xlsx", sheet[1:]
             )
+            mark = ""
         else:
-            texts = csv_rows(source)
+            texts, mark = csv_rows(source)
     except OSError as problem:
         raise ProgramError(UNREADABLE_FILE, f"netflow-sheet: {source}: {problem.strerror or problem}\n") from None
     rows = [
-        trimmed([Cell(text, source, row, column) for column, text in enumerate(line)]) for row, line in enumerate(texts)
+        trimmed([Cell(text, source, row, column, mark) for column, text in enumerate(line)])
+        for row, line in enumerate(texts)
     ]
     rows = [line for line in rows if line]
     if not rows:
-        raise ProgramError(REJECTED, f"netflow-sheet: {source}: the sheet is empty\n")
+        emptied = is_standard_output(source) and ", as the output goes to the same file, which the shell empties first:"
+        said = f"{emptied} send it to another file" if emptied else ""
+        raise ProgramError(REJECTED, f"netflow-sheet: {source}: the sheet is empty{said}\n")
     return rows
 
 
-def csv_rows(path: str) -> Iterable[Sequence[str]]:
-    """Yields the rows of a CSV file; the mark between cells is the one of comma, semicolon and tab that the first row
-    has most of."""
+def is_standard_output(path: str) -> bool:
+    """Whether a path is that of the file to which standard output goes."""
+    try:
+        return os.path.samestat(os.stat(path), os.fstat(1))
+    except OSError:
+        return False
+
+
+def csv_rows(path: str) -> tuple[Iterable[Sequence[str]], str]:
+    """Returns the rows of a CSV file and the mark between cells: the one of comma, semicolon and tab that the first row
+    has most of. A workbook has no mark."""
     if path == "-":
         raw = sys.stdin.buffer.read(MOST_BYTES + 1)
     else:
@@ -125,7 +137,10 @@ def csv_rows(path: str) -> Iterable[Sequence[str]]:
     if len(raw) > MOST_BYTES:
         raise ProgramError(REJECTED, f"netflow-sheet: {path}: more than 16 MiB, which no data file can have\n")
     if raw[:4] == b"PK\x03\x04":
-        return xlsx_rows(path, "")
+        return xlsx_rows(path, ""), ""
+    if raw[:4] == b"\xd0\xcf\x11\xe0":
+        said = "a workbook of an old form (.xls): save it as .xlsx, or as CSV in UTF-8"
+        raise ProgramError(REJECTED, f"netflow-sheet: {path}: {said}\n")
     encoding = "utf-16" if raw[:2] in (b"\xff\xfe", b"\xfe\xff") else "utf-8-sig"
     try:
         text = raw.decode(encoding)
@@ -135,7 +150,7 @@ def csv_rows(path: str) -> Iterable[Sequence[str]]:
         ) from None
     first = next((line for line in text.splitlines() if line.strip()), "")
     mark = max(",;\t", key=first.count)
-    return csv.reader(io.StringIO(text, newline=""), delimiter=mark)
+    return csv.reader(io.StringIO(text, newline=""), delimiter=mark), mark
 
 
 def trimmed(line: list[Cell]) -> list[Cell]:
@@ -148,8 +163,21 @@ def trimmed(line: list[Cell]) -> list[Cell]:
 def filled(line: list[Cell], width: int) -> list[Cell]:
     """Returns a row with as many cells as the heading has."""
     if len(line) > width:
-        line[width].reject("is to the right of the heading")
+        line[width].reject(f"is to the right of the heading{decimal_advice(line, width)}")
     return line + [Cell("", line[0].path, line[0].row, column) for column in range(len(line), width)]
+
+
+def decimal_advice(line: list[Cell], width: int) -> str:
+    """Returns which two cells of a row that is too long are probably one number with a decimal comma."""
+    pairs = [
+        f"{first.text},{second.text}"
+        for first, second in zip(line, line[1:])
+        if second.mark == "," and re.fullmatch("[+-]?[0-9]+", first.text) and re.fullmatch("[0-9]+", second.text)
+    ]
+    if len(line) != width + 1 or len(pairs) != 1:
+        return ""
+    quoted = f'write "{pairs[0]}" in quotes'
+    return f": is {pairs[0]} one number? Commas are between the cells: {quoted}, or save with semicolons"
 
 
 def stem(path: str) -> str:

@@ -13,9 +13,11 @@ from ..hints.diagnostic import Diagnostic
 from ..inputs.instance import Instance
 from ..program import REJECTED, USAGE
 from ..reading.network import Network
-from ..tools.command import instance_of, note_grouped
+from ..tools.command import instance_of, note, note_grouped
 from ..types import Number
 
+# Two whole numbers for a value with a key, which can be one with a decimal comma, as in `cost[north,hill]=4,15`.
+DECIMAL_COMMA = re.compile(r"[^=]*\]\s*=\s*[0-9]+,[0-9]{1,2}")
 CHANGE = re.compile(r"\w+(?:\[[^\]]*\])?\s*=\s*(?:'[^']*'|\"[^\"]*\"|\S+)")
 
 
@@ -27,6 +29,9 @@ def cases_of(arguments: argparse.Namespace) -> list[list[str]]:
         name, _, values = word.partition("=")
         if not values:
             raise ProgramError(USAGE, f"--vary {word}: expected NAME=VALUE,VALUE,..\n")
+        if DECIMAL_COMMA.fullmatch(word):
+            cases, meant = values.replace(",", " and "), values.replace(",", ".")
+            note([f"--vary {word} is two cases, {cases}: if one number is meant, write {meant}"])
         varied.append([f"{name}={value.strip()}" for value in values.split(",")])
     return result + ([list(values) for values in itertools.product(*varied)] if varied else [])
 
@@ -45,6 +50,9 @@ def answer_of(arguments: argparse.Namespace, changes: list[str], extra_data: lis
     asked.data = [*arguments.data, *(extra_data or [])]
     with instance_of(asked, changes) as instance:
         net = instance.network()[1]
+        if extra_data and instance.rewriting is not None:
+            # A plan with more data can replace those of the first plan as a whole.
+            instance.notes = [line for line in instance.notes if line not in instance.rewriting.idle_lines]
         note_grouped(instance)
         return net
 

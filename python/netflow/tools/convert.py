@@ -8,6 +8,7 @@ as a network, such as a side constraint, each such part is printed with its line
 from __future__ import annotations
 
 import os
+import shlex
 import sys
 from typing import Sequence
 
@@ -45,6 +46,9 @@ def main(arguments: Sequence[str]) -> int:
         )
         return REJECTED
     notes = made.notes + checked(files)
+    if made.is_plain:
+        name, words = file_name(parsed.model, "the model"), shlex.join([parsed.model, *parsed.data])
+        notes.insert(0, f"{name} has nodes and arcs, and nothing to convert: netflow-plan {words} takes it as it is")
     write(files, parsed.output, [parsed.model, *parsed.data], parsed.force)
     sys.stderr.write("".join(f"{NAME}: {note}\n" for note in notes))
     return 0
@@ -76,6 +80,7 @@ def converted(instance: Instance, model: str, data: Sequence[str]) -> tuple[list
         except Rejected as problem:
             lines += problem.lines
             continue
+        made.is_plain = made.is_plain and rows.split() == text.text().split()
         # Data from the model's file have empty lines in front, which keep the lines of messages.
         files.append((file_name(data[here], "data.dat"), rows) if data else (f"{stem(name)}.dat", rows.lstrip("\n ")))
     if lines:

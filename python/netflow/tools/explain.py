@@ -1,5 +1,6 @@
 """usage: netflow-explain MODEL [DATA ..] [--objective NAME] [--json] [--set NAME=VALUE] [--scale NAME=FACTOR] [--bounds]
        netflow-explain COMMAND FILE.. [OPTION..] [--json]
+       netflow-explain CODE
 
 Solves a model, with its decimals scaled, as the other tools do. If an input is rejected, the error line is followed by the place as
 editors take it, PATH:LINE:COLUMN, with a hint what was probably meant, the line of the input with a mark under the place, and what the
@@ -7,19 +8,21 @@ error means, or how to fix it. Further wrong names, keys and kinds of values in 
 error is a JSON object on standard output.
 
 With a COMMAND (solve, compile, min, check, ..) netflow runs with these words. Its output and exit status are passed on, and its
-error is explained. It rejects decimals (E04) unless there are several data files, --set, --scale or --bounds.
+error is explained. It rejects decimals (E04) unless there are several data files, --set, --scale or --bounds. With a CODE, such as
+E36, it prints what the code means, and how to fix the error.
 """
 from __future__ import annotations
 
 import os
+import re
 import subprocess
 import sys
 from typing import Sequence
 
 from .. import __version__
 from ..errors import ModelError, ProgramError
-from ..hints.diagnostic import LINE, TEXTS, Diagnostic
-from ..hints.explanation import explanation
+from ..hints.diagnostic import LINE, TEXTS, Diagnostic, catalogue
+from ..hints.explanation import explanation, indented
 from ..hints.later_errors import further_errors
 from ..inputs.grouped_digits import grouped_lines, grouped_lines_of
 from ..inputs.instance import Instance
@@ -136,6 +139,17 @@ def divided_text(instance: Instance, with_prices: bool) -> str:
     return written(net) + written_prices(net)
 
 
+def explain_code(code: str) -> int:
+    """Prints what a code means, and how to fix the error."""
+    means, remedy = catalogue(code)
+    if not means:
+        raise ProgramError(
+            USAGE, f"netflow-explain: {code} is no code of an error; docs/reference/errors.md lists them\n"
+        )
+    print("\n".join([*indented(f"{code}: {means}"), *(indented(f"To fix: {remedy}") if remedy else [])]))
+    return 0
+
+
 def main(arguments: Sequence[str]) -> int:
     if list(arguments[:1]) in ([], ["-h"], ["--help"]):
         print((__doc__ or "").strip(), file=sys.stdout if arguments else sys.stderr)
@@ -143,6 +157,8 @@ def main(arguments: Sequence[str]) -> int:
     if arguments[0] == "--version":
         print(f"netflow-explain {__version__}")
         return 0
+    if len(arguments) == 1 and re.fullmatch("E[0-9]{1,2}", arguments[0]) and not os.path.exists(arguments[0]):
+        return explain_code(arguments[0])
     asked, is_rewritten = [word for word in arguments if word != "--json"], False
     if not asked or asked[0] not in TEXTS and asked[0] not in ("help", "-V"):
         asked.insert(0, "solve")

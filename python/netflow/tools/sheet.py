@@ -34,12 +34,16 @@ from ..inputs.grouped_digits import GROUPED, meant
 from ..program import REJECTED
 from ..reading.data import PLAIN_NAME
 from ..sheets.files import Cell, column_number, filled, read_sheet, stem
+from ..sheets.keys import note_totals, require_keys_once
 from ..sheets.plans import plan
 from ..sheets.scenarios import diff, scenarios
 from .command import ToolParser, instance_of
 from .command import run as run_tool
 from .command import scale_of
 
+# The sections of a configuration, and their entries.
+SECTIONS = ("set", "list", "grid")
+ENTRIES = ("sheet", "heading", "columns", "keys", "set", "scale", "comma", "turned")
 KINDS = ("plan", "scenarios", "diff", "set", "list", "grid", "data")
 
 
@@ -71,6 +75,7 @@ def as_set(name: str, rows: list[list[Cell]], has_heading: bool) -> list[str]:
             " --heading\n"
         )
     width = len(rows[0]) if rows else 1
+    note_totals([row[0] for row in rows], [], f"a member of {name}")
     lines: dict[str, Cell] = {}
     for row in rows:
         members = [index.member() for index in filled(row, width)]
@@ -103,6 +108,9 @@ def as_list(rows: list[list[Cell]], keys: int, members: str, scale: dict[str, in
     cells = [[cell.value(scale.get(name, 1), has_comma) for name, cell in zip(names, row[keys:])] for row in body]
     note_decimals(names, cells)
     note_points([cell for row in body for cell in row[keys:]], has_comma)
+    require_keys_once(rows[0], body, cells)
+    if keys:
+        note_totals([row[0] for row in body], cells, f"a member of {members}" if members else "a key")
     lines = [" ".join([cell.member() for cell in row[:keys]] + values) for row, values in zip(body, cells)]
     return [f"param: {members + ': ' if members else ''}{' '.join(names)} :=", *lines, ";"]
 
@@ -163,6 +171,8 @@ def as_grid(name: str, rows: list[list[Cell]], is_turned: bool, scale: dict[str,
     cells = [[cell.value(scale.get(name, 1), has_comma) for cell in row[1:]] for row in body]
     note_decimals([name] * len(columns), cells)
     note_points([cell for row in body for cell in row[1:]], has_comma)
+    note_totals([row[0] for row in body], cells, f"a key of {name}")
+    note_totals(rows[0][1:], list(zip(*cells)), f"a key of {name}")
     lines = [" ".join([row[0].member(), *values]) for row, values in zip(body, cells)]
     return [f"param {name}{' (tr)' if is_turned else ''}: {' '.join(columns)} :=", *lines, ";"]
 
@@ -197,14 +207,7 @@ def data(arguments: argparse.Namespace, parser: ToolParser) -> list[str]:
     for title in config.sections():
         kind, _, name = title.partition(" ")
         entry = dict(config[title])
-        if kind not in ("set", "list", "grid") or "sheet" not in entry or kind != "list" and not name:
-            raise ProgramError(
-                REJECTED,
-                (
-                    f"netflow-sheet: {arguments.config}: [{title}]: expected [set NAME], [list NAME] or [grid NAME] with"
-                    " sheet = ..\n"
-                ),
-            )
+        require_section(arguments.config, title, entry)
         asked = [kind, *([name] if kind != "list" else []), os.path.join(folder, entry.pop("sheet"))]
         for option, value in entry.items():
             asked += (
@@ -216,6 +219,21 @@ def data(arguments: argparse.Namespace, parser: ToolParser) -> list[str]:
             )
         lines += statement(parser.parse_args(asked))
     return lines
+
+
+def require_section(config: str, title: str, entry: dict[str, str]) -> None:
+    """Rejects a section of a configuration without a known kind, a name, or a sheet."""
+    kind, _, name = title.partition(" ")
+    if kind in SECTIONS and "sheet" in entry and (name or kind == "list"):
+        return
+    said = "expected [set NAME], [list NAME] or [grid NAME] with sheet = .."
+    meant = difflib.get_close_matches(kind.lower(), SECTIONS, 1, 0.6)
+    others = [option for option in entry if option not in ENTRIES]
+    if kind not in SECTIONS and meant:
+        said = f"{kind}: is {meant[0]} meant? {said}"
+    elif kind in SECTIONS and "sheet" not in entry:
+        said = f"{others[0]}: is sheet meant? {said}" if others else f"the entry sheet is missing: {said}"
+    raise ProgramError(REJECTED, f"netflow-sheet: {config}: [{title}]: {said}\n")
 
 
 def build_parser() -> ToolParser:
