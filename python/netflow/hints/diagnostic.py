@@ -8,7 +8,7 @@ from typing import TYPE_CHECKING, Iterator, Sequence
 from ..errors import ProgramError
 from ..program import HERE
 from ..reading.text import TOKEN, Token, read, tokens
-from .lookalikes import with_difference
+from .habits.lookalikes import with_difference
 
 if TYPE_CHECKING:
     from ..inputs.instance import Instance

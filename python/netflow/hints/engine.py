@@ -10,13 +10,10 @@ import itertools
 import re
 
 from ..reading.text import TOKEN, tokens
-from . import cells as hints_cells
 from . import data as hints_data
-from . import declarations as hints_declarations
 from . import files as hints_files
 from . import forms as hints_forms
 from . import keys as hints_keys
-from . import members as hints_members
 from . import names as hints_names
 from . import network as hints_network
 from . import numbers as hints_numbers
@@ -29,6 +26,9 @@ from . import values as hints_values
 from .ampl import KEYWORDS, MEANT, REPLACEMENTS
 from .diagnostic import DECLARING, Diagnostic
 from .files import empty_model, exchanged, not_utf8, odd_character, unread_file
+from .habits import cells as hints_cells
+from .habits import declarations as hints_declarations
+from .habits import members as hints_members
 from .hint import Hints, HintTable
 
 FUNCTIONS = {"card", "abs", "next", "prev", "first", "last"}

@@ -4,9 +4,9 @@ from __future__ import annotations
 
 import re
 
-from . import outputs
 from .data import bare, declared_as, listed
 from .diagnostic import Diagnostic
+from .habits import outputs
 from .hint import Hints, HintTable
 from .tables import columns_of, head_of
 

@@ -4,11 +4,11 @@ from __future__ import annotations
 
 import re
 
-from ..reading.headings import items
-from ..reading.model import RESERVED
-from ..reading.text import TOKEN
-from .diagnostic import DECLARING, Diagnostic
-from .hint import Hints, HintTable
+from ...reading.headings import items
+from ...reading.model import RESERVED
+from ...reading.text import TOKEN
+from ..diagnostic import DECLARING, Diagnostic
+from ..hint import Hints, HintTable
 
 NAME = r"[A-Za-z_]\w*"
 # Words that are written in small letters, in capitals in SQL, spreadsheets and other modelling languages.

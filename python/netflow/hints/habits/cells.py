@@ -5,12 +5,12 @@ from __future__ import annotations
 import re
 import unicodedata
 
-from ..exact import parse_numeral
-from ..reading.text import Token, tokens
-from .data import declared
-from .diagnostic import Diagnostic
-from .hint import Hints, HintTable
-from .values import misspelt_statement
+from ...exact import parse_numeral
+from ...reading.text import Token, tokens
+from ..data import declared
+from ..diagnostic import Diagnostic
+from ..hint import Hints, HintTable
+from ..values import misspelt_statement
 
 BLANKS = "\u00a0\u2007\u2009\u202f"
 CODE = re.compile(r"\d+[EeDd]\d+")

@@ -4,13 +4,13 @@ from __future__ import annotations
 
 import re
 
-from ..errors import Unreadable
-from ..reading.model import Shapes, Unparsed, parse
-from ..reading.text import Token, few, tokens
-from .diagnostic import Diagnostic
-from .hint import Hints, HintTable
-from .keys import Key, Sets
-from .tables import columns_of, head_of
+from ...errors import Unreadable
+from ...reading.model import Shapes, Unparsed, parse
+from ...reading.text import Token, few, tokens
+from ..diagnostic import Diagnostic
+from ..hint import Hints, HintTable
+from ..keys import Key, Sets
+from ..tables import columns_of, head_of
 
 NUMBER = re.compile(r"[+-]?(?:\d+\.?\d*|\.\d+)(?:[eE][+-]?\d+)?")
 SHOWN = 6

@@ -4,8 +4,8 @@ from __future__ import annotations
 import os
 import re
 
-from .diagnostic import Diagnostic
-from .hint import Hints, HintTable
+from ..diagnostic import Diagnostic
+from ..hint import Hints, HintTable
 
 NAME = r"[A-Za-z_]\w*"
 PLAN = re.compile(rf"{NAME} = -?[0-9][0-9.]*\r?\n(?:{NAME} (?::=|= -?[0-9][0-9.]*)\r?\n|\Z)")

@@ -1,0 +1,1 @@
+"""Hints for mistakes by habit: what people write who come from other languages, sheets, chats and keyboards."""
