@@ -104,8 +104,8 @@ class Recorder:
         return list(self.cases.values())
 
 
-def by_program(command, inputs):
-    """Returns the status and text of the program for the inputs of a call."""
+def by_program(command, inputs, *options):
+    """Returns the status and text of the program for the inputs of a call, with these options more."""
     with tempfile.TemporaryDirectory() as room:
         words, files = [str(PROGRAM), command], []
         for number, it in enumerate(inputs):
@@ -115,7 +115,7 @@ def by_program(command, inputs):
                 path = pathlib.Path(room) / f"input{number}"
                 path.write_bytes(it)
                 files.append(str(path))
-        ran = subprocess.run([*words, *files], capture_output=True, stdin=subprocess.DEVNULL)
+        ran = subprocess.run([*words, *options, *files], capture_output=True, stdin=subprocess.DEVNULL)
         return answer_of(ran.returncode, ran.stdout, ran.stderr)
 
 

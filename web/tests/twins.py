@@ -61,15 +61,15 @@ def compare_drawings(twin, complaints):
     from netflow.report import drawing
     count = 0
     for model, data in drawn_models():
-        (status, compiled), (solved, answer) = (cases.by_program(it, [b"", False, model, data]) for it in ("compile", "solve"))
+        inputs = [b"", False, model, data]
+        (status, compiled), (solved, answer) = cases.by_program("compile", inputs), cases.by_program("solve", inputs, "--prices")
         if status:
             continue
         net, plan = texts.read_compiled(compiled.decode()), None
         if solved == 0:
-            plan = answer.decode()
+            plan, net.prices_text = texts.split_prices(answer.decode())
             texts.read_plan(plan, net)
-            certificate = cases.by_program("min", [net.problem.encode()])[1]
-            texts.read_prices(certificate.decode(), net)
+            texts.read_prices(net)
         arcs = list(range(len(net.arcs))) if len(net.arcs) <= 60 else [at for at, it in enumerate(net.arcs) if it.flow][:400]
         cut = sorted(texts.read_cut(answer.decode(), net)[1]) if solved == 2 else []
         across = [at for at, it in enumerate(net.arcs) if cut and (it.src in cut) != (it.dst in cut)]
