@@ -30,8 +30,9 @@ use Rattle.net_driver.specs.declared.compiled.Compiled.{Compiled}
 use Rattle.net_driver.specs.IsSolved.{IsSolved, IsOutcome}
 use Rattle.net_driver.specs.IsBuilt.{IsBuilt}
 use Rattle.net_driver.specs.Made.{profile_of}
-use Rattle.net_driver.specs.Meaning.{listed_label, node_declared, arc_declared, IsCompilation, IsSolution, IsPrinted}
+use Rattle.net_driver.specs.Meaning.{listed_label, node_declared, arc_declared, IsCompilation, IsSolution, IsPrinted, IsExplained}
 use Rattle.net_driver.specs.MeaningLaws.{CompilationsAreSound, SolutionsAreSound}
+use Rattle.net_driver.proofs.MissedCuts.{cuts_are_missed}
 use Rattle.net_driver.proofs.ModelMeaning.{sets_of, names_of, answers_solve, holds_moved}
 use Rattle.net_driver.proofs.ModelWorld.{is_world}
 use Rattle.net_inst.proofs.SoundProblems.{problems_represent}
@@ -160,16 +161,23 @@ module _ (represent : ProblemsRepresent) (worlds : WorldsAreSound) (models : mod
   printed c ns xs p (Displayed text numbers value) h = h.displayed
   printed c ns xs p (Infeasible text flags side) h = (h.violated, h.reported)
 
+  explained : (vs : List meaning.Node) (all : List meaning.Arc) (o : meaning.Objective) (c : Compiled) (outcome : Outcome) → Represents vs all o c.problem c.link → IsDistinct meaning.same_label (map (λ (a : meaning.Arc). a.label) all)
+      → IsPrinted c outcome → IsExplained vs all c.problem outcome
+  explained vs all o c (Displayed text numbers value) h apart k = tt
+  explained vs all o c (Infeasible text flags side) h apart k = cuts_are_missed vs all o c.problem c.link flags.items side h apart k.0
+
   -- the solved model, whose network is one of the declarations in the computed world
   pub solution_of : AssignmentsAreSound → HaveFeasible → HaveObjective → (lean : Bool) (wanted : Option Name) (m d : List ℕ) (a : Answer) (h : IsSolved lean wanted m d a)
       → (x : IsSolution wanted m d a) × IsNetwork wanted h.compiled.world (declarations h.compiled.declarations) x.compilation.nodes x.compilation.arcs x.compilation.objective
   solution_of sound fits aims lean wanted m d a h =
       let own = compilation_of lean wanted m d a.compiled h.compiled in
-      let solved = answers_solve represent sound fits aims lean wanted m d a h in (
+      let solved = answers_solve represent sound fits aims lean wanted m d a h in
+      let text = printed a.compiled (nodes h.compiled.world h.compiled.declarations) (arcs h.compiled.world h.compiled.declarations) h.compiled.objective a.outcome h.outcome in (
         record {
           compilation = own.0;
           holds = holds_moved wanted h.compiled.world (declarations h.compiled.declarations) _ own.0.nodes _ own.0.arcs _ own.0.objective a.outcome solved.network.is_network own.1 solved.holds;
-          printed = printed a.compiled (nodes h.compiled.world h.compiled.declarations) (arcs h.compiled.world h.compiled.declarations) h.compiled.objective a.outcome h.outcome;
+          printed = text;
+          explained = explained own.0.nodes own.0.arcs own.0.objective a.compiled a.outcome own.0.represents own.0.mean.is_network.arcs_apart text;
         },
         own.1,
       )

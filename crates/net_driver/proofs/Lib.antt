@@ -24,6 +24,9 @@ pub mod NoMemory
 mod NamedOnce
 mod OneNetwork
 mod ModelWorld
+mod CutSums
+mod ExactCuts
+pub mod MissedCuts
 mod ModelMeaning
 mod Compilations
 mod Extremes

@@ -1,19 +1,15 @@
 -- The printed prices prove the plan in the network that the two inputs mean.
-use Rattle.std.specs.Prelude.{◌≡◌, ◌↔◌, ◌&&◌, ◌+◌, ◌<◌, ℕ, zero, suc, Bool, true, false, List, [], ◌∷◌, ◌++◌, length, map, vec_len, slice_get, slice_index_or, Option, None, Some, Ok, if◌then◌else◌, ℤ, pos, ◌+ℤ◌, ◌-ℤ◌, ◌<ℤ◌, ◌≤ℤ◌}
+use Rattle.std.specs.Prelude.{◌≡◌, ◌&&◌, ◌+◌, ℕ, zero, suc, Bool, true, false, List, [], ◌∷◌, length, map, slice_get, slice_index_or, Option, None, Some, if◌then◌else◌, ℤ, pos, ◌+ℤ◌, ◌-ℤ◌}
 use Rattle.std.specs.List.{AllByRecursion, AllZip, IsDistinct}
-use Rattle.std.specs.Str.{bytes_eq}
 use Rattle.std.proofs.Common.{refl, ap, sym, subst, ◌∙◌, arith}
 use Rattle.std.proofs.lemmas.Int.{ints}
-use Rattle.std.proofs.lemmas.List.{length-map}
 use Rattle.std.proofs.lemmas.Slice.Eq.{bytes_eq-Decides}
 use Rattle.net_sets.specs.Sets.{Tuple, same_tuple}
 use Rattle.net_sets.proofs.Sames.{tuple_decides}
 use Rattle.net_tree.specs.Tree.{Declaration}
 use Rattle.net_expr.specs.Worlds.{Name, World}
-use Rattle.net_normal.specs.Assignments.{net_inflow, IsInRange, value_of}
-use Rattle.net_normal.specs.Links.{signed, mapped_back}
-use Rattle.net_normal.specs.Sums.{price_of}
-use Rattle.net_normal.specs.declared.instance.Instance.{Instance}
+use Rattle.net_normal.specs.Assignments.{net_inflow}
+use Rattle.net_normal.specs.Links.{signed}
 use Rattle.net_normal.specs.declared.instance.InstArc.{InstArc}
 use Rattle.net_normal.specs.declared.instance.NodeRange.{NodeRange}
 use Rattle.net_normal.specs.declared.instance.Sense.{Sense}
@@ -24,8 +20,8 @@ use Rattle.net_meaning.specs.Represents.{by_label}
 use Rattle.net_inst.specs.AsWritten as written
 use Rattle.net_inst.specs.declared.network.Named.{Named}
 use Rattle.net_inst.specs.Laws.{IsPlaceOf, HasEndsOf}
-use Rattle.net_inst.specs.Soundness.{IsSameNode, IsSameArc, HasBounds, HasAssignments, AssignmentsAreSound}
-use Rattle.net_inst.proofs.Feasible.{inflow_is, label_get, have_assignments}
+use Rattle.net_inst.specs.Soundness.{IsSameNode, IsSameArc, HasBounds, HasAssignments}
+use Rattle.net_inst.proofs.Feasible.{have_assignments}
 use Rattle.net_report.specs.Prices as printed
 use Rattle.net_driver.specs.PlanProofs.{price_at, reduced_costs, AreCoefficients, IsAtBound, IsAtSide, ProvePlan}
 use Rattle.net_driver.proofs.ModelMeaning.{flows_same, by_same}
@@ -43,12 +39,6 @@ label_is n v same =
     let indexed = same.indexed in
     let key = same.key in
     λ t. record { name = name t; indexed = indexed t; key = key t }
-
-written_at : (ns : List written.WrittenNode) (vs : List meaning.Node) (i : ℕ) (v : meaning.Node) → AllZip IsSameNode ns vs → slice_get vs i ≡ Some v → (n : written.WrittenNode) × (slice_get ns i ≡ Some n) × IsSameNode n v
-written_at ns [] i v same e = absurd (let k = e in cc)
-written_at [] (u ∷ vs) i v same e = absurd same
-written_at (n ∷ ns) (u ∷ vs) zero v same e = let is : u ≡ v = cc in (n, refl, subst (IsSameNode n) is same.0)
-written_at (n ∷ ns) (u ∷ vs) (suc i) v same e = written_at ns vs i v same.1 e
 
 meant_at : (ns : List written.WrittenNode) (vs : List meaning.Node) (i : ℕ) (l : written.WrittenLabel) → AllZip IsSameNode ns vs → slice_get (map (λ (n : written.WrittenNode). n.label) ns) i ≡ Some l → (v : meaning.Node) × (slice_get vs i ≡ Some v) × (v.label ≡ as_label l)
 meant_at [] vs i l same e = absurd (let k = e in cc)
@@ -124,30 +114,6 @@ zip_by_index R [] (y ∷ ys) long f = absurd (omega (arith, long))
 zip_by_index R (x ∷ xs) [] long f = absurd (omega (arith, long))
 zip_by_index R (x ∷ xs) (y ∷ ys) long f = (f 0 x refl, zip_by_index R xs ys (omega (arith, long)) (λ i z e. f (suc i) z e))
 
--- ---- net inflows
-
-at_end : (v : written.WrittenArc) (a : meaning.Arc) (x : meaning.Assignment) (l : written.WrittenLabel) (r q : Option (Name × Tuple)) → flow_on x a ≡ written.number_on x v → r ≡ q → (if is_at r (as_label l) then flow_on x a else pos 0) ≡ (if written.is_named l q then written.number_on x v else pos 0)
-at_end v a x l None q flow e = ap (λ (o : Option (Name × Tuple)). if written.is_named l o then written.number_on x v else pos 0) e
-at_end v a x l (Some r) q flow e =
-    ap (λ (n : ℤ). if is_at (Some r) (as_label l) then n else pos 0) flow
-    ∙ ap (λ (o : Option (Name × Tuple)). if written.is_named l o then written.number_on x v else pos 0) e
-
-flow_same : (v : written.WrittenArc) (a : meaning.Arc) (x : meaning.Assignment) → IsSameArc v a → flow_on x a ≡ written.number_on x v
-flow_same v a x same = ap (λ (n : Name). x n a.label.key) same.name ∙ ap (x v.label.name) same.key
-
-inflow_same : (xs : List written.WrittenArc) (all : List meaning.Arc) (x : meaning.Assignment) (l : written.WrittenLabel) → AllZip IsSameArc xs all → meaning.net_inflow all x (as_label l) ≡ written.net_inflow xs x l
-inflow_same [] [] x l h = omega (arith, ints)
-inflow_same [] (a ∷ all) x l h = absurd h
-inflow_same (v ∷ xs) [] x l h = absurd h
-inflow_same (v ∷ xs) (a ∷ all) x l h =
-    omega (
-      arith,
-      ints,
-      at_end v a x l a.to (written.to_end v) (flow_same v a x h.0) h.0.to,
-      at_end v a x l a.from (written.from_end v) (flow_same v a x h.0) h.0.from,
-      inflow_same xs all x l h.1,
-    )
-
 -- ---- the plan
 
 module _ (wanted : Option Name) (w : World) (ds : List Declaration) (n : Named) (s : HasAssignments wanted w ds n) (apart : written.AreDistinct (written.nodes w ds) (written.arcs w ds)) (ends : AllZip (HasEndsOf (map (λ (v : written.WrittenNode). v.label) (written.nodes w ds))) (written.arcs w ds) n.instance.arcs.items) where
@@ -165,14 +131,6 @@ module _ (wanted : Option Name) (w : World) (ds : List Declaration) (n : Named) 
 
   abbrev is : List InstArc
   is = n.instance.arcs.items
-
-  inflow : (i : ℕ) (v : meaning.Node) → slice_get vs i ≡ Some v → (x : meaning.Assignment) → meaning.net_inflow all x v.label ≡ net_inflow is (map (flow_on x) all) i
-  inflow i v at x =
-      let one = written_at ns vs i v s.has.same_nodes at in
-      ap (meaning.net_inflow all x) (label_is one.0 v one.2)
-      ∙ inflow_same xs all x one.0.label s.has.same_arcs
-      ∙ inflow_is (map (λ (v : written.WrittenNode). v.label) ns) i one.0.label apart.nodes (label_get ns i one.0 one.1) xs is x ends
-      ∙ ap (λ (ys : List ℤ). net_inflow is ys i) (sym (flows_same xs all x s.has.same_arcs))
 
   flows_are : (numbers : List ℤ) → length numbers ≡ length xs → map (flow_on (by_label all numbers)) all ≡ numbers
   flows_are numbers long =
@@ -205,8 +163,8 @@ module _ (wanted : Option Name) (w : World) (ds : List Declaration) (n : Named) 
       side i v at =
           let range = s.ranges i v at in
           let by = nodes i range.0 range.1 in
-          let own : meaning.net_inflow all x v.label ≡ net_inflow is numbers i = inflow i v at x ∙ ap (λ (ys : List ℤ). net_inflow is ys i) flows in
+          let own : meaning.net_inflow all x v.label ≡ net_inflow is numbers i = range.3 x ∙ ap (λ (ys : List ℤ). net_inflow is ys i) flows in
           record {
-            positive = λ q z h. let least = by.positive q (net_inflow is (map (flow_on z) all) i) ((range.2 z).0 h) in omega (arith, ints, least, own, inflow i v at z);
-            negative = λ q z h. let most = by.negative q (net_inflow is (map (flow_on z) all) i) ((range.2 z).0 h) in omega (arith, ints, most, own, inflow i v at z);
+            positive = λ q z h. let least = by.positive q (meaning.net_inflow all z v.label) ((range.2 (meaning.net_inflow all z v.label)).0 h) in omega (arith, ints, least, own);
+            negative = λ q z h. let most = by.negative q (meaning.net_inflow all z v.label) ((range.2 (meaning.net_inflow all z v.label)).0 h) in omega (arith, ints, most, own);
           }

@@ -1,8 +1,8 @@
 -- What a compiled model and a solved model say of the network that the two inputs mean (AMPL book, chapter 15; First DIMACS Implementation
 -- Challenge, minimum-cost flow). The meaning of sets, parameters, expressions and networks is that of net_meaning, which has no errors and no
 -- defaults; no definition of the code's evaluation is cited.
-use Rattle.std.specs.Prelude.{◌≡◌, ℕ, List, [], ◌∷◌, ◌++◌, map, Option, is_some, length, ℤ}
-use Rattle.std.specs.List.{flat_map, IsDistinct}
+use Rattle.std.specs.Prelude.{◌≡◌, ℕ, Bool, not, if◌then◌else◌, List, [], ◌∷◌, ◌++◌, map, Option, is_some, length, ⊤, ℤ, ◌+ℤ◌, ◌-ℤ◌, ◌≤ℤ◌}
+use Rattle.std.specs.List.{AllByRecursion, AllZip, flat_map, IsDistinct}
 use Rattle.std.specs.Str.{bytes_eq}
 use Rattle.net_lex.specs.Lexing.{AreTokensOf}
 use Rattle.net_lex.specs.declared.token.Token.{Token}
@@ -11,7 +11,9 @@ use Rattle.net_base.specs.declared.diagnostic.Language.TheVariants as languages
 use Rattle.net_model.specs.GrammarOfDeclarations.{IsModel}
 use Rattle.net_data.specs.declared.statement.Tables.{Tables}
 use Rattle.net_data.specs.Grammar.{IsDataFile}
-use Rattle.net_check.specs.Certificates.{IsViolatedCut}
+use Rattle.net_check.specs.Certificates.{is_in, IsViolatedCut}
+use Rattle.net_check.specs.declared.certificate.Side.{Side}
+use Rattle.net_check.specs.declared.certificate.Side.TheVariants.{Over, Under}
 use Rattle.net_dimacs.specs.Problems.{IsProblemText, IsOnlyProblem}
 use Rattle.net_dimacs.specs.Written.{problem_text}
 use Rattle.net_expr.specs.Worlds.{Name, World}
@@ -19,10 +21,12 @@ use Rattle.net_inst.specs.AsWritten as written
 use Rattle.net_inst.specs.declared.network_names.Declared.{Declared}
 use Rattle.net_inst.specs.declared.network_names.Names.{Names}
 use Rattle.net_inst.specs.Laws.{AreNames}
-use Rattle.net_meaning.specs.Network.{Label, Node, Arc, Objective, Assignment, IsNetwork, IsEvaluated, IsFeasible, HasValue}
-use Rattle.net_meaning.specs.Represents.{Represents, by_label}
+use Rattle.net_meaning.specs.Network.{Label, Node, Arc, Objective, Assignment, IsNetwork, IsEvaluated, net_inflow, AreWithinBounds, IsSatisfied, IsSatisfiedBy, IsFeasible, HasValue}
+use Rattle.net_normal.specs.declared.problem.Problem.{Problem}
+use Rattle.net_normal.specs.Sums.{sum_of}
+use Rattle.net_meaning.specs.Represents.{magnitude, Represents, by_label}
 use Rattle.net_meaning.specs.World.{names_in, IsWorld}
-use Rattle.net_report.specs.Cuts.{cut_text}
+use Rattle.net_report.specs.Cuts.{need, room, cut_text}
 use Rattle.net_report.specs.Displays.{display_of_all}
 use Rattle.net_report.specs.Links.{link_text}
 use Rattle.net_driver.specs.declared.answer.Answer.{Answer}
@@ -116,8 +120,45 @@ abbrev pub IsPrinted : Compiled → Outcome → Type 0
 IsPrinted c (Displayed text numbers value) = text.items ≡ display_of_all c.names numbers.items value
 IsPrinted c (Infeasible text flags side) = IsViolatedCut c.problem flags.items side × (text.items ≡ cut_text c.names c.problem flags.items side)
 
--- The solved model is that of the two inputs: its compiled model is, the outcome holds in the network, and the text prints it.
+-- the nodes with these marks
+abbrev pub marked : List Node → List Bool → List Node
+marked [] flags = []
+marked (v ∷ vs) [] = []
+marked (v ∷ vs) (flag ∷ flags) = if flag then v ∷ marked vs flags else marked vs flags
+
+-- the nodes of the model that a cut is about: those of its set or, if the node outside is in the set, those that are not
+abbrev pub nodes_of_cut : List Node → List Bool → List Node
+nodes_of_cut vs flags = marked vs (if is_in flags (length vs) then map not flags else flags)
+
+-- the difference of the two numbers of a cut
+abbrev pub shortage : Problem → List Bool → Side → ℤ
+shortage problem flags Over = need problem flags -ℤ room problem flags Over
+shortage problem flags Under = room problem flags Under -ℤ need problem flags
+
+-- numbers for these nodes, one each: added to their net inflows, they make each of their conditions true
+abbrev pub AreMisses : List Node → List Arc → Assignment → List ℤ → Type 0
+AreMisses vs all x ds = AllZip (λ v d. IsSatisfied v.env v.condition (net_inflow all x v.label +ℤ d)) vs ds
+
+-- these numbers sum to exactly this for some assignment within the bounds, apart from the sign of the sum
+abbrev pub IsExactlyMissed : List Node → List Arc → ℤ → Type 0
+IsExactlyMissed vs all short = (x : Assignment) × (ds : List ℤ) × AreWithinBounds all x × AreMisses vs all x ds × (magnitude (sum_of ds) ≡ short)
+
+-- No assignment within the bounds makes the conditions of these nodes all true: together it misses them by at least this much, and some
+-- assignment by exactly this.
+pub record AreMissed (vs : List Node) (all : List Arc) (short : ℤ) : Type 0 where
+  pub contradict : (x : Assignment) → AreWithinBounds all x → ¬ AllByRecursion (IsSatisfiedBy all x) vs
+  pub missing : (x : Assignment) (ds : List ℤ) → AreWithinBounds all x → AreMisses vs all x ds → short ≤ℤ sum_of (map magnitude ds)
+  pub exact : IsExactlyMissed vs all short
+
+-- a cut's nodes are those whose conditions are missed, by the difference of its two numbers
+abbrev pub IsExplained : List Node → List Arc → Problem → Outcome → Type 0
+IsExplained vs all problem (Displayed text numbers value) = ⊤
+IsExplained vs all problem (Infeasible text flags side) = AreMissed (nodes_of_cut vs flags.items) all (shortage problem flags.items side)
+
+-- The solved model is that of the two inputs: its compiled model is, the outcome holds in the network, the text prints it, and a cut says what is
+-- missing there.
 pub record IsSolution (requested : Option Name) (model_text data_text : List ℕ) (a : Answer) : Type 0 where
   pub compilation : IsCompilation requested model_text data_text a.compiled
   pub holds : HoldsIn compilation.nodes compilation.arcs compilation.objective a.outcome
   pub printed : IsPrinted a.compiled a.outcome
+  pub explained : IsExplained compilation.nodes compilation.arcs a.compiled.problem a.outcome

@@ -1,17 +1,20 @@
 -- Laws about the network that the two inputs mean.
-use Rattle.std.specs.Prelude.{◌≡◌, ℕ, Bool, List, Option}
+use Rattle.std.specs.Prelude.{◌≡◌, ℕ, Bool, List, map, Option}
+use Rattle.std.specs.List.{IsDistinct}
+use Rattle.net_check.specs.Certificates.{IsViolatedCut}
+use Rattle.net_check.specs.declared.certificate.Side.{Side}
 use Rattle.net_tree.specs.Erasure.{declarations}
 use Rattle.net_tree.specs.Syntax.{Declaration}
 use Rattle.net_normal.specs.declared.problem.Link.{Link}
 use Rattle.net_normal.specs.declared.problem.Problem.{Problem}
 use Rattle.net_expr.specs.Worlds.{Name, World}
-use Rattle.net_meaning.specs.Network.{Node, Arc, Objective, IsNetwork}
+use Rattle.net_meaning.specs.Network.{Node, Arc, Objective, same_label, IsNetwork}
 use Rattle.net_meaning.specs.Represents.{Represents}
 use Rattle.net_driver.specs.declared.answer.Answer.{Answer}
 use Rattle.net_driver.specs.declared.compiled.Compiled.{Compiled}
 use Rattle.net_driver.specs.IsSolved.{IsSolved}
 use Rattle.net_driver.specs.IsBuilt.{IsBuilt}
-use Rattle.net_driver.specs.Meaning.{IsCompilation, HoldsIn, IsSolution}
+use Rattle.net_driver.specs.Meaning.{IsCompilation, HoldsIn, nodes_of_cut, shortage, AreMissed, IsSolution}
 
 -- a compiled model that satisfies the main theorem by the stages is one by the meaning of the inputs
 abbrev pub CompilationsAreSound : Type 0
@@ -50,3 +53,9 @@ pub record SolvesModel (wanted : Option Name) (w : World) (ds : List Declaration
 abbrev pub AnswersSolveModels : Type 0
 AnswersSolveModels = (lean : Bool) (wanted : Option Name) (model_text data_text : List ℕ) (a : Answer) (h : IsSolved lean wanted model_text data_text a)
     → SolvesModel wanted h.compiled.world (declarations h.compiled.declarations) a
+
+-- every assignment within the bounds misses the conditions of the nodes of a violated cut, by at least the difference of the cut's two numbers;
+-- this holds of every problem that represents a network in which no two arcs have the same label
+abbrev pub CutsAreMissed : Type 0
+CutsAreMissed = (vs : List Node) (all : List Arc) (o : Objective) (problem : Problem) (link : Link) (flags : List Bool) (side : Side) → Represents vs all o problem link
+    → IsDistinct same_label (map (λ (a : Arc). a.label) all) → IsViolatedCut problem flags side → AreMissed (nodes_of_cut vs flags) all (shortage problem flags side)

@@ -24,7 +24,7 @@ ghost use Rattle.net_driver.specs.LineNames.{BuiltNamesAreExact, NamesAreExact};
 ghost use Rattle.net_bind.specs.Binding as binding;
 ghost use Rattle.net_base.specs.declared.diagnostic.Language.TheVariants as languages;
 ghost use Rattle.net_driver.specs.PlanProofs.{PricedPlansAreProved, PricesProve};
-ghost use Rattle.net_driver.specs.MeaningLaws.{CompilationsAreSound, SolutionsAreSound, AnswersSolveModels, CompiledProblemsRepresent, NetworksAreUnique};
+ghost use Rattle.net_driver.specs.MeaningLaws.{CompilationsAreSound, SolutionsAreSound, AnswersSolveModels, CompiledProblemsRepresent, NetworksAreUnique, CutsAreMissed};
 
 /// Theorem: a model without name errors declares no name of nodes twice, and no name of arcs.
 pub fn names_are_declared_once()
@@ -139,4 +139,10 @@ pub fn prices_prove_plans()
 /// mean.
 pub fn printed_prices_prove_plans()
     ensures value { PricedPlansAreProved }
+{}
+
+/// Theorem: whatever the flows within the bounds, they miss the conditions of the nodes of a cut, by
+/// at least the difference of the cut's two numbers.
+pub fn cuts_are_missed()
+    ensures value { CutsAreMissed }
 {}

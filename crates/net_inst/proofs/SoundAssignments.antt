@@ -19,7 +19,7 @@ use Rattle.net_linear.specs.declared.condition.Sides.{Sides}
 use Rattle.net_linear.specs.Conditions.{Holds, sides_in, uncrossed}
 use Rattle.net_linear.proofs.ConditionsSound.{conditions_are_sound, sides_have_numbers}
 use Rattle.net_meaning.specs.Network as meaning
-use Rattle.net_meaning.specs.Network.{is_at, with_inflow, HasSides, IsSatisfied, IsSatisfiedBy, IsExpressionValue}
+use Rattle.net_meaning.specs.Network.{is_at, with_inflow, HasSides, IsSatisfied, IsExpressionValue}
 use Rattle.net_meaning.specs.Operators as values
 use Rattle.net_meaning.specs.Values.{Env, env_of}
 use Rattle.net_meaning.proofs.Unique.{values_are_unique, number_same}
@@ -274,7 +274,7 @@ assignments_are_sound requested w ds n sets names good e = record {
     all_ranges = (all_written requested w ds f.drawing f.is_built).nodes.ranges
 
     ranges : (i : ℕ) (v : meaning.Node) → slice_get found.has.nodes i ≡ Some v → IsRangeAt n.instance found.has.arcs i v
-    ranges i v at = (one.range, one.range_at, λ x. subst (λ y. IsSatisfiedBy found.has.arcs x v ↔ IsInRange one.range y) (inflow x) (condition_alike (written.nodes w ds) v f.drawing.nodes.ranges n.instance.nodes.items i one (meaning.net_inflow found.has.arcs x v.label)))
+    ranges i v at = (one.range, one.range_at, condition_alike (written.nodes w ds) v f.drawing.nodes.ranges n.instance.nodes.items i one, inflow)
       where
         one : IsFoundAt (written.nodes w ds) v f.drawing.nodes.ranges n.instance.nodes.items i
         one = found_at i (written.nodes w ds) found.has.nodes f.drawing.nodes.ranges n.instance.nodes.items v found.has.same_nodes (conditions_of w sets 0 ds good) all_ranges (have_exact_ranges requested w ds (seen_as n) e) at

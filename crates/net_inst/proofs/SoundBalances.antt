@@ -1,8 +1,9 @@
--- In the normal form and the lean form, the supply of each node stands for its range, whether or not the other nodes can be balanced; and the
--- cost of any flow gives the value of its assignment.
-use Rattle.std.specs.Prelude.{◌≡◌, ◌≢◌, ◌+◌, ℕ, List, [], ◌∷◌, ◌++◌, length, map, slice_get, Option, None, Some, vec_len, ⊤, ℤ, pos, ◌+ℤ◌, ◌-ℤ◌, ◌≤ℤ◌, neg_ℤ, nat_eq}
+-- In the normal form and the lean form, the supply of each node stands for its range, whether or not this or the other nodes can be balanced; and
+-- the cost of any flow gives the value of its assignment.
+use Rattle.std.specs.Prelude.{◌≡◌, ◌≢◌, ◌+◌, ◌≤◌, ℕ, suc, true, false, if◌then◌else◌, List, [], ◌∷◌, ◌++◌, length, map, slice_get, Option, None, Some, vec_len, ⊤, ℤ, pos, ◌+ℤ◌, ◌-ℤ◌, ◌≤ℤ◌, neg_ℤ, nat_eq}
 use Rattle.std.specs.Int.{int_min, int_max}
-use Rattle.std.specs.List.{AllZip}
+use Rattle.std.specs.List.{AllByRecursion, AllZip}
+use Rattle.std.specs.Option.{ForSome}
 use Rattle.std.proofs.Common.{refl, ap, sym, ◌∙◌, subst, arith}
 use Rattle.std.proofs.lemmas.Int.{ints, clamps}
 use lib.IntN.{neg_ℤ-neg_ℤ}
@@ -18,17 +19,17 @@ use Rattle.net_normal.specs.declared.problem.Problem.{Problem}
 use Rattle.net_normal.specs.declared.profile.Profile.{Profile}
 use Rattle.net_normal.specs.Flows.{net_outflow, IsWithinCapacity, cost_of}
 use Rattle.net_normal.specs.Links.{signed, mapped_back, mapped_back_by, value_at}
-use Rattle.net_normal.specs.NormalForm.{offsets_of, numbers_from, flow_arc_of, written_arcs, least_inflow, most_inflow, low_of, high_of, shift_of, supply_of, supplies_from, slack_arcs_from, IsFormIn}
+use Rattle.net_normal.specs.NormalForm.{offsets_of, is_left_out, numbers_from, flow_arc_of, written_arcs, least_inflow, most_inflow, low_side, high_side, low_of, high_of, shift_of, supply_of, supplies_from, slack_arcs_from, IsFormIn}
 use Rattle.net_normal.specs.Sums.{price_of, sum_of}
 use Rattle.net_normal.proofs.ArcMapsBack.{length-offsets, lessened-within}
 use Rattle.net_normal.proofs.ArcSums.{added, lessened, added-lessened, flow_on-append, flow_on-added, flow_on-le, flow_on-ge, price_of-append, price_of-added, zipped_parts, zipped_whole, zipped-weaker, zipped-length}
 use Rattle.net_normal.proofs.NodeRuns.{EachNode, each-get_from_zero, each-from_get_zero, slice_get-inside}
-use Rattle.net_normal.proofs.RangeSides.{within_sides, from_low_side, from_high_side, sides-ordered}
+use Rattle.net_normal.proofs.RangeSides.{from_low_side, from_high_side, sides-ordered}
 use Rattle.net_normal.proofs.RoomArcs.{room_out, room_in-none, room_price-zero, surplus_from}
 use Rattle.net_normal.proofs.Supplies.{each_supply}
 use Rattle.net_normal.proofs.Surplus.{IsBetween, CarriesOff, surplus_determined, surplus_serves}
 use Rattle.net_normal.proofs.Written.{spread, kept, length-spread, written_outflow, written_price, kept-within, spread-kept, mapped_back_is}
-use Rattle.net_meaning.specs.Represents.{IsBalanced}
+use Rattle.net_meaning.specs.Represents.{Lacks, CarriesSpare, magnitude}
 
 -- the net inflow is between the least and the greatest that the arcs' bounds allow
 inflow_between : (arcs : List InstArc) (x : List ℤ) (i : ℕ) → AllZip IsWithinBounds arcs x → (least_inflow arcs i ≤ℤ net_inflow arcs x i) × (net_inflow arcs x i ≤ℤ most_inflow arcs i)
@@ -59,6 +60,38 @@ zip_any [] [] e = tt
 zip_any [] (y ∷ ys) e = absurd (omega (arith, e))
 zip_any (a ∷ arcs) [] e = absurd (omega (arith, e))
 zip_any (a ∷ arcs) (y ∷ ys) e = (tt, zip_any arcs ys (omega (arith, e)))
+
+-- the number of a completed range that is closest to z is no farther from z than any number of the range itself
+nearest : (low high : Option ℤ) (least most z d : ℤ) → ForSome low (λ l. ForSome high (λ h. l ≤ℤ h)) → least ≤ℤ z → z ≤ℤ most → ForSome low (λ l. l ≤ℤ (z +ℤ d)) → ForSome high (λ h. (z +ℤ d) ≤ℤ h)
+    → magnitude (int_max (low_side low high least) (int_min (high_side low high most) z) -ℤ z) ≤ℤ magnitude d
+nearest (Some l) (Some h) least most z d ordered from upto below above = let in_order : l ≤ℤ h = ordered l refl h refl in omega (arith, ints, clamps, in_order, below l refl, above h refl)
+nearest (Some l) None least most z d ordered from upto below above = omega (arith, ints, clamps, below l refl)
+nearest None (Some h) least most z d ordered from upto below above = omega (arith, ints, clamps, above h refl)
+nearest None None least most z d ordered from upto below above = omega (arith, ints, clamps)
+
+-- the elements behind a list
+get_behind : {A : Type 0} (xs ys : List A) (j : ℕ) → slice_get (xs ++ ys) (length xs + j) ≡ slice_get ys j
+get_behind [] ys j = let same : 0 + j ≡ j = omega arith in ap (λ (n : ℕ). slice_get ys n) same
+get_behind (x ∷ xs) ys j = let same : suc (length xs) + j ≡ suc (length xs + j) = omega arith in ap (λ (n : ℕ). slice_get (x ∷ (xs ++ ys)) n) same ∙ get_behind xs ys j
+
+-- no arc of the network has a number behind those of the written arcs
+not_numbered : (p : Profile) (sense : Sense) (outside : ℕ) (arcs : List InstArc) (k m : ℕ) → k + length (written_arcs p sense outside arcs) ≤ suc m → AllByRecursion (λ (n : ℕ). n ≢ suc m) (numbers_from p k arcs)
+not_numbered p sense outside [] k m h = tt
+not_numbered p sense outside (a ∷ arcs) k m h =
+    let make = flow_arc_of p sense outside a in
+    let rest = written_arcs p sense outside arcs in
+    let both : k + length (if is_left_out p a then rest else make ∷ rest) ≤ suc m → AllByRecursion (λ (n : ℕ). n ≢ suc m) (if is_left_out p a then 0 ∷ numbers_from p k arcs else k ∷ numbers_from p (suc k) arcs) =
+    elim (is_left_out p a) as (λ b. k + length (if b then rest else make ∷ rest) ≤ suc m → AllByRecursion (λ (n : ℕ). n ≢ suc m) (if b then 0 ∷ numbers_from p k arcs else k ∷ numbers_from p (suc k) arcs)) [
+      | true ↦ λ h. ((λ e. omega (arith, e)), not_numbered p sense outside arcs k m h)
+      | false ↦ λ h. ((λ e. omega (arith, e, h)), not_numbered p sense outside arcs (suc k) m (omega (arith, h)))
+    ] in
+    both h
+
+all_within : (rooms : List FlowArc) (ys : List ℤ) → length rooms ≡ length ys → ((j : ℕ) (f : FlowArc) (y : ℤ) → slice_get rooms j ≡ Some f → slice_get ys j ≡ Some y → IsWithinCapacity f y) → AllZip IsWithinCapacity rooms ys
+all_within [] [] e h = tt
+all_within [] (y ∷ ys) e h = absurd (omega (arith, e))
+all_within (r ∷ rooms) [] e h = absurd (omega (arith, e))
+all_within (r ∷ rooms) (y ∷ ys) e h = (h 0 r y refl refl, all_within rooms ys (omega (arith, e)) (λ j f z. h (suc j) f z))
 
 module _ (p : Profile) (instance : Instance) (problem : Problem) (link : Link) (form : IsFormIn p instance problem link) where
   abbrev is : List InstArc
@@ -120,33 +153,40 @@ module _ (p : Profile) (instance : Instance) (problem : Problem) (link : Link) (
       each : EachNode (λ u q. slice_get all u ≡ Some (supply_of p is u q)) 0 ranges
       each = each_supply p is (λ u s. slice_get all u ≡ Some s) 0 ranges (neg_ℤ (sum_of inner) ∷ []) (λ u s e. let same : u ≡ 0 + u = omega arith in subst (λ w. slice_get all w ≡ Some s) same e)
 
-  -- a flow that is within the capacities and balances a node brings it a net inflow in its range
-  pub in_range : (flows : List ℤ) (i : ℕ) (r : NodeRange) → AllZip IsWithinCapacity problem.arcs.items flows → slice_get ranges i ≡ Some r → IsBalanced problem flows i → IsInRange r (net_inflow is (mapped_back link flows) i)
-  in_range flows i r held at balanced = record {
-    low = from_low_side r.low r.high (least_inflow is i) (net_inflow is (mapped_back link flows) i) (subst (λ (y : ℤ). low_of is i r ≤ℤ y) same between.0);
-    high = from_high_side r.low r.high (most_inflow is i) (net_inflow is (mapped_back link flows) i) (subst (λ (y : ℤ). y ≤ℤ high_of is i r) same between.1);
+  -- if a node lacks d units, its net inflow and d more units are in its range
+  pub in_range : (flows : List ℤ) (i : ℕ) (r : NodeRange) (d : ℤ) → CarriesSpare problem link flows → slice_get ranges i ≡ Some r → Lacks problem flows i d → IsInRange r (net_inflow is (mapped_back link flows) i +ℤ d)
+  in_range flows i r d carries at lacks = record {
+    low = from_low_side r.low r.high (least_inflow is i) (net_inflow is (mapped_back link flows) i +ℤ d) (subst (λ (y : ℤ). low_of is i r ≤ℤ y) same between.0);
+    high = from_high_side r.low r.high (most_inflow is i) (net_inflow is (mapped_back link flows) i +ℤ d) (subst (λ (y : ℤ). y ≤ℤ high_of is i r) same between.1);
   }
     where
-      parts : (xs : List ℤ) × (ys : List ℤ) × (flows ≡ xs ++ ys) × AllZip IsWithinCapacity own xs × AllZip IsWithinCapacity rooms ys
-      parts = zipped_parts IsWithinCapacity own rooms flows (subst (λ (all : List FlowArc). AllZip IsWithinCapacity all flows) form.arcs held)
+      parts : (xs : List ℤ) × (ys : List ℤ) × (flows ≡ xs ++ ys) × AllZip (λ a y. ⊤) own xs × AllZip (λ a y. ⊤) rooms ys
+      parts = zipped_parts (λ a y. ⊤) own rooms flows (zip_any (own ++ rooms) flows (carries.each ∙ ap (λ (all : List FlowArc). length all) form.arcs))
 
       count : length own ≡ length parts.0
-      count = zipped-length IsWithinCapacity own parts.0 parts.3
+      count = zipped-length (λ a y. ⊤) own parts.0 parts.3
+
+      held : AllZip IsWithinCapacity rooms parts.1
+      held = all_within rooms parts.1 (zipped-length (λ a y. ⊤) rooms parts.1 parts.4) (λ j f y e k.
+          let unused = subst (λ (ns : List ℕ). AllByRecursion (λ (n : ℕ). n ≢ suc (length own + j)) ns) (sym form.numbers) (not_numbered p instance.sense outside is 1 (length own + j) (omega arith)) in
+          let arc : slice_get problem.arcs.items (length own + j) ≡ Some f = ap (λ (all : List FlowArc). slice_get all (length own + j)) form.arcs ∙ get_behind own rooms j ∙ e in
+          let flow : slice_get flows (length own + j) ≡ Some y = ap (λ (zs : List ℤ). slice_get zs (length own + j)) parts.2 ∙ ap (λ (n : ℕ). slice_get (parts.0 ++ parts.1) (n + j)) count ∙ get_behind parts.0 parts.1 j ∙ k in
+          carries.spare (length own + j) f y unused arc flow)
 
       -- the net inflow of which the slack flow is the part above the low side
       carried : ℕ → ℤ
       carried u = room_out is outside 0 ranges parts.1 u +ℤ low_at is u (slice_get ranges u)
 
-      carries : EachNode (CarriesOff is carried rooms parts.1) 0 ranges
-      carries = each-from_get_zero (CarriesOff is carried rooms parts.1) ranges (λ u q e. let low : low_at is u (slice_get ranges u) ≡ low_of is u q = ap (low_at is u) e in omega (arith, ints, low))
+      carried_off : EachNode (CarriesOff is carried rooms parts.1) 0 ranges
+      carried_off = each-from_get_zero (CarriesOff is carried rooms parts.1) ranges (λ u q e. let low : low_at is u (slice_get ranges u) ≡ low_of is u q = ap (low_at is u) e in omega (arith, ints, low))
 
       between : IsBetween is carried i r
-      between = each-get_from_zero (IsBetween is carried) ranges (surplus_determined is outside carried 0 ranges parts.1 parts.4 carries).1 i r at
+      between = each-get_from_zero (IsBetween is carried) ranges (surplus_determined is outside carried 0 ranges parts.1 held carried_off).1 i r at
 
-      sent : supply_of p is i r ≡ net_outflow problem.arcs.items flows i
+      sent : supply_of p is i r ≡ net_outflow problem.arcs.items flows i -ℤ d
       sent = let supply = supply_is i r at in cc
 
-      same : carried i ≡ net_inflow is (mapped_back link flows) i
+      same : carried i ≡ net_inflow is (mapped_back link flows) i +ℤ d
       same =
           let low : low_at is i (slice_get ranges i) ≡ low_of is i r = ap (low_at is i) at in
           let back : net_inflow is (mapped_back link flows) i ≡ net_inflow is (added (spread p is parts.0) offsets) i = ap (λ (x : List ℤ). net_inflow is x i) (mapped flows parts.0 parts.1 parts.2 count) in
@@ -156,15 +196,15 @@ module _ (p : Profile) (instance : Instance) (problem : Problem) (link : Link) (
     pub flows : List ℤ
     pub capacity : AllZip IsWithinCapacity problem.arcs.items flows
     pub back : mapped_back link flows ≡ x
-    pub balances : (i : ℕ) (r : NodeRange) → slice_get ranges i ≡ Some r → IsInRange r (net_inflow is x i) → IsBalanced problem flows i
+    pub near : (i : ℕ) (r : NodeRange) (d : ℤ) → slice_get ranges i ≡ Some r → IsInRange r (net_inflow is x i +ℤ d) → (e : ℤ) × Lacks problem flows i e × (magnitude e ≤ℤ magnitude d)
 
-  -- an assignment within the bounds has a flow within the capacities that balances each node whose net inflow is in its range
+  -- an assignment within the bounds has a flow within the capacities in which no node lacks more than its net inflow is from its range
   pub carried_by : (x : List ℤ) → AllZip IsWithinBounds is x → Carries x
   carried_by x bounds = record {
     flows = xs ++ ys;
     capacity = subst (λ (all : List FlowArc). AllZip IsWithinCapacity all (xs ++ ys)) (sym form.arcs) (zipped_whole IsWithinCapacity own rooms xs ys held serves.0);
     back = mapped (xs ++ ys) xs ys refl count ∙ whole;
-    balances = balances;
+    near = near;
   }
     where
       zs : List ℤ
@@ -205,16 +245,18 @@ module _ (p : Profile) (instance : Instance) (problem : Problem) (link : Link) (
       serves : AllZip IsWithinCapacity rooms ys × EachNode (CarriesOff is f rooms ys) 0 ranges
       serves = surplus_serves is outside f 0 ranges (each-from_get_zero (IsBetween is f) ranges sides)
 
-      balances : (i : ℕ) (r : NodeRange) → slice_get ranges i ≡ Some r → IsInRange r (net_inflow is x i) → IsBalanced problem (xs ++ ys) i
-      balances i r at inside =
+      near : (i : ℕ) (r : NodeRange) (d : ℤ) → slice_get ranges i ≡ Some r → IsInRange r (net_inflow is x i +ℤ d) → (e : ℤ) × Lacks problem (xs ++ ys) i e × (magnitude e ≤ℤ magnitude d)
+      near i r d at inside =
           let limits = inflow_between is x i bounds in
-          let fits = within_sides r.low r.high (least_inflow is i) (most_inflow is i) (net_inflow is x i) r.given inside.low inside.high limits.0 limits.1 in
           let here : f i ≡ clamped is i (net_inflow is x i) (Some r) = ap (clamped is i (net_inflow is x i)) at in
-          let stays : f i ≡ net_inflow is x i = omega (arith, ints, clamps, here, fits.0, fits.1) in
+          let close = nearest r.low r.high (least_inflow is i) (most_inflow is i) (net_inflow is x i) d r.ordered limits.0 limits.1 inside.low inside.high in
           let carried : CarriesOff is f rooms ys i r = each-get_from_zero (CarriesOff is f rooms ys) ranges serves.1 i r at in
           let moved : net_inflow is (added (spread p is xs) offsets) i ≡ net_inflow is x i = ap (λ (ws : List ℤ). net_inflow is ws i) whole in
-          let sent : supply_of p is i r ≡ net_outflow problem.arcs.items (xs ++ ys) i = omega (arith, ints, carried, stays, moved, sends (xs ++ ys) xs ys i r refl at count) in
-          supply_is i r at ∙ ap (λ (s : ℤ). Some s) sent
+          let sent : supply_of p is i r ≡ net_outflow problem.arcs.items (xs ++ ys) i -ℤ (f i -ℤ net_inflow is x i) = omega (arith, ints, carried, moved, sends (xs ++ ys) xs ys i r refl at count) in (
+            f i -ℤ net_inflow is x i,
+            supply_is i r at ∙ ap (λ (s : ℤ). Some s) sent,
+            subst (λ (y : ℤ). magnitude (y -ℤ net_inflow is x i) ≤ℤ magnitude d) (sym here) close,
+          )
 
   -- the cost of any flow gives the value of its assignment
   pub cost_is_value : (flows : List ℤ) → length flows ≡ length problem.arcs.items → value_of instance (mapped_back link flows) ≡ value_at link (cost_of problem flows)

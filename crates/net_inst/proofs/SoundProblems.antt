@@ -128,7 +128,7 @@ flows_stay a y front ys (b ∷ bs) h =
     let rest = flows_stay a y front ys bs h.1 in
     λ t. one t ∷ rest t
 
-flows_are : (all : List meaning.Arc) (ys : List ℤ) → IsDistinct meaning.same_label (map (λ (a : meaning.Arc). a.label) all) → length ys ≡ length all → map (flow_on (by_label all ys)) all ≡ ys
+pub flows_are : (all : List meaning.Arc) (ys : List ℤ) → IsDistinct meaning.same_label (map (λ (a : meaning.Arc). a.label) all) → length ys ≡ length all → map (flow_on (by_label all ys)) all ≡ ys
 unfolding IsDistinct
 flows_are [] [] d l = refl
 flows_are [] (y ∷ ys) d l = absurd (let e = l in omega arith)
@@ -168,15 +168,17 @@ problems_represent requested w ds n p problem link sets names good e form one = 
         (found.0, found.1, numbers found.0 ∙ found.2);
     injective = λ flows others h k same. one.injective flows others h k (sym (numbers flows) ∙ same ∙ numbers others);
     value = λ flows long. (a.value (assignment_of all link flows) (value_at link (cost_of problem flows))).1 (sym (cost_is_value p n.instance problem link form flows long) ∙ ap (value_of n.instance) (sym (numbers flows)));
-    satisfied = λ flows i v held at sent.
+    satisfied = λ flows i v d carries at lacks.
         let range = a.ranges i v at in
-        (range.2 (assignment_of all link flows)).1 (subst (λ (ys : List ℤ). IsInRange range.0 (net_inflow is ys i)) (sym (numbers flows)) (in_range p n.instance problem link form flows i range.0 held range.1 sent));
+        let same = range.3 (assignment_of all link flows) ∙ ap (λ (ys : List ℤ). net_inflow is ys i) (numbers flows) in
+        (range.2 (meaning.net_inflow all (assignment_of all link flows) v.label +ℤ d)).1
+            (subst (λ (y : ℤ). IsInRange range.0 (y +ℤ d)) (sym same) (in_range p n.instance problem link form flows i range.0 d carries range.1 lacks));
     balanced = λ x within.
         let found = carried_by p n.instance problem link form (map (flow_on x) all) ((a.bounds x).0 within) in (
           found.flows,
           found.capacity,
           numbers found.flows ∙ found.back,
-          λ i v at h. let range = a.ranges i v at in found.balances i range.0 range.1 ((range.2 x).0 h),
+          λ i v d at h. let range = a.ranges i v at in found.near i range.0 d range.1 (subst (λ (y : ℤ). IsInRange range.0 (y +ℤ d)) (range.3 x) ((range.2 (meaning.net_inflow all x v.label +ℤ d)).0 h)),
         );
   },
 )

@@ -90,10 +90,12 @@ pub record HasNetwork (requested : Option Name) (w : World) (ds : List Declarati
   pub same_arcs : AllZip IsSameArc (written.arcs w ds) arcs
   pub bounds : AllZip HasBounds arcs n.arcs
 
--- the node with number i has a range, and its condition is true of an assignment if and only if its net inflow is in this range
+-- the node with number i has a range; its condition is true of a net inflow if and only if this is in the range; and an assignment gives the node
+-- the same net inflow by label as by number
 abbrev pub IsRangeAt : Instance → List meaning.Arc → ℕ → meaning.Node → Type 0
 IsRangeAt instance all i v = (r : NodeRange) × (slice_get instance.nodes.items i ≡ Some r)
-    × ((x : meaning.Assignment) → meaning.IsSatisfiedBy all x v ↔ IsInRange r (net_inflow instance.arcs.items (map (flow_on x) all) i))
+    × ((y : ℤ) → meaning.IsSatisfied v.env v.condition y ↔ IsInRange r y)
+    × ((x : meaning.Assignment) → meaning.net_inflow all x v.label ≡ net_inflow instance.arcs.items (map (flow_on x) all) i)
 
 -- the network of the model, in which everything has a value; an assignment is within the bounds, satisfies a condition, or is feasible if and
 -- only if its flows are within the bounds, in the range, or both in the network n, and it has exactly one value, which the constant and the

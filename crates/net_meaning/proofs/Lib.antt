@@ -15,6 +15,7 @@ pub mod TextWorlds
 pub mod TextNetworks
 pub mod TextTokens
 mod Examples
+mod WrongProblems
 mod Cities
 mod CitiesLemmas
 mod CitiesWorld

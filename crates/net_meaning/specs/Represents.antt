@@ -1,7 +1,8 @@
 -- A min-cost flow problem represents a network: which arc of the problem is which arc of the model, and how flows correspond to
 -- assignments. The flows and costs of a problem are those of `Flows.antt` of net_normal, and `Links.antt` there maps them back.
-use Rattle.std.specs.Prelude.{◌≡◌, ◌+◌, ℕ, suc, List, [], ◌∷◌, length, slice_get, Option, None, Some, IsTrue, if◌then◌else◌, ◌&&◌, ℤ, pos, ◌+ℤ◌}
-use Rattle.std.specs.List.{AllZip}
+use Rattle.std.specs.Prelude.{◌≡◌, ◌≢◌, ◌+◌, ℕ, suc, List, [], ◌∷◌, length, slice_get, Option, None, Some, IsTrue, if◌then◌else◌, ◌&&◌, ℤ, pos, ◌+ℤ◌, ◌-ℤ◌, ◌≤ℤ◌, neg_ℤ}
+use Rattle.std.specs.Int.{int_max}
+use Rattle.std.specs.List.{AllByRecursion, AllZip}
 use Rattle.std.specs.Str.{bytes_eq}
 use Rattle.net_sets.specs.Sets.{Tuple, same_tuple}
 use Rattle.net_expr.specs.Worlds.{Name}
@@ -11,7 +12,7 @@ use Rattle.net_normal.specs.declared.problem.Problem.{Problem}
 use Rattle.net_normal.specs.Flows.{net_outflow, IsWithinCapacity, IsFeasibleFlow, cost_of}
 use Rattle.net_normal.specs.Links.{mapped_back, value_at}
 use Rattle.net_normal.specs.Sums.{sum_of}
-use Rattle.net_meaning.specs.Network.{Node, Arc, Objective, Assignment, Agree, is_at, AreWithinBounds, IsSatisfiedBy, IsFeasible, HasValue}
+use Rattle.net_meaning.specs.Network.{Node, Arc, Objective, Assignment, Agree, is_at, AreWithinBounds, net_inflow, IsSatisfied, IsFeasible, HasValue}
 
 -- the number of a node in the problem, from 0. The problem has one more node after the model's nodes, which is the missing end of arcs with one end.
 pub data IsNodeNumber (vs : List Node) : Option (Name × Tuple) → ℕ → Type 0 where
@@ -42,9 +43,19 @@ by_label (a ∷ all) (y ∷ ys) n key = if bytes_eq a.label.name n && same_tuple
 abbrev pub assignment_of : List Arc → Link → List ℤ → Assignment
 assignment_of all link flows = by_label all (mapped_back link flows)
 
--- node i sends out its supply: its outflow minus its inflow. So a supply is a negated net inflow, except for offsets.
-abbrev pub IsBalanced : Problem → List ℤ → ℕ → Type 0
-IsBalanced problem flows i = slice_get problem.supplies.items i ≡ Some (net_outflow problem.arcs.items flows i)
+-- node i lacks d units: its outflow minus its inflow is by d more than its supply. With d = 0 it is balanced. A supply is a negated net inflow,
+-- except for offsets.
+abbrev pub Lacks : Problem → List ℤ → ℕ → ℤ → Type 0
+Lacks problem flows i d = slice_get problem.supplies.items i ≡ Some (net_outflow problem.arcs.items flows i -ℤ d)
+
+-- the absolute value
+abbrev pub magnitude : ℤ → ℤ
+magnitude d = int_max d (neg_ℤ d)
+
+-- there is a flow on each arc of the problem, and it is within the capacities on the arcs that encode no arc of the model
+pub record CarriesSpare (problem : Problem) (link : Link) (flows : List ℤ) : Type 0 where
+  pub each : length flows ≡ length problem.arcs.items
+  pub spare : (i : ℕ) (f : FlowArc) (y : ℤ) → AllByRecursion (λ (n : ℕ). n ≢ suc i) link.numbers.items → slice_get problem.arcs.items i ≡ Some f → slice_get flows i ≡ Some y → IsWithinCapacity f y
 
 -- the problem represents the network: it has the network's nodes and one more, each arc is in it, and its feasible flows correspond one to one
 -- to the feasible assignments, with costs and values
@@ -60,8 +71,11 @@ pub record Represents (vs : List Node) (all : List Arc) (o : Objective) (problem
   pub injective : (flows others : List ℤ) → IsFeasibleFlow problem flows → IsFeasibleFlow problem others → Agree all (assignment_of all link flows) (assignment_of all link others) → flows ≡ others
   -- the cost of a flow, feasible or not, gives the value of its assignment: the constant plus the cost, or minus it to maximize
   pub value : (flows : List ℤ) → length flows ≡ length problem.arcs.items → HasValue o all (assignment_of all link flows) (value_at link (cost_of problem flows))
-  -- If no assignment is feasible, the fields above say nothing of supplies. These two do, node by node: a flow within the capacities that balances
-  -- a node satisfies its condition; an assignment within the bounds has a flow that balances every node whose condition it satisfies.
-  pub satisfied : (flows : List ℤ) (i : ℕ) (v : Node) → AllZip IsWithinCapacity problem.arcs.items flows → slice_get vs i ≡ Some v → IsBalanced problem flows i → IsSatisfiedBy all (assignment_of all link flows) v
+  -- If no assignment is feasible, the fields above say nothing of supplies. These two do, node by node. If a node lacks d units, d more units of net
+  -- inflow make its condition true, whatever the flows on the model's arcs; so a supply is exact, or in a range exactly inside.
+  pub satisfied : (flows : List ℤ) (i : ℕ) (v : Node) (d : ℤ) → CarriesSpare problem link flows → slice_get vs i ≡ Some v → Lacks problem flows i d
+      → IsSatisfied v.env v.condition (net_inflow all (assignment_of all link flows) v.label +ℤ d)
+  -- An assignment within the bounds has a flow in which no node lacks more, or has more in excess, than it takes to make its condition true.
   pub balanced : (x : Assignment) → AreWithinBounds all x
-      → (flows : List ℤ) × AllZip IsWithinCapacity problem.arcs.items flows × Agree all (assignment_of all link flows) x × ((i : ℕ) (v : Node) → slice_get vs i ≡ Some v → IsSatisfiedBy all x v → IsBalanced problem flows i)
+      → (flows : List ℤ) × AllZip IsWithinCapacity problem.arcs.items flows × Agree all (assignment_of all link flows) x
+      × ((i : ℕ) (v : Node) (d : ℤ) → slice_get vs i ≡ Some v → IsSatisfied v.env v.condition (net_inflow all x v.label +ℤ d) → (e : ℤ) × Lacks problem flows i e × (magnitude e ≤ℤ magnitude d))
