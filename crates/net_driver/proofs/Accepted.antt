@@ -17,8 +17,8 @@ use Rattle.net_dimacs.specs.Certificates.{Account, Optimal, Cut, account_of, IsC
 use Rattle.net_dimacs.specs.Limits.{text_limit}
 use Rattle.net_dimacs.specs.declared.problem_fault.LineFault.{LineFault}
 use Rattle.net_dimacs.proofs.Lengths.{certificates_short}
-use Rattle.net_driver.specs.Accepted.{AreAnswersAccepted}
-use Rattle.net_driver.specs.Checked.{Judges, IsFirstLineFault, IsLineRejection}
+use Rattle.net_driver.specs.Accepted.{AreAnswersAccepted, AreCompilationsReadBack}
+use Rattle.net_driver.specs.Checked.{Judges, IsFirstLineFault, IsLineRejection, IsProblemRejection}
 use Rattle.net_driver.specs.LineTexts.{IsProblemOf}
 use Rattle.net_driver.specs.Settled.{Settles}
 use Rattle.net_driver.specs.declared.driver_fault.Fault.{Fault}
@@ -129,3 +129,28 @@ accepted text answer settled s = record {
   yes = λ verdict j. j.yes.1 (certifies text answer settled s verdict j);
   taken = not_rejected text answer settled s;
 }
+
+-- ---- compiled texts
+
+kept : (text answer : List ℕ) (settled : Certificate) (p : Problem) → IsProblemOf text p → Settles text settled answer → IsCertificate p settled
+kept text answer settled p h s =
+    let same = same_problem text p s.problem h s.is_problem in
+    from_numbers p settled
+    (subst (λ arcs. IsBy p.supplies.items arcs (account_of settled)) same.1
+    (subst (λ supplies. IsBy supplies s.problem.arcs.items (account_of settled)) same.0
+    (by_numbers s.problem settled s.certificate)))
+
+not_refused : (text : List ℕ) (p : Problem) → IsProblemOf text p → (fault : Fault) → IsProblemRejection text fault → fault ≡ OutOfMemory
+not_refused text p h OutOfMemory k = refl
+not_refused text p h (Rejected r) k = absurd k
+not_refused text p h (RejectedLine r) k = absurd (elim k.1.none [
+  | inl long ↦ past (length text) h.short long
+  | inr none ↦ none p.supplies.items p.arcs.items (limits_of p) h.is
+])
+not_refused text p h (Unread name) k = absurd k
+not_refused text p h Unwritten k = absurd k
+
+pub read_back : AreCompilationsReadBack
+read_back requested m d c h short =
+    let is : IsProblemOf c.text.items c.problem = record { short = short; is = h.problem; only = h.only } in
+    record { is_problem = is; certified = λ settled answer. kept c.text.items answer settled c.problem is; taken = not_refused c.text.items c.problem is }

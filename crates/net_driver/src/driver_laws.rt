@@ -18,7 +18,7 @@ ghost use Rattle.net_base.specs.declared.diagnostic.Diagnostic.{Diagnostic};
 ghost use Rattle.net_base.specs.Places.{IsSpanIn};
 ghost use Rattle.net_driver.specs.FirstFaults.{IsFirstFault, IsLexed};
 ghost use Rattle.net_driver.specs.Reporting.{text_of};
-ghost use Rattle.net_driver.specs.Accepted.{AreAnswersAccepted};
+ghost use Rattle.net_driver.specs.Accepted.{AreAnswersAccepted, AreCompilationsReadBack};
 ghost use Rattle.net_driver.specs.OneAnswer.{IsOneAnswer, IsSolvedAsCompiled, IsNoFaultCompiled};
 ghost use Rattle.net_driver.specs.LineNames.{BuiltNamesAreExact, NamesAreExact};
 ghost use Rattle.net_bind.specs.Binding as binding;
@@ -145,4 +145,11 @@ pub fn printed_prices_prove_plans()
 /// at least the difference of the cut's two numbers.
 pub fn cuts_are_missed()
     ensures value { CutsAreMissed }
+{}
+
+/// Theorem: `solve_min` reads the text of a compiled model as the model's problem, and its answer is
+/// a certificate of this problem. If the text is at most 64 MiB long, it is rejected only if memory
+/// runs out.
+pub fn compilations_are_read_back()
+    ensures value { AreCompilationsReadBack }
 {}
