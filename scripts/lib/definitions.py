@@ -1,5 +1,5 @@
-"""The definitions that a theorem cites, directly or through others, and the table of docs/verification.md made of
-them."""
+"""The definitions that a theorem cites, directly or through others: each with its lines, and whether a second,
+independent definition exists."""
 import re
 
 from lib.command import TOP
@@ -9,89 +9,144 @@ MAIN_THEOREM = ["net_driver/specs/IsBuilt.antt:IsBuilt", "net_driver/specs/IsSol
 # The same theorem by the meaning of the inputs: the clauses `means`.
 MEANS = ["net_driver/specs/Meaning.antt:IsCompilation", "net_driver/specs/Meaning.antt:IsSolution"]
 WORD = re.compile(r"[A-Za-z_][\w'-]*(?:\.[A-Za-z_][\w'-]*)?")
-USE = re.compile(r"^(?:pub )?use Rattle\.(\w+)\.specs\.([\w.]+?)(?:\.\{([^}]*)\})?(?: as (\w+))?$", re.M)
-NAMED = re.compile(r"^ {0,2}(?:(?:abbrev|unfoldable|pub|record|data) )*([A-Za-z_◌][\w◌>=&|+-]*)(?: .*)?:", re.M)
+USE = re.compile(r"^(?:pub )?use (\w[\w.]*?)(?:\.\{([^}]*)\})?(?: as (\w+))?$", re.M)
+SPECS = re.compile(r"Rattle\.(\w+)\.specs\.(.+)")
+TYPE = re.compile(r"declared\.([\w.]+?)\.(\w+?)(?:\.TheVariants)?")
+NAMED = re.compile(r"^ {0,2}(?:(?:abbrev|unfoldable|pub|record|data) )*([A-Za-z_◌][^\s(){}:]*)(?: .*)?:", re.M)
+PART = re.compile(r"[^\s(){}\[\],;.]+")
 BOUND = [re.compile(pattern) for pattern in (r"λ ([^.]*)\.", r"[({]([\w\s'-]+?) :", r"\blet ([\w'-]+)")]
+# The lines above a definition that belong to it: comments, and how its operator groups.
+ABOVE = ("--", "infix")
 HEAD = re.compile(r"(?:abbrev|unfoldable|pub|record|data|mutual)\b|[a-z_◌]\S* :")
 
 
-class Spec:
-    """A file of definitions: each definition by name with its lines, and the files that imported names come from."""
+class Definition:
+    """A definition with the comment above it: its file, its names, and its lines with their numbers."""
 
-    def __init__(self, path):
-        self.path, self.blocks, self.names, self.aliases = path, {}, {}, {}
+    def __init__(self, path, lines):
+        self.path, self.lines, self.names = path, lines, []
+
+    def __len__(self):
+        return len(self.lines)
+
+    @property
+    def first(self):
+        return self.lines[0][0]
+
+    @property
+    def last(self):
+        return self.lines[-1][0]
+
+    def texts(self):
+        return [text for _, text in self.lines]
+
+    def body(self):
+        """Returns the lines without what is above the definition, as one text."""
+        return "\n".join(text for text in self.texts() if not text.startswith(ABOVE))
+
+    def head(self):
+        return self.body().partition("\n")[0]
+
+
+class Spec:
+    """A file of definitions by name, and where its imported names come from: other files of definitions, types of the
+    code, and the standard library."""
+
+    def __init__(self, path, crates):
+        self.path, self.crates, self.blocks, self.names, self.aliases = path, crates, {}, {}, {}
+        self.types: dict[str, tuple[str, str, str]] = {}
+        self.words: dict[str, tuple[str, str]] = {}
         text = path.read_text(encoding="utf-8")
-        for crate, module, listed, alias in USE.findall(text):
-            target = CRATES / crate / "specs" / f"{module.split('.')[0]}.antt"
-            if module.startswith("declared") or not target.exists():
-                continue
+        for module, listed, alias in USE.findall(text):
+            items = [item.strip().partition(" as ") for item in listed.split(",") if item.strip()]
+            self.take_use(module, [(local or name, name) for name, _, local in items], alias)
+        self.take_blocks(text)
+
+    def take_use(self, module, names, alias):
+        """Adds the names of a `use` line, each as a pair of its local name and its own."""
+        found = SPECS.fullmatch(module)
+        crate, rest = (found[1], found[2]) if found else ("", module)
+        target = self.crates / crate / "specs" / f"{rest.split('.')[0]}.antt"
+        if found and (made := TYPE.fullmatch(rest)) and (self.crates / crate).is_dir():
+            local_names = [alias] if alias else [local for local, _ in names]
+            self.types.update({local: (crate, made[1], made[2]) for local in local_names})
+        elif found and target.exists():
             if alias:
                 self.aliases[alias] = target
-            for item in filter(None, (item.strip() for item in (listed or "").split(","))):
-                name, _, local = item.partition(" as ")
-                self.names[local or name] = target, name
-        self.take_blocks(text)
+            self.names.update({local: (target, name) for local, name in names})
+        else:
+            self.words.update({local: (module, name) for local, name in names})
 
     def take_blocks(self, text):
         """Splits the file into definitions, each with the comment above it and its equations; a `mutual` is one."""
-        chunk: list[str] = []
-        remark: list[str] = []
-        lines = [line for line in text.splitlines() if not line.startswith(("use ", "pub use "))]
-        for line in [*lines, "\0"]:
+        chunk: list[tuple[int, str]] = []
+        remark: list[tuple[int, str]] = []
+        lines = [at for at in enumerate(text.splitlines(), 1) if not at[1].startswith(("use ", "pub use "))]
+        for number, line in [*lines, (0, "\0")]:
             begins = (
                 line[:1] not in (" ", "")
-                and not line.startswith("--")
+                and not line.startswith(ABOVE)
                 and HEAD.match(line)
                 and not self.goes_on(chunk, line)
             )
-            if begins or line.startswith(("--", "\0")):
+            if begins or line.startswith((*ABOVE, "\0")):
                 if chunk:
                     self.keep(chunk)
                     chunk = []
-                remark = [*remark, line] if line.startswith("--") else remark
+                remark = [*remark, (number, line)] if line.startswith(ABOVE) else remark
                 if begins:
-                    chunk, remark = [*remark, line], []
+                    chunk, remark = [*remark, (number, line)], []
             elif line.strip():
-                chunk.append(line)
+                chunk.append((number, line))
             else:
                 remark = []
 
     @staticmethod
     def goes_on(chunk, line):
         """Returns whether the line is an equation of the current definition and not a new one."""
-        name = next((m[1] for line in chunk if (m := NAMED.match(line))), None)
+        name = next((m[1] for _, line in chunk if (m := NAMED.match(line))), None)
         return name is not None and line.split()[0] == name
 
     def keep(self, chunk):
-        names = NAMED.findall("\n".join(line for line in chunk if not line.startswith("--")))
-        for name in names[:1] if not any("mutual" in line for line in chunk) else names:
-            self.blocks[name] = chunk
-        if any(re.match(r"(?:pub )?data ", line) for line in chunk):
-            for name in re.findall(r"(?m)^  ([a-z_]\w*) :", "\n".join(chunk)):
-                self.blocks.setdefault(name, chunk)
+        made = Definition(self.path, chunk)
+        names = NAMED.findall(made.body())
+        made.names = names[:1] if not any("mutual" in line for _, line in chunk) else names
+        for name in made.names:
+            self.blocks[name] = made
+        if any(re.match(r"(?:pub )?data ", line) for _, line in chunk):
+            for name in re.findall(r"(?m)^  ([a-z_]\w*) :", "\n".join(made.texts())):
+                self.blocks.setdefault(name, made)
 
 
-def cited(block):
+def cited(definition):
     """Returns the names that a definition cites, without those that it binds in the head of an equation or after λ."""
-    text = "\n".join(line for line in block if not line.startswith("--"))
+    text = definition.body()
     bound = {word for pattern in BOUND for found in pattern.findall(text) for word in found.split()}
     names = set(NAMED.findall(text))
-    for line in block:
+    for line in definition.texts():
         front, equals, _ = line.partition(" = ")
         if equals and line.split()[0] in names and " : " not in front:
             bound.update(WORD.findall(front)[1:])
     return [word for word in WORD.findall(text) if word.partition(".")[0] not in bound]
 
 
-class Reading:
-    """The definitions reached so far, each once, in the order of reaching them."""
+def uses(text, operator):
+    """Returns whether a text uses an operator, such as ◌≡◌ with ◌ for its operands, or a sign such as ℕ."""
+    parts = {part for part in operator.split("◌") if part}
+    return bool(parts) and parts <= set(PART.findall(text))
 
-    def __init__(self):
-        self.specs, self.reached = {}, {}
+
+class Reading:
+    """The definitions reached so far, each once, by file in the order of reaching them."""
+
+    def __init__(self, crates=CRATES):
+        self.crates, self.specs, self.reached = crates, {}, {}
+        self.starts: list[Definition] = []
+        self.left_out: list[Definition] = []
 
     def spec(self, path):
         if path not in self.specs:
-            self.specs[path] = Spec(path)
+            self.specs[path] = Spec(path, self.crates)
         return self.specs[path]
 
     def follow(self, path, name):
@@ -100,7 +155,7 @@ class Reading:
             path, name = todo.pop(0)
             spec = self.spec(path)
             block = spec.blocks.get(name)
-            if block is None or any(block is other for other in self.reached.get(path, [])):
+            if block is None or any(block is other for other in [*self.left_out, *self.reached.get(path, [])]):
                 continue
             self.reached.setdefault(path, []).append(block)
             for word in cited(block):
@@ -111,78 +166,58 @@ class Reading:
                     todo.append(spec.names[first])
                 elif first in spec.blocks:
                     todo.append((path, first))
+            todo += self.operators(spec, block.body())
+
+    @staticmethod
+    def operators(spec, text):
+        """Returns the file and the name of each operator that a text uses."""
+        known = {**{name: (spec.path, name) for name in spec.blocks}, **spec.names}
+        return [place for name, place in known.items() if "◌" in name and uses(text, name)]
+
+    def named(self, name):
+        """Returns the definition that NAME or FILE:NAME means, among those reached."""
+        file, colon, own = name.rpartition(":")
+        paths = [self.crates / file] if colon else list(self.reached)
+        found = [block for path in paths for block in self.reached.get(path, []) if own in block.names]
+        if len(found) != 1:
+            places = ", ".join(f"{block.path.relative_to(self.crates)}:{own}" for block in found)
+            raise ValueError(f"{own} has several definitions: give one of {places}" if found else f"no {name} is cited")
+        return found[0]
 
     def rows(self):
         """Returns for each file its name below crates/, the number of definitions reached, and their lines."""
         return [
-            (str(path.relative_to(CRATES)), len(blocks), sum(map(len, blocks))) for path, blocks in self.reached.items()
+            (str(path.relative_to(self.crates)), len(blocks), sum(map(len, blocks)))
+            for path, blocks in self.reached.items()
         ]
 
+    def rank(self, block):
+        """Returns a key that orders the definitions of a file: those that the reading starts from come first."""
+        return block not in self.starts, block.first
 
-def read(starts=MAIN_THEOREM):
-    reading = Reading()
+    def places(self):
+        """Returns the file and the first line of each definition reached."""
+        return {(block.path, block.first) for blocks in self.reached.values() for block in blocks}
+
+
+def read(starts=MAIN_THEOREM, without=(), crates=CRATES):
+    """Returns the definitions that these starts reach. Those of `without` are left out, with what only they reach."""
+    reading = Reading(crates)
+    if without:
+        complete = read(starts, (), crates)
+        reading.specs, reading.left_out = complete.specs, [complete.named(name) for name in without]
     for start in starts:
         file, _, name = start.partition(":")
-        reading.follow(CRATES / file, name)
+        if not (crates / file).is_file() or name not in reading.spec(crates / file).blocks:
+            raise ValueError(f"there is no definition {start}")
+        reading.starts.append(reading.spec(crates / file).blocks[name])
+    for start in starts:
+        file, _, name = start.partition(":")
+        reading.follow(crates / file, name)
     return reading
 
 
-# The stages of an audit, with the crates whose definitions belong to each.
-STAGES = [
-    ("claim", ["net_driver"]),
-    ("meaning", ["net_meaning"]),
-    ("model as written", ["net_inst", "net_linear"]),
-    ("problem", ["net_normal", "net_check", "net_dimacs", "net_report"]),
-    ("text to declarations", ["net_lex", "net_tree", "net_model", "net_names", "net_data"]),
-    ("sets and parameters", ["net_bind"]),
-    ("values", ["net_expr", "net_sets"]),
-    ("errors", ["net_base"]),
-]
-# The file that an auditor opens first, if it is not the first one that the theorem reaches.
-FIRST_FILES = {"net_inst": "net_inst/specs/AsWritten.antt"}
-PAGE = TOP / "docs" / "verification.md"
-BEGIN, END = "<!-- scripts/reading --write: begin -->", "<!-- scripts/reading --write: end -->"
-
-
-def crate_names():
-    """Returns the crates of crates.txt, in its order."""
-    lines = (line.split("#")[0].strip() for line in (TOP / "crates.txt").read_text(encoding="utf-8").splitlines())
-    return [line.split(":")[0].split()[0] for line in lines if line]
-
-
-def table():
-    """Yields the table: a row for each crate, in the order of an audit, then crates that the theorem does not reach."""
-    rows, meant, names = read().rows(), read(MEANS).rows(), crate_names()
-    yield from (
-        "| Crate | Stage | Files | Definitions | Lines to read | For `means` | Start with | Mutants |",
-        "|---|---|---|---|---|---|---|---|",
-    )
-    staged = [(stage, crate) for stage, crates in STAGES for crate in crates if crate in names]
-    rest = [("", crate) for crate in names if crate not in {crate for _, crate in staged}]
-    for stage, crate in staged + rest:
-        own, theirs = ([row for row in reached if row[0].partition("/")[0] == crate] for reached in (rows, meant))
-        mutants = len(list((CRATES / crate / "must-fail").glob("*.edit")))
-        first = FIRST_FILES.get(crate) or next((row[0] for row in own + theirs), None)
-        start = f"`crates/{first}`" if first else ""
-        sizes = (len(own), sum(row[1] for row in own), sum(row[2] for row in own), sum(row[2] for row in theirs))
-        link = f"[{crate}](../crates/{crate}/README.md)"
-        yield "| " + " | ".join(map(str, (link, stage, *sizes, start, mutants))) + " |"
-    mutants = len(list(CRATES.glob("*/must-fail/*.edit")))
-    sizes = (len(rows), sum(row[1] for row in rows), sum(row[2] for row in rows), sum(row[2] for row in meant))
-    yield "| " + " | ".join(map(str, ("together", "", *sizes, "", mutants))) + " |"
-
-
-def table_errors():
-    """Yields what is wrong with the table in docs/verification.md."""
-    page = PAGE.read_text(encoding="utf-8")
-    if page.count(BEGIN) != 1 or page.count(END) != 1:
-        yield "docs/verification.md: the markers of the generated table are missing"
-    elif page.partition(BEGIN)[2].partition(END)[0].split("\n")[1:-1] != list(table()):
-        yield "docs/verification.md: the generated table is not up to date; run scripts/reading --write"
-
-
-def write_table():
-    """Writes the table between its markers."""
-    page = PAGE.read_text(encoding="utf-8")
-    head, tail = page.partition(BEGIN)[0], page.partition(END)[2]
-    PAGE.write_text("\n".join((head + BEGIN, *table(), END + tail)), encoding="utf-8")
+def stated_twice(means=MEANS, value=MAIN_THEOREM, crates=CRATES):
+    """Returns the places of the definitions that only one of the two clauses cites. A theorem connects the clauses, so
+    it compares these definitions with those of the other clause; what both cite, it compares with nothing."""
+    return read(means, (), crates).places() ^ read(value, (), crates).places()

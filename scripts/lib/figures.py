@@ -1,7 +1,7 @@
 """Figures in the documents that a script can count."""
 import re
 
-from lib import definitions
+from lib import definitions, reading_page
 from lib.command import TOP
 
 CRATES = TOP / "crates"
@@ -28,7 +28,7 @@ def code_lines(text):
 
 def sizes():
     """Returns the lines of each crate by its name, without those of tests and measurements."""
-    names = [name for name in definitions.crate_names() if name not in ("net_tests", "net_bench")]
+    names = [name for name in reading_page.crate_names() if name not in ("net_tests", "net_bench")]
     return {
         name: sum(code_lines(path.read_text(encoding="utf-8")) for path in (CRATES / name / "src").rglob("*.rt"))
         for name in names
@@ -60,7 +60,7 @@ def libraries():
     """Returns the toolchain's crates that crates.txt names."""
     lines = (line.split("#")[0] for line in (TOP / "crates.txt").read_text(encoding="utf-8").splitlines())
     used = {word for line in lines for word in line.partition(":")[2].split()}
-    return used - set(definitions.crate_names())
+    return used - set(reading_page.crate_names())
 
 
 def recipes():
@@ -89,7 +89,7 @@ FIGURES = (
     (DECISIONS, r"Crates with more than ([\d,]+) lines", lambda: f"{LARGE:,}"),
     (DECISIONS, r"\(`scripts/check_sizes` prints them\), are ([a-z_, ]+)\.", large_crates),
     (DECISIONS, r"each occurs once, except for ([^.]+\.rt`(?:(?:, | and )[^., ]+\.rt`)*)", repeated_names),
-    (DECISIONS, r"(\d+) crates; the path from", lambda: len(definitions.crate_names())),
+    (DECISIONS, r"(\d+) crates; the path from", lambda: len(reading_page.crate_names())),
     (VERIFICATION, r"ports of (\w+) Rust crates", lambda: NUMBERS[len(libraries())]),
     (VERIFICATION, r"Rust crates \(([^)]*)\)", lambda: ", ".join(f"`{library}`" for library in sorted(libraries()))),
     (
