@@ -24,7 +24,8 @@ ghost use Rattle.net_driver.specs.LineNames.{BuiltNamesAreExact, NamesAreExact};
 ghost use Rattle.net_bind.specs.Binding as binding;
 ghost use Rattle.net_base.specs.declared.diagnostic.Language.TheVariants as languages;
 ghost use Rattle.net_driver.specs.PlanProofs.{PricedPlansAreProved, PricesProve};
-ghost use Rattle.net_driver.specs.MeaningLaws.{CompilationsAreSound, SolutionsAreSound, AnswersSolveModels, CompiledProblemsRepresent, NetworksAreUnique, CutsAreMissed};
+ghost use Rattle.net_driver.specs.MeaningLaws.{CompilationsAreSound, SolutionsAreSound, AnswersSolveModels, CompiledProblemsRepresent};
+ghost use Rattle.net_driver.specs.MeaningLaws.{NetworksAreUnique, CutsAreMissed};
 
 /// Theorem: a model without name errors declares no name of nodes twice, and no name of arcs.
 pub fn names_are_declared_once()

@@ -172,7 +172,7 @@ problems_represent requested w ds n p problem link sets names good e form one = 
         let range = a.ranges i v at in
         let same = range.3 (assignment_of all link flows) ∙ ap (λ (ys : List ℤ). net_inflow is ys i) (numbers flows) in
         (range.2 (meaning.net_inflow all (assignment_of all link flows) v.label +ℤ d)).1
-            (subst (λ (y : ℤ). IsInRange range.0 (y +ℤ d)) (sym same) (in_range p n.instance problem link form flows i range.0 d carries range.1 lacks));
+        (subst (λ (y : ℤ). IsInRange range.0 (y +ℤ d)) (sym same) (in_range p n.instance problem link form flows i range.0 d carries range.1 lacks));
     balanced = λ x within.
         let found = carried_by p n.instance problem link form (map (flow_on x) all) ((a.bounds x).0 within) in (
           found.flows,
