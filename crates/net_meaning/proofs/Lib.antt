@@ -16,6 +16,7 @@ pub mod TextNetworks
 pub mod TextTokens
 mod Examples
 mod WrongProblems
+mod WrongWorlds
 mod Cities
 mod CitiesLemmas
 mod CitiesWorld

@@ -22,10 +22,10 @@ use Rattle.net_meaning.specs.Represents.{IsNodeNumber, IsEncoded, named, at, Lac
 use Rattle.net_meaning.proofs.Naming.{numeral_is}
 use Rattle.net_meaning.proofs.Unique.{values_are_unique}
 
-abbrev five : Expression
+abbrev pub five : Expression
 five = leaf (record { kind = kinds.Num; text = codes "5"; span = record { start = 0; end = 0 } })
 
-five_is : IsNumeral limits.value (codes "5") (pos 5)
+pub five_is : IsNumeral limits.value (codes "5") (pos 5)
 unfolding number_in numeral_at mantissa_at power_at whole_value
 five_is = numeral_is (codes "5") (pos 5) refl
 
