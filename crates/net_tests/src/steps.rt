@@ -174,7 +174,11 @@ fn part_shown(alloc: Global, word: &str, part: Option<Span>) -> Result<String, A
 fn declaration_shown(alloc: Global, declaration: &Decl<'_>) -> Result<String, AllocError> {
     let (word, name) = words_of(declaration);
     let (word, name) = (word.text.as_str(), name.text.as_str());
-    let braces = part_shown(alloc, "over", braces_of(declaration).map(braces_span))?;
+    let span = match braces_of(declaration) {
+        Some(braces) => Some(braces_span(braces)),
+        None => None,
+    };
+    let braces = part_shown(alloc, "over", span)?;
     let phrases = phrases_shown(alloc, phrases_of(declaration))?;
     let condition = part_shown(alloc, "is", condition_of(declaration))?;
     format!(in alloc; "{word} {name}{braces}{phrases}{condition};")
