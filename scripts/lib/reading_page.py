@@ -26,7 +26,12 @@ BEGIN, END = "<!-- scripts/reading --write: begin -->", "<!-- scripts/reading --
 ROW = re.compile(r"(\| \[[^]]*\]\(\.\./crates/([\w/.]+)\)(?: `([^`]+)`)?(?: to `([^`]+)`)?) \| ([^|]*) \|")
 # A definition or an example that a row names.
 NAMED = re.compile(r"`((?:Is|Are|Has)[A-Z]\w*|[a-z]+(?:_[a-z0-9]+)+)`")
-EXAMPLES = ("*/specs/*.antt", "*/proofs/Examples.antt", "net_meaning/proofs/Wrong*.antt", "net_meaning/proofs/Cities*.antt")
+EXAMPLES = (
+    "*/specs/*.antt",
+    "*/proofs/Examples.antt",
+    "net_meaning/proofs/Wrong*.antt",
+    "net_meaning/proofs/Cities*.antt",
+)
 TOGETHER = re.compile(r"(\| together) \| (\d*) \|")
 
 

@@ -6,16 +6,16 @@ import textwrap
 from lib import chapters, library_words
 from lib.command import TOP
 from lib.declared_types import Types, cited_types
+from lib.definitions import cited
 
 PAGE = TOP / "docs" / "verification.md"
 WIDTH = 120
 TWICE, ONCE = "stated twice", "stated once"
-MARKS = f"""Each definition has a mark. "{TWICE}": only one of the clauses `means` and `value` cites it, so the theorem
-that connects the clauses compares it with independent definitions. "{ONCE}": both cite it, or neither does, so no
-theorem compares it with anything: eyes and examples alone guard it. A type of the code is after the first definition
-that cites it; its `ghost` fields are invariants, and an `impl Model` says what contracts see of its values. The words
-of the standard library that a chapter is the first to cite are at its end; `rt lemma WORD` prints those that they cite
-in turn."""
+MARKS = f"""Each definition has a mark. "{TWICE}": a theorem compares it with independent definitions of the same thing,
+which the code follows. "{ONCE}": these definitions cite it too, so no theorem compares it with anything, and eyes and
+examples alone guard it. A type of the code is after the first definition that cites it; its `ghost` fields are
+invariants, and an `impl Model` says what contracts see of its values. The words of the standard library that a chapter
+is the first to cite are at its end; `rt lemma WORD` prints those that they cite in turn."""
 
 
 def filled(text, indent=""):
@@ -29,7 +29,7 @@ def heading(text, line):
 def promise():
     """Returns the main theorem as docs/verification.md states it."""
     section = PAGE.read_text(encoding="utf-8").partition("\n## Main theorem\n")[2]
-    return section.strip().partition("\n")[0].replace("*", "")
+    return re.sub("[*`]", "", section.strip().partition("\n")[0])
 
 
 def notation():
@@ -74,7 +74,7 @@ class Text:
         yield from opening(self.starts, self.reading, self.is_main)
         for chapter, files in chapters.in_order(self.reading):
             size = sum(len(block) for _, own in files for block in own)
-            yield from heading(f"{chapters.number_of(chapter)}. {chapter.question} ({size} lines)", "=")
+            yield from heading(f"{chapters.number_of(chapter)}. {chapter.question} ({size} lines of definitions)", "=")
             for path, own in files:
                 yield from self.file(path, own)
             yield from self.standard_words([block for _, own in files for block in own])
@@ -83,13 +83,20 @@ class Text:
     def file(self, path, own):
         """Yields a file: its comment, and each definition followed by the types that it is the first to cite."""
         name = path.relative_to(self.reading.crates)
-        yield from (*heading(f"crates/{name}", "-"), *file_comment(path), "")
+        yield from (*heading(f"crates/{name}", "-"), *file_comment(path), *self.renamed(path, own), "")
         for block in own:
             yield f"[{name}:{block.first}-{block.last}] {self.mark(block)}"
             yield from (*block.texts(), "")
             for made in self.types[block.path, block.first]:
                 yield f"[{made.path.relative_to(self.reading.crates)}:{made.first}] type of the code"
                 yield from (*made.texts(), "")
+
+    def renamed(self, path, own):
+        """Yields the names that the file gives to definitions of other files, if these definitions cite them."""
+        words = {word.partition(".")[0] for block in own for word in cited(block)}
+        for local, (target, name) in sorted(self.reading.spec(path).names.items()):
+            if local != name and local in words:
+                yield f"-- Here {local} is {name} of {target.relative_to(self.reading.crates)}."
 
     def mark(self, block):
         return TWICE if (block.path, block.first) in self.twice else ONCE

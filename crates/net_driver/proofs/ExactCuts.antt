@@ -18,7 +18,7 @@ use Rattle.net_check.specs.declared.certificate.Side.{Side}
 use Rattle.net_check.specs.declared.certificate.Side.TheVariants.{Over, Under}
 use Rattle.net_meaning.specs.Network as meaning
 use Rattle.net_meaning.specs.Network.{Node, Arc, Objective, Assignment, same_label, net_inflow, AreWithinBounds, IsSatisfied}
-use Rattle.net_meaning.specs.Represents.{IsEncoded, fixed, at, AreEncoded, assignment_of, Lacks, magnitude, CarriesSpare, Represents}
+use Rattle.net_meaning.specs.Represents.{IsEncoded, fixed, at, AreEncoded, assignment_of, Lacks, magnitude, HasSlackWithin, Represents}
 use Rattle.net_inst.proofs.SoundProblems.{flows_are}
 use Rattle.net_driver.specs.Meaning.{marked, nodes_of_cut, shortage, IsExactlyMissed}
 use Rattle.net_driver.proofs.CutSums.{lacked, complement_length, complement_at, balance, opposite}
@@ -189,8 +189,8 @@ module _ (vs : List Node) (all : List Arc) (o : Objective) (problem : Problem) (
       let zip = bounded_all vs arcs flows capacity all link.offsets.items link.numbers.items h.arcs in
       all_bounded all x (subst (AllZip IsBounded all) (sym (flows_are all (mapped_back link flows) apart (zip_count all (mapped_back link flows) zip))) zip)
 
-  carries : CarriesSpare problem link flows
-  carries = record { each = length-map arcs (extreme flags side); spare = λ i a y unused e k. zipped_at arcs flows i a y capacity e k }
+  carries : HasSlackWithin problem link flows
+  carries = record { each = length-map arcs (extreme flags side); slack = λ i a y unused e k. zipped_at arcs flows i a y capacity e k }
 
   abbrev IsMissedBy : Node → ℤ → Type 0
   IsMissedBy v d = IsSatisfied v.env v.condition (net_inflow all x v.label +ℤ d)

@@ -126,11 +126,12 @@ marked [] flags = []
 marked (v ∷ vs) [] = []
 marked (v ∷ vs) (flag ∷ flags) = if flag then v ∷ marked vs flags else marked vs flags
 
--- the nodes of the model that a cut is about: those of its set or, if the node outside is in the set, those that are not
+-- the nodes of the model that a cut is about: those of its set or, if the node outside is in the set, those that are not. The text of a cut names
+-- the nodes of its set, and says whether the node outside is one of them.
 abbrev pub nodes_of_cut : List Node → List Bool → List Node
 nodes_of_cut vs flags = marked vs (if is_in flags (length vs) then map not flags else flags)
 
--- the difference of the two numbers of a cut
+-- the difference of the two numbers of a cut; in the model only the difference has a meaning, since offsets and slack change both numbers alike
 abbrev pub shortage : Problem → List Bool → Side → ℤ
 shortage problem flags Over = need problem flags -ℤ room problem flags Over
 shortage problem flags Under = room problem flags Under -ℤ need problem flags
@@ -139,12 +140,13 @@ shortage problem flags Under = room problem flags Under -ℤ need problem flags
 abbrev pub AreMisses : List Node → List Arc → Assignment → List ℤ → Type 0
 AreMisses vs all x ds = AllZip (λ v d. IsSatisfied v.env v.condition (net_inflow all x v.label +ℤ d)) vs ds
 
--- these numbers sum to exactly this for some assignment within the bounds, apart from the sign of the sum
+-- for some assignment within the bounds, such numbers have this sum, apart from its sign
 abbrev pub IsExactlyMissed : List Node → List Arc → ℤ → Type 0
 IsExactlyMissed vs all short = (x : Assignment) × (ds : List ℤ) × AreWithinBounds all x × AreMisses vs all x ds × (magnitude (sum_of ds) ≡ short)
 
--- No assignment within the bounds makes the conditions of these nodes all true: together it misses them by at least this much, and some
--- assignment by exactly this.
+-- No assignment within the bounds makes the conditions of these nodes all true. Whatever numbers do when added to their net inflows, the sum of
+-- the absolute values is at least this much. For some assignment, their sum with signs is exactly this or minus this; the least sum of absolute
+-- values can be larger.
 pub record AreMissed (vs : List Node) (all : List Arc) (short : ℤ) : Type 0 where
   pub contradict : (x : Assignment) → AreWithinBounds all x → ¬ AllByRecursion (IsSatisfiedBy all x) vs
   pub missing : (x : Assignment) (ds : List ℤ) → AreWithinBounds all x → AreMisses vs all x ds → short ≤ℤ sum_of (map magnitude ds)

@@ -29,7 +29,7 @@ use Rattle.net_normal.proofs.RoomArcs.{room_out, room_in-none, room_price-zero, 
 use Rattle.net_normal.proofs.Supplies.{each_supply}
 use Rattle.net_normal.proofs.Surplus.{IsBetween, CarriesOff, surplus_determined, surplus_serves}
 use Rattle.net_normal.proofs.Written.{spread, kept, length-spread, written_outflow, written_price, kept-within, spread-kept, mapped_back_is}
-use Rattle.net_meaning.specs.Represents.{Lacks, CarriesSpare, magnitude}
+use Rattle.net_meaning.specs.Represents.{Lacks, HasSlackWithin, magnitude}
 
 -- the net inflow is between the least and the greatest that the arcs' bounds allow
 inflow_between : (arcs : List InstArc) (x : List ℤ) (i : ℕ) → AllZip IsWithinBounds arcs x → (least_inflow arcs i ≤ℤ net_inflow arcs x i) × (net_inflow arcs x i ≤ℤ most_inflow arcs i)
@@ -154,7 +154,7 @@ module _ (p : Profile) (instance : Instance) (problem : Problem) (link : Link) (
       each = each_supply p is (λ u s. slice_get all u ≡ Some s) 0 ranges (neg_ℤ (sum_of inner) ∷ []) (λ u s e. let same : u ≡ 0 + u = omega arith in subst (λ w. slice_get all w ≡ Some s) same e)
 
   -- if a node lacks d units, its net inflow and d more units are in its range
-  pub in_range : (flows : List ℤ) (i : ℕ) (r : NodeRange) (d : ℤ) → CarriesSpare problem link flows → slice_get ranges i ≡ Some r → Lacks problem flows i d → IsInRange r (net_inflow is (mapped_back link flows) i +ℤ d)
+  pub in_range : (flows : List ℤ) (i : ℕ) (r : NodeRange) (d : ℤ) → HasSlackWithin problem link flows → slice_get ranges i ≡ Some r → Lacks problem flows i d → IsInRange r (net_inflow is (mapped_back link flows) i +ℤ d)
   in_range flows i r d carries at lacks = record {
     low = from_low_side r.low r.high (least_inflow is i) (net_inflow is (mapped_back link flows) i +ℤ d) (subst (λ (y : ℤ). low_of is i r ≤ℤ y) same between.0);
     high = from_high_side r.low r.high (most_inflow is i) (net_inflow is (mapped_back link flows) i +ℤ d) (subst (λ (y : ℤ). y ≤ℤ high_of is i r) same between.1);
@@ -171,7 +171,7 @@ module _ (p : Profile) (instance : Instance) (problem : Problem) (link : Link) (
           let unused = subst (λ (ns : List ℕ). AllByRecursion (λ (n : ℕ). n ≢ suc (length own + j)) ns) (sym form.numbers) (not_numbered p instance.sense outside is 1 (length own + j) (omega arith)) in
           let arc : slice_get problem.arcs.items (length own + j) ≡ Some f = ap (λ (all : List FlowArc). slice_get all (length own + j)) form.arcs ∙ get_behind own rooms j ∙ e in
           let flow : slice_get flows (length own + j) ≡ Some y = ap (λ (zs : List ℤ). slice_get zs (length own + j)) parts.2 ∙ ap (λ (n : ℕ). slice_get (parts.0 ++ parts.1) (n + j)) count ∙ get_behind parts.0 parts.1 j ∙ k in
-          carries.spare (length own + j) f y unused arc flow)
+          carries.slack (length own + j) f y unused arc flow)
 
       -- the net inflow of which the slack flow is the part above the low side
       carried : ℕ → ℤ

@@ -18,7 +18,7 @@ use Rattle.net_tree.specs.Syntax as conditions
 use Rattle.net_meaning.specs.Operators.{Value, Truth, number, IsResult}
 use Rattle.net_meaning.specs.Values.{env_of}
 use Rattle.net_meaning.specs.Network.{Node, Arc, Objective, is_at, IsSatisfied, with_inflow}
-use Rattle.net_meaning.specs.Represents.{IsNodeNumber, IsEncoded, named, at, Lacks, CarriesSpare, Represents}
+use Rattle.net_meaning.specs.Represents.{IsNodeNumber, IsEncoded, named, at, Lacks, HasSlackWithin, Represents}
 use Rattle.net_meaning.proofs.Naming.{numeral_is}
 use Rattle.net_meaning.proofs.Unique.{values_are_unique}
 
@@ -58,10 +58,10 @@ not_seven (u, v, a, b, c) = no (subst (λ (z : Value). IsResult op.Equal z (numb
 not_minus_seven : (o : Objective) (problem : Problem) (link : Link) → problem.supplies.items ≡ negsuc 6 ∷ pos 7 ∷ [] → problem.arcs.items ≡ [] → Represents (shop ∷ []) [] o problem link → ⊥
 not_minus_seven o problem link supplies arcs h = not_seven (h.satisfied [] 0 shop (pos 7) nothing refl seven)
   where
-    nothing : CarriesSpare problem link []
+    nothing : HasSlackWithin problem link []
     nothing = record {
       each = sym (ap (λ (fs : List FlowArc). length fs) arcs);
-      spare = λ i f y unused e k. absurd (let none = k in cc);
+      slack = λ i f y unused e k. absurd (let none = k in cc);
     }
 
     seven : Lacks problem [] 0 (pos 7)

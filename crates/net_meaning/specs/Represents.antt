@@ -21,7 +21,7 @@ pub data IsNodeNumber (vs : List Node) : Option (Name × Tuple) → ℕ → Type
 
 -- the arc of the problem that encodes an arc of the model: it joins the same nodes, and its bounds are those of the model's arc minus the
 -- offset. Arcs are numbered from 1: number suc i is the arc with index i. Number 0: the arc is not in the problem, since its bounds are equal;
--- the offset is its flow. `balanced` excludes that arcs whose flows can vary share a number.
+-- the offset is its flow. That two arcs share a number is excluded by `balanced` if their flows can vary, and else by `satisfied`, except for loops.
 pub data IsEncoded (vs : List Node) (arcs : List FlowArc) (a : Arc) (offset : ℤ) : ℕ → Type 0 where
   fixed : a.lower ≡ offset → a.upper ≡ offset → IsEncoded vs arcs a offset 0
   at : (i : ℕ) (f : FlowArc) → slice_get arcs i ≡ Some f → IsNodeNumber vs a.from f.src → IsNodeNumber vs a.to f.dst → f.low +ℤ offset ≡ a.lower → f.cap +ℤ offset ≡ a.upper
@@ -43,8 +43,8 @@ by_label (a ∷ all) (y ∷ ys) n key = if bytes_eq a.label.name n && same_tuple
 abbrev pub assignment_of : List Arc → Link → List ℤ → Assignment
 assignment_of all link flows = by_label all (mapped_back link flows)
 
--- node i lacks d units: its outflow minus its inflow is by d more than its supply. With d = 0 it is balanced. A supply is a negated net inflow,
--- except for offsets.
+-- node i lacks d units of inflow: its outflow minus its inflow is by d more than its supply. With d = 0 it is balanced; if d is negative, it has
+-- -d units too many. A supply is a negated net inflow, except for offsets and slack.
 abbrev pub Lacks : Problem → List ℤ → ℕ → ℤ → Type 0
 Lacks problem flows i d = slice_get problem.supplies.items i ≡ Some (net_outflow problem.arcs.items flows i -ℤ d)
 
@@ -52,13 +52,14 @@ Lacks problem flows i d = slice_get problem.supplies.items i ≡ Some (net_outfl
 abbrev pub magnitude : ℤ → ℤ
 magnitude d = int_max d (neg_ℤ d)
 
--- there is a flow on each arc of the problem, and it is within the capacities on the arcs that encode no arc of the model
-pub record CarriesSpare (problem : Problem) (link : Link) (flows : List ℤ) : Type 0 where
+-- there is a flow on each arc of the problem, and it is within the capacities on the slack arcs, which encode no arc of the model: they give the
+-- range of a condition its room
+pub record HasSlackWithin (problem : Problem) (link : Link) (flows : List ℤ) : Type 0 where
   pub each : length flows ≡ length problem.arcs.items
-  pub spare : (i : ℕ) (f : FlowArc) (y : ℤ) → AllByRecursion (λ (n : ℕ). n ≢ suc i) link.numbers.items → slice_get problem.arcs.items i ≡ Some f → slice_get flows i ≡ Some y → IsWithinCapacity f y
+  pub slack : (i : ℕ) (f : FlowArc) (y : ℤ) → AllByRecursion (λ (n : ℕ). n ≢ suc i) link.numbers.items → slice_get problem.arcs.items i ≡ Some f → slice_get flows i ≡ Some y → IsWithinCapacity f y
 
--- the problem represents the network: it has the network's nodes and one more, each arc is in it, and its feasible flows correspond one to one
--- to the feasible assignments, with costs and values
+-- the problem represents the network: it has the network's nodes and one more, each arc is in it or has a fixed flow, and its feasible flows
+-- correspond one to one to the feasible assignments, with costs and values
 pub record Represents (vs : List Node) (all : List Arc) (o : Objective) (problem : Problem) (link : Link) : Type 0 where
   pub sense : link.sense ≡ o.sense
   pub nodes : length problem.supplies.items ≡ length vs + 1
@@ -71,11 +72,13 @@ pub record Represents (vs : List Node) (all : List Arc) (o : Objective) (problem
   pub injective : (flows others : List ℤ) → IsFeasibleFlow problem flows → IsFeasibleFlow problem others → Agree all (assignment_of all link flows) (assignment_of all link others) → flows ≡ others
   -- the cost of a flow, feasible or not, gives the value of its assignment: the constant plus the cost, or minus it to maximize
   pub value : (flows : List ℤ) → length flows ≡ length problem.arcs.items → HasValue o all (assignment_of all link flows) (value_at link (cost_of problem flows))
-  -- If no assignment is feasible, the fields above say nothing of supplies. These two do, node by node. If a node lacks d units, d more units of net
-  -- inflow make its condition true, whatever the flows on the model's arcs; so a supply is exact, or in a range exactly inside.
-  pub satisfied : (flows : List ℤ) (i : ℕ) (v : Node) (d : ℤ) → CarriesSpare problem link flows → slice_get vs i ≡ Some v → Lacks problem flows i d
+  -- If no assignment is feasible, the fields above say nothing of supplies. The next two do, node by node. If a node lacks d units, its condition
+  -- is true of its net inflow and d more units, whatever the flows on the model's arcs. So its supply, with any slack, stands for net inflows that
+  -- the condition allows. A condition that is true of no net inflow (E54) has no such supply.
+  pub satisfied : (flows : List ℤ) (i : ℕ) (v : Node) (d : ℤ) → HasSlackWithin problem link flows → slice_get vs i ≡ Some v → Lacks problem flows i d
       → IsSatisfied v.env v.condition (net_inflow all (assignment_of all link flows) v.label +ℤ d)
-  -- An assignment within the bounds has a flow in which no node lacks more, or has more in excess, than it takes to make its condition true.
+  -- Each assignment within the bounds has a flow within the capacities that misses the supply of each node by no more than the assignment misses
+  -- the node's condition.
   pub balanced : (x : Assignment) → AreWithinBounds all x
       → (flows : List ℤ) × AllZip IsWithinCapacity problem.arcs.items flows × Agree all (assignment_of all link flows) x
       × ((i : ℕ) (v : Node) (d : ℤ) → slice_get vs i ≡ Some v → IsSatisfied v.env v.condition (net_inflow all x v.label +ℤ d) → (e : ℤ) × Lacks problem flows i e × (magnitude e ≤ℤ magnitude d))
