@@ -1,5 +1,6 @@
 """A Model: data that are changed and solved again, and what it is made of."""
 import copy
+import gc
 import io
 import pathlib
 
@@ -23,6 +24,23 @@ def test_changes_are_solved_again():
     assert model.solve().value == netflow.solve(MODEL, DATA, van=25, cost=both).value
     del model["van"], model["cost"]
     assert model.solve().value == 440 and dict(model) == {}
+
+
+@pytest.mark.parametrize("is_enabled", [True, False])
+def test_collection_of_garbage_is_as_before(is_enabled):
+    """Reading a network pauses the collection, whether there is a plan, none, or an error."""
+    was_enabled = gc.isenabled()
+    (gc.enable if is_enabled else gc.disable)()
+    try:
+        assert netflow.solve(MODEL, DATA).reduced_costs and gc.isenabled() == is_enabled
+        with pytest.raises(netflow.Infeasible):
+            netflow.solve(MODEL, DATA, van=1)
+        assert gc.isenabled() == is_enabled
+        with pytest.raises(netflow.ModelError):
+            netflow.solve(MODEL)
+        assert gc.isenabled() == is_enabled
+    finally:
+        (gc.enable if was_enabled else gc.disable)()
 
 
 def test_values_of_one_call():

@@ -10,7 +10,7 @@ from .certificate import Certificate
 from .inputs.instance import Instance
 from .keyed import FlowKey, Flows
 from .prices import Prices, number_of
-from .reading.network import Arc, Network, Node
+from .reading.network import Arc, Network, Node, collection_paused
 from .reading.output import read_prices
 from .report.json_objects import arc_rows, dumps, plan_json
 from .types import Amount, Member, Number
@@ -84,7 +84,8 @@ class Solution(Mapping[str, Union[Flows, Number]]):
     def _priced(self) -> Network:
         """Returns the network with its prices, which are read when they are first used."""
         if self.network.prices_text:
-            read_prices(self.network)
+            with collection_paused():
+                read_prices(self.network)
         return self.network
 
     def _margins(self) -> Marginal:

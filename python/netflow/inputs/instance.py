@@ -13,7 +13,7 @@ from ..program import UNREADABLE_FILE, Answer, Session
 from ..reading.conditions import mark_open_sides
 from ..reading.edits import EditedText
 from ..reading.model import Unparsed
-from ..reading.network import Network
+from ..reading.network import Network, collection_paused
 from ..reading.output import read_compiled, read_cut, read_plan, read_prices, split_prices
 from ..types import Key, Value
 from .decimals import CERTAIN, GRAMMAR, is_decimal, next_error
@@ -273,12 +273,18 @@ class Instance:
             compiled = self.ask("compile").text
             if self.is_rewritten != was_rewritten:
                 solving = calls.submit(self.session.ask, "solve", *options)
-            net = read_compiled(compiled)
-            mark_open_sides(net, self.model.text())
+            with collection_paused():
+                net = read_compiled(compiled)
+                mark_open_sides(net, self.model.text())
             try:
                 answer = solving.result()
             except ProgramError as problem:
                 raise self.placed(problem) from None
+        with collection_paused():
+            return self.answered(net, answer), net
+
+    def answered(self, net: Network, answer: Answer) -> Answer:
+        """Gives the network its plan or its cut, in the units of the data; returns the answer without prices."""
         if answer.status == 0:
             plan, net.prices_text = split_prices(answer.text)
             answer = Answer(answer.status, plan)
@@ -287,7 +293,7 @@ class Instance:
         else:
             net.cut = read_cut(answer.text, net)
         net.divide(self.factors)
-        return answer, net
+        return answer
 
     def priced_network(self) -> Network:
         """Returns the network with its plan and prices, or with a cut."""

@@ -1,10 +1,13 @@
 """The network of a model: its nodes and arcs with bounds, prices and the flows of a plan."""
 from __future__ import annotations
 
+import contextlib
 import dataclasses
 import functools
+import gc
 import itertools
 import operator
+from typing import Iterator
 
 from ..exact import divided
 from ..inputs.scaling import BOUND, Factors
@@ -12,6 +15,18 @@ from ..types import Member, Number
 from .text import lines_of
 
 OUTSIDE = "the outside"
+
+
+@contextlib.contextmanager
+def collection_paused() -> Iterator[None]:
+    """Pauses the collection of circular garbage while a network is made: it has many objects and none in circles."""
+    was_enabled = gc.isenabled()
+    gc.disable()
+    try:
+        yield
+    finally:
+        if was_enabled:
+            gc.enable()
 
 
 class Arc:
