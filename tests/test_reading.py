@@ -237,13 +237,32 @@ def whole():
     return reading, twice, "\n".join(reading_text.Text(definitions.MEANS, reading, twice, True).lines())
 
 
+BY_A_TYPE = "cited by this type"
+
+
+def own_places(text):
+    """Returns the places of the definitions without those that only types cite: file, lines and mark."""
+    return [place for place in PLACE.findall(text) if place[3] != BY_A_TYPE]
+
+
 def test_each_definition_once(whole):
     reading, _, text = whole
-    places = [(file, int(first)) for file, first, *_ in PLACE.findall(text)]
+    places = [(file, int(first)) for file, first, *_ in own_places(text)]
     blocks = [block for blocks in reading.reached.values() for block in blocks]
     wanted = {(str(block.path.relative_to(definitions.CRATES)), block.first) for block in blocks}
     assert len(places) == len(set(places)) and set(places) == wanted
     assert all("\n".join(block.texts()) + "\n" in text for block in blocks)
+
+
+def test_definitions_that_types_cite(whole):
+    """The numbers of a link count up, which its ghost field says; such a definition is printed once, after its type."""
+    _, _, text = whole
+    types = [place[:2] for place in PLACE.findall(text) if place[3] == BY_A_TYPE]
+    assert types and len(types) == len(set(types))
+    assert not set(types) & {place[:2] for place in own_places(text)}
+    link = text.index("pub struct Link {")
+    assert text.index("pub ghost numbered: { CountUp numbers.items }") > link
+    assert text.count("abbrev pub CountUp : ") == 1 and text.index("abbrev pub CountUp : ") > link
 
 
 def test_order_of_the_whole(whole):
@@ -259,7 +278,7 @@ def test_order_of_the_whole(whole):
     assert sorted(parts, key=text.index) == parts
     heads = [f"\n{number}. {chapter.question}" for number, chapter in enumerate(chapters.CHAPTERS, 1)]
     assert [text.count(head) for head in heads] == [1] * len(heads) and sorted(heads, key=text.index) == heads
-    files = list(dict.fromkeys(file for file, *_ in PLACE.findall(text)))
+    files = list(dict.fromkeys(file for file, *_ in own_places(text)))
     assert [chapters.place_of(file)[0] for file in files] == sorted(chapters.place_of(file)[0] for file in files)
 
 
@@ -267,7 +286,7 @@ def test_marks_of_the_whole(whole):
     """Either mark, never both; their lines sum up to all. What the code's clauses cite too is stated once."""
     reading, twice, text = whole
     value = definitions.read()
-    marks = {(definitions.CRATES / file, int(first)): mark for file, first, _, mark in PLACE.findall(text)}
+    marks = {(definitions.CRATES / file, int(first)): mark for file, first, _, mark in own_places(text)}
     assert {place for place, mark in marks.items() if mark == reading_text.ONCE} == set(marks) & value.places()
     last = text.splitlines()[-1]
     all_lines, twice_lines, once_lines = (

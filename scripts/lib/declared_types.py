@@ -2,12 +2,13 @@
 with what contracts see of them."""
 import re
 
-from lib.definitions import WORD, Spec
+from lib.definitions import WORD, Reading, Spec
 
 DECLARED = re.compile(r"^pub(?:\(crate\))? (struct|enum) (\w+)", re.M)
 VIEW = re.compile(r"^impl.* Model for (\w+)\b")
 GHOST = re.compile(r"^\s+ghost (?:Value|view) = ")
 VALUE = re.compile(r"^\s+ghost use Rattle\.(\w+)\.specs\.(\w+)\.\{([^}]*)\};")
+GHOST_USE = re.compile(r"(?m)^ghost use Rattle\.(\w+)\.specs\.(\w+)\.\{([^}]*)\};")
 USED = re.compile(r"(?m)^use (?:crate|(\w+))::(?:\w+::)*(?:\{([^}]*)\}|(\w+));")
 
 
@@ -19,6 +20,8 @@ class CodeType:
         self.path, self.name, self.first, self.lines = path, name, first, lines
         self.view: list[str] = []
         self.records: list = []
+        # The definitions that its ghost fields are the first to cite.
+        self.invariants: list = []
 
     def texts(self):
         return [*self.lines, *self.view, *(text for record in self.records for text in record.texts())]
@@ -88,6 +91,17 @@ class Types:
         path = self.crates / crate / "specs" / f"{module}.antt"
         return Spec(path, self.crates) if path.is_file() else None
 
+    def cited_by(self, made):
+        """Returns the definitions that a type's ghost fields cite, directly or through others."""
+        words = {word for line in made.lines if "ghost " in line for word in WORD.findall(line)}
+        reading = Reading(self.crates)
+        for crate, module, names in GHOST_USE.findall(self.text(made.path)):
+            path = self.crates / crate / "specs" / f"{module}.antt"
+            for name in names.split(", "):
+                if name in words and path.is_file():
+                    reading.follow(path, name)
+        return [block for blocks in reading.reached.values() for block in blocks]
+
     def named_in(self, made):
         """Returns the types that a type mentions: those of its file, of its crate, and those that its file imports."""
         crate = made.path.relative_to(self.crates).parts[0]
@@ -117,6 +131,8 @@ def cited_types(reading, definitions, types):
                 seen.add((made.path, made.name))
                 made.records = [record for record in made.records if (record.path, record.first) not in places]
                 places |= {(record.path, record.first) for record in made.records}
+                made.invariants = [one for one in types.cited_by(made) if (one.path, one.first) not in places]
+                places |= {(one.path, one.first) for one in made.invariants}
                 mine.append(made)
                 todo = types.named_in(made) + todo
         result[block.path, block.first] = mine

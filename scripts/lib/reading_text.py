@@ -13,9 +13,10 @@ WIDTH = 120
 TWICE, ONCE = "stated twice", "stated once"
 MARKS = f"""Each definition has a mark. "{TWICE}": a theorem compares it with independent definitions of the same thing,
 which the code follows. "{ONCE}": these definitions cite it too, so no theorem compares it with anything, and eyes and
-examples alone guard it. A type of the code is after the first definition that cites it; its `ghost` fields are
-invariants, and an `impl Model` says what contracts see of its values. The words of the standard library that a chapter
-is the first to cite are at its end; `rt lemma WORD` prints those that they cite in turn."""
+examples alone guard it. A type of the code is after the first definition that cites it, with what its `ghost` fields,
+which are invariants, are the first to cite; an `impl Model` says what contracts see of its values. The words of the
+standard library that a chapter is the first to cite are at its end; `rt lemma WORD` prints those that they cite in
+turn."""
 
 
 def filled(text, indent=""):
@@ -90,6 +91,10 @@ class Text:
             for made in self.types[block.path, block.first]:
                 yield f"[{made.path.relative_to(self.reading.crates)}:{made.first}] type of the code"
                 yield from (*made.texts(), "")
+                for cited_one in made.invariants:
+                    at = cited_one.path.relative_to(self.reading.crates)
+                    yield f"[{at}:{cited_one.first}-{cited_one.last}] cited by this type"
+                    yield from (*cited_one.texts(), "")
 
     def renamed(self, path, own):
         """Yields the names that the file gives to definitions of other files, if these definitions cite them."""
@@ -128,7 +133,9 @@ class Text:
     def totals(self):
         """Returns the last line."""
         made = [one for mine in self.types.values() for one in mine]
-        parts = [counts(self.reading, self.twice), f"{sum(map(len, made))} lines of {len(made)} types of the code"]
+        invariants = sum(len(block) for one in made for block in one.invariants)
+        types = f"{sum(map(len, made))} lines of {len(made)} types of the code, and {invariants} that these cite"
+        parts = [counts(self.reading, self.twice), types]
         size = f"{sum(self.words.values())} lines of " if self.library else ""
         return "; ".join([*parts, f"{size}{len(self.words)} words of the standard library"])
 
