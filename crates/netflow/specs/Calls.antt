@@ -1,13 +1,16 @@
 -- What a call does: which files it opens, which run it makes on them, and what the program returns.
-use Rattle.std.specs.Prelude.{◌≡◌, ◌⊎◌, ℕ, Bool, true, List, Option, Some, None, Result, Ok, Err, ⊤}
+use Rattle.std.specs.Prelude.{◌≡◌, ◌⊎◌, ℕ, Bool, true, List, [], ◌∷◌, ◌++◌, codes, Option, Some, None, Result, Ok, Err, ⊤}
+use Rattle.std.specs.Io.KnownBytes.{Appends}
 use Rattle.std.specs.Option.{option_copied}
 use Rattle.clap.specs.Words.{Text}
 use Rattle.net_driver.specs.declared.solve_run.ExitKind.{ExitKind}
 use Rattle.net_driver.specs.declared.solve_run.ExitKind.TheVariants.{Done}
 use Rattle.net_driver.specs.declared.driver_fault.Fault.{Fault}
-use Rattle.net_driver.specs.declared.driver_fault.Fault.TheVariants.{Unread}
+use Rattle.net_driver.specs.declared.driver_fault.Fault.TheVariants.{OutOfMemory, Unread}
 use Rattle.net_driver.specs.declared.driver_fault.TextName.{TextName}
 use Rattle.net_driver.specs.declared.driver_fault.TextName.TheVariants.{Model, Data, Problem, Certificate}
+use Rattle.net_driver.specs.FaultLines.{fault_line}
+use Rattle.net_io.specs.Ends.{WritesFront}
 use Rattle.net_driver.specs.Runs.{IsCompileRun, IsSolveRun, IsPricedRun, IsMinRun, IsCheckRun, Sink, Source}
 use Rattle.netflow.specs.declared.call.Call.{Call}
 use Rattle.netflow.specs.declared.call.Call.TheVariants.{Compile, Solve, SolveWithPrices, Min, Check}
@@ -72,14 +75,33 @@ abbrev pub status_of : Result ExitKind Fault → Status
 status_of (Ok exit_kind) = status_of_exit_kind exit_kind
 status_of (Err fault) = status_of_fault fault
 
--- the call that the arguments request was run, and the status is that of its result
-pub record RunsCall {S W : Type 0} (files : Files S) (output : Sink W) (words : List Text) (status : Status) : Type 0 where
+-- ---- the line of an error
+
+-- what is printed in place of a line with more than 4096 bytes
+abbrev pub too_long : List ℕ
+too_long = codes "the line of this error is too long\n"
+
+-- the text was written, or a write failed and only the front of it was written
+abbrev pub Writes : {W : Type 0} → Sink W → List ℕ → Type 0
+Writes stream text =
+    Appends (stream.taken stream.old) (stream.taken stream.new) text ⊎ ((stream.failed stream.new ≡ true) × WritesFront (stream.taken stream.old) (stream.taken stream.new) text)
+
+-- of an error its line was written to standard error, and otherwise nothing
+abbrev pub IsErrorPrinted : {W : Type 0} → Sink W → Result ExitKind Fault → Type 0
+IsErrorPrinted errors (Ok exit_kind) = errors.new ≡ errors.old
+IsErrorPrinted errors (Err fault) = Writes errors (fault_line fault ++ 10 ∷ []) ⊎ Writes errors too_long
+
+-- ---- the program
+
+-- the call that the arguments request was run, its error was printed, and the status is that of its result
+pub record RunsCall {S W E : Type 0} (files : Files S) (output : Sink W) (errors : Sink E) (words : List Text) (status : Status) : Type 0 where
   pub asked : CommandWords
   pub call : Call
   pub result : Result ExitKind Fault
   pub requested : IsAskedBy words asked
   pub chosen : IsCallOf asked call
   pub run : IsCallRun files output call result
+  pub printed : IsErrorPrinted errors result
   pub answered : status ≡ status_of result
 
 -- why no call was run: the arguments are invalid; help or the version is requested, and printed or
@@ -92,11 +114,17 @@ IsIdle words statuses.OutOfMemory = ⊤
 IsIdle words statuses.Refuted = ⊥
 IsIdle words statuses.Rejected = ⊥
 
+-- if no call was run, only `out of memory` was printed; what clap prints of the arguments is not in this stream
+abbrev pub IsIdlePrinted : {E : Type 0} → Sink E → Status → Type 0
+IsIdlePrinted errors statuses.OutOfMemory = IsErrorPrinted errors (Err OutOfMemory)
+IsIdlePrinted errors _ = errors.new ≡ errors.old
+
 -- no call was run, and nothing was written
-pub record RunsNothing {W : Type 0} (output : Sink W) (words : List Text) (status : Status) : Type 0 where
+pub record RunsNothing {W E : Type 0} (output : Sink W) (errors : Sink E) (words : List Text) (status : Status) : Type 0 where
   pub idle : IsIdle words status
   pub unwritten : output.new ≡ output.old
+  pub printed : IsIdlePrinted errors status
 
 -- a run of the program with these arguments
-abbrev pub IsProgramRun : {S W : Type 0} → Files S → Sink W → List Text → Status → Type 0
-IsProgramRun files output words status = RunsCall files output words status ⊎ RunsNothing output words status
+abbrev pub IsProgramRun : {S W E : Type 0} → Files S → Sink W → Sink E → List Text → Status → Type 0
+IsProgramRun files output errors words status = RunsCall files output errors words status ⊎ RunsNothing output errors words status

@@ -1,12 +1,12 @@
 //! The program: from its arguments to its exit status.
 
 ghost use Rattle.std.specs.Prelude.{◌≡◌, ℕ, List, false, map, string_bytes};
-ghost use Rattle.netflow.specs.Calls.{IsCallRun, IsIdle, IsProgramRun};
+ghost use Rattle.netflow.specs.Calls.{IsCallRun, IsIdle, IsIdlePrinted, IsProgramRun};
 ghost use Rattle.netflow.specs.CommandLine.{IsRejection};
-ghost use Rattle.netflow.specs.Statuses.{status_of_fault};
 
 use crate::call::{Call, InputFiles, call_of};
 use crate::command_words::{WordsFault, words_of};
+use crate::error_line::{ErrorStream, print_error};
 use crate::status::Status;
 use net_driver::{
     ExitKind, Fault, Options, TextName, run_check, run_compile_with, run_min, run_solve_with,
@@ -134,22 +134,25 @@ fn check_files<F: InputFiles, W: Sink>(
     run_check(alloc, &mut problem, &mut certificate, output)
 }
 
-/// Runs the program on its arguments: the call that they request, or none.
-pub fn run_program<R: Runtime + AllocGlobal, F: InputFiles, W: Sink>(
+/// Runs the program on its arguments: the call that they request, or none. The line of an error goes
+/// to `errors`; help and usage go to the streams of the runtime.
+pub fn run_program<R: Runtime + AllocGlobal, F: InputFiles, W: Sink, E: Sink>(
     rt: &R,
     files: &F,
     output: &mut W,
+    errors: &mut E,
     words: &[String],
 ) -> Status
     requires { W.failed output.old ≡ false }
     ensures { IsProgramRun
         (record { opens = F.opens files.now; remaining = F.Input.remaining; failed = F.Input.failed; reads = F.Input.reads })
         (record { taken = W.taken; failed = W.failed; old = output.old; new = output.new })
+        (record { taken = E.taken; failed = E.failed; old = errors.old; new = errors.new })
         (map string_bytes words.now) result }
 {
     let words = match words_of(rt.alloc(), words) {
         Ok(words) => words,
-        Err(fault) => return print_usage(rt, fault),
+        Err(fault) => return print_usage(rt, errors, fault),
     };
     let ran = match call_of(&words) {
         Call::Compile(model, data, options) => {
@@ -168,16 +171,17 @@ pub fn run_program<R: Runtime + AllocGlobal, F: InputFiles, W: Sink>(
     };
     match ran {
         Ok(exit_kind) => Status::of_exit_kind(exit_kind),
-        Err(fault) => tell(rt, &fault),
+        Err(fault) => print_error(errors, &fault),
     }
 }
 
 /// Prints why the arguments request no call, or the requested help or version; returns the status.
-fn print_usage<R: Print + Eprint>(rt: &R, fault: WordsFault) -> Status
-    ensures { (words : List (List ℕ)) → IsRejection words fault → IsIdle words result }
+fn print_usage<R: Print + Eprint, E: Sink>(rt: &R, errors: &mut E, fault: WordsFault) -> Status
+    ensures idle { (words : List (List ℕ)) → IsRejection words fault → IsIdle words result }
+    ensures printed { IsIdlePrinted (record { taken = E.taken; failed = E.failed; old = errors.old; new = errors.new }) result }
 {
     match fault {
-        WordsFault::OutOfMemory => tell(rt, &Fault::OutOfMemory),
+        WordsFault::OutOfMemory => print_error(errors, &Fault::OutOfMemory),
         WordsFault::Usage(error) => {
             let shown = error.print(rt).is_ok();
             if error.use_stderr() {
@@ -191,21 +195,15 @@ fn print_usage<R: Print + Eprint>(rt: &R, fault: WordsFault) -> Status
     }
 }
 
-/// Prints the line of an error on standard error; returns the status.
-fn tell<R: Eprint>(rt: &R, fault: &Fault) -> Status
-    ensures { result ≡ status_of_fault fault.now }
-{
-    // If standard error is closed, only the status reports the error.
-    let _ = eprintln!(rt; "{fault}");
-    Status::of_fault(fault)
-}
-
 /// Returns the arguments of the program, or its exit status if they are not available.
-pub fn called_words<R: Runtime + AllocGlobal>(rt: &R) -> Result<Vec<String>, Status> {
+pub fn called_words<R: Runtime + AllocGlobal>(
+    rt: &R,
+    errors: &mut ErrorStream<'_, R>,
+) -> Result<Vec<String>, Status> {
     let args = match env::args(rt) {
         Ok(args) => args,
         Err(error) if error.kind() == io::ErrorKind::OutOfMemory => {
-            return Err(tell(rt, &Fault::OutOfMemory));
+            return Err(print_error(errors, &Fault::OutOfMemory));
         }
         Err(_) => {
             let _ = eprintln!(rt; "netflow: a word of the command line is not UTF-8");
@@ -214,6 +212,6 @@ pub fn called_words<R: Runtime + AllocGlobal>(rt: &R) -> Result<Vec<String>, Sta
     };
     match args.collect::<Vec<String>>(rt.alloc()) {
         Ok(words) => Ok(words),
-        Err(_) => Err(tell(rt, &Fault::OutOfMemory)),
+        Err(_) => Err(print_error(errors, &Fault::OutOfMemory)),
     }
 }

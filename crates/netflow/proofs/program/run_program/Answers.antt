@@ -4,7 +4,7 @@ use Rattle.netflow.proofs.program.run_program.Goals as goal
 use Rattle.netflow.proofs.program.run_program.Goals.{in-Compile, in-Solve, in-SolveWithPrices, in-Min, in-Check}
 
 pub returns-in-Err : goal.returns-in-Err
-returns-in-Err g c = inr (record { idle = c.print_usage.ensures (map string_bytes c.args.words.now) c.in-Err.ensures.rejected; unwritten = refl })
+returns-in-Err g c = inr (record { idle = c.print_usage.ensures.idle (map string_bytes c.args.words.now) c.in-Err.ensures.rejected; unwritten = refl; printed = c.print_usage.ensures.printed })
 
 pub returns-in-Ok-ran : goal.returns-in-Ok-ran
 returns-in-Ok-ran g c = inl (record {
@@ -20,6 +20,7 @@ returns-in-Ok-ran g c = inl (record {
     | in-Min w ↦ rw (w.output-is, w.in-Min.is, w.ran-is) w.min_file-ran.ensures
     | in-Check w ↦ rw (w.output-is, w.in-Check.is, w.ran-is) w.check_files-ran.ensures
   ];
+  printed = rw c.in-Ok-ran.is refl;
   answered = c.of_exit_kind.ensures.value ∙ sym (ap status_of c.in-Ok-ran.is);
 })
 
@@ -37,5 +38,6 @@ returns g c = inl (record {
     | in-Min w ↦ rw (w.output-is, w.in-Min.is, w.ran-is) w.min_file-ran.ensures
     | in-Check w ↦ rw (w.output-is, w.in-Check.is, w.ran-is) w.check_files-ran.ensures
   ];
-  answered = c.tell.ensures ∙ sym (ap status_of c.in-Err-ran.is);
+  printed = rw c.in-Err-ran.is c.print_error.ensures.printed;
+  answered = c.print_error.ensures.status ∙ sym (ap status_of c.in-Err-ran.is);
 })
