@@ -66,7 +66,7 @@ fn a_sink_fails_at_each_call(rt: HostRuntime) -> Result<(), Fail> {
 
 /// What a writer with this room took of five bytes; and whether all was written.
 fn filled(alloc: Global, room: usize) -> Result<String, AllocError> {
-    let mut sink = OfWrite::new(Filling::new(alloc, room));
+    let mut sink = OfWrite::new(Filling::new(alloc, room)?);
     let wrote = write_whole(&mut sink, FIVE).is_ok();
     let failed = sink.failed;
     format!(in alloc; "{:?} {wrote}, failed {failed}", sink.writer.taken)
@@ -96,12 +96,12 @@ pub struct Filling {
 }
 
 impl Filling {
-    /// Creates a writer that accepts at most `room` bytes.
-    pub fn new(alloc: Global, room: usize) -> Filling {
-        Filling {
-            taken: Vec::new(alloc),
+    /// Creates a writer that accepts at most `room` bytes. A write allocates nothing.
+    pub fn new(alloc: Global, room: usize) -> Result<Filling, AllocError> {
+        Ok(Filling {
+            taken: Vec::with_capacity(alloc, room)?,
             room,
-        }
+        })
     }
 }
 

@@ -133,7 +133,7 @@ pub fn filled(alloc: Global, run: Run, room: usize) -> Result<String, AllocError
     let (one, other) = texts_of(run);
     let mut first = MemorySource::new(one, 4096, None);
     let mut second = MemorySource::new(other, 4096, None);
-    let mut sink = OfWrite::new(Filling::new(alloc, room));
+    let mut sink = OfWrite::new(Filling::new(alloc, room)?);
     let fault = fault_of(alloc, run, &mut first, &mut second, &mut sink);
     reported(
         alloc,
