@@ -72,7 +72,7 @@ def ranges_in_data(data: list[str]) -> list[str]:
     """Returns a line for each set of the data with a range, which is one text there."""
     lines, name, word = [], "", ""
     for text in data:
-        for token in tokens(text):
+        for token in tokens(text) if ".." in text else ():
             if word == "set":
                 name = token.text
             word = token.text if token.text in ("set", "param") else ""
@@ -91,7 +91,7 @@ def codes_in_data(data: list[str]) -> list[str]:
     lines: list[str] = []
     statement = [""]
     for text in data:
-        for token in tokens(text):
+        for token in tokens(text) if re.search(r"\d[EeDd]\d", text) else ():
             statement = [""] if token.text == ";" else [*statement[:3], token.text]
             number = parse_numeral(token.text) if re.fullmatch(r"\d+[EeDd]\d+", token.text) else None
             if (
