@@ -11,7 +11,8 @@ use net_io::{Failed, Sink, write_whole};
 use std::fmt::Write;
 use std::str;
 
-/// The most bytes of a line: a name has at most 255 bytes, and a key at most four members.
+/// The most bytes of a line. A name in the inputs has at most 255 bytes and a key at most four
+/// members, so only a name after `--objective` can be too long.
 const LINE: usize = 4096;
 
 /// The line of an error whose own line does not fit.
