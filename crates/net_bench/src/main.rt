@@ -4,11 +4,12 @@
 use net_check::Certificate;
 use net_data::parse_data;
 use net_dimacs::{read_problem, write_problem};
+use net_guess::{Work, find_counted_guess};
 use net_lex::{lex_data, lex_model};
 use net_model::{free_model, parse_declarations};
 use net_names::check_names;
 use net_sets::HashKey;
-use net_solve::{Plain, Scaling, ScalingRun, Settled, settle, solve, solve_problem};
+use net_solve::{Plain, Scaling, ScalingRun, Settled, settle, solve_problem};
 use std::alloc::{AllocError, Global};
 use std::process::ExitCode;
 use std::time::CpuClock;
@@ -173,24 +174,46 @@ fn tell_settled<R: Print>(rt: &R, settled: &Settled) -> io::Result<()> {
     }
 }
 
-/// Settles a problem by `Plain` or as the program does, prints its value or a cut, and returns the microseconds that this took.
-fn solved<R: AllocGlobal + CpuClock + Print>(rt: &R, text: &[u8], is_plain: bool) -> Option<u128> {
+/// Settles a problem as the program does, prints its value or a cut, and returns the microseconds that this took.
+fn solved<R: AllocGlobal + CpuClock + Print>(rt: &R, text: &[u8]) -> Option<u128> {
     let Ok(problem) = read_problem(rt.alloc(), text) else {
         return None;
     };
     let start = now(rt);
-    let settled = if is_plain {
-        solve(rt.alloc(), &Plain, &problem)
-    } else {
-        solve_problem(rt.alloc(), &problem)
+    let Ok(settled) = solve_problem(rt.alloc(), &problem) else {
+        return None;
     };
     let end = now(rt);
-    match settled {
-        Ok(settled) => tell_settled(rt, &settled)
-            .is_ok()
-            .then_some(end.saturating_sub(start)),
-        Err(_) => None,
-    }
+    tell_settled(rt, &settled)
+        .is_ok()
+        .then_some(end.saturating_sub(start))
+}
+
+/// Prints on standard error what a proposal took.
+fn tell_work<R: Eprint>(rt: &R, work: Work) -> io::Result<()> {
+    let (simplex, preflow) = (work.simplex, work.preflow);
+    let end = if work.is_done { "done" } else { "stopped" };
+    rt.eprintln(format_args!("simplex {simplex}, preflow {preflow} work units, {end}"))
+}
+
+/// Settles a problem by `Plain`, prints its value or a cut and the work of the proposal, and returns the microseconds that this took.
+fn settled_plainly<R: AllocGlobal + CpuClock + Print + Eprint>(
+    rt: &R,
+    text: &[u8],
+) -> Option<u128> {
+    let Ok(problem) = read_problem(rt.alloc(), text) else {
+        return None;
+    };
+    let start = now(rt);
+    let Ok((guess, work)) = find_counted_guess(rt.alloc(), &problem) else {
+        return None;
+    };
+    let Ok(settled) = Plain.certificate(rt.alloc(), &problem, &guess) else {
+        return None;
+    };
+    let end = now(rt);
+    let is_told = tell_settled(rt, &settled).is_ok() && tell_work(rt, work).is_ok();
+    is_told.then_some(end.saturating_sub(start))
 }
 
 /// Prints the result of a cost-scaling run: its value, a cut or none, and its counts.
@@ -241,8 +264,8 @@ fn measured<R: AllocGlobal + CpuClock + Print + Eprint>(
         "data" => tell(rt, what, data(rt, text)),
         "tables" => tell(rt, what, tables(rt, text)),
         "model" => tell(rt, what, model(rt, text)),
-        "solve" => tell_time(rt, what, solved(rt, text, false)),
-        "plain" => tell_time(rt, what, solved(rt, text, true)),
+        "solve" => tell_time(rt, what, solved(rt, text)),
+        "plain" => tell_time(rt, what, settled_plainly(rt, text)),
         "scale" => tell_time(rt, what, scaled(rt, text, number)),
         "grow" => tell_time(rt, what, grown(rt, text, number)),
         _ => Ok(false),

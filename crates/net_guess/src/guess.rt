@@ -47,6 +47,26 @@ pub enum Guess {
     Cut(Cut),
 }
 
+/// What a proposal took, in work units: the nodes and arcs that were inspected.
+#[derive(Clone, Copy)]
+pub struct Work {
+    /// Arcs that the network simplex priced, and nodes below the arcs that left its tree.
+    pub simplex: u64,
+    /// Nodes and arcs that the preflows inspected.
+    pub preflow: u64,
+    /// Whether a heuristic came to its end: with a cut, or with a flow and potentials that it cannot improve.
+    pub is_done: bool,
+}
+
+impl Work {
+    /// No work.
+    pub const NONE: Work = Work {
+        simplex: 0,
+        preflow: 0,
+        is_done: false,
+    };
+}
+
 /// Why a heuristic stops without a result.
 #[derive(Clone, Copy)]
 pub enum Halt {

@@ -2,7 +2,7 @@
 
 use crate::bottleneck::bottleneck;
 use crate::excess::{Start, lows_of};
-use crate::guess::{Cut, Guess, Halt};
+use crate::guess::{Cut, Guess, Halt, Work};
 use crate::preflow::{Feasibility, Preflow};
 use crate::simplex::Simplex;
 use net_check::Side;
@@ -26,12 +26,21 @@ const SIMPLEX_LOOKS: u64 = 30_000;
 
 /// Proposes an answer to a problem. The only error is running out of memory.
 pub fn find_guess(alloc: Global, problem: &Problem) -> Result<Guess, AllocError> {
-    match guessed(alloc, problem) {
-        Ok(guess) => Ok(guess),
-        Err(Halt::OutOfRange) => Ok(Guess::Flow {
-            flows: Vec::new(alloc),
-            potentials: Vec::new(alloc),
-        }),
+    let (guess, _work) = find_counted_guess(alloc, problem)?;
+    Ok(guess)
+}
+
+/// Proposes the same answer, and returns the work that it took. The only error is running out of memory.
+pub fn find_counted_guess(alloc: Global, problem: &Problem) -> Result<(Guess, Work), AllocError> {
+    let mut work = Work::NONE;
+    match guessed(alloc, problem, &mut work) {
+        Ok(guess) => Ok((guess, work)),
+        Err(Halt::OutOfRange) => {
+            let flows = Vec::new(alloc);
+            let potentials = Vec::new(alloc);
+            work.is_done = false;
+            Ok((Guess::Flow { flows, potentials }, work))
+        }
         Err(Halt::OutOfMemory) => Err(AllocError),
     }
 }
@@ -52,7 +61,8 @@ fn decided(alloc: Global, problem: &Problem) -> Result<Option<Cut>, Halt> {
     if let Some(cut) = simple_cut(alloc, problem, &start.excess)? {
         return Ok(Some(cut));
     }
-    let (mut preflow, shown) = run_preflow(alloc, problem, &start, false)?;
+    let mut work = Work::NONE;
+    let (mut preflow, shown) = run_preflow(alloc, problem, &start, false, &mut work)?;
     match shown {
         Feasibility::Infeasible => Ok(Some(cut_of(&mut preflow, alloc)?)),
         Feasibility::Feasible | Feasibility::Unknown => Ok(None),
@@ -60,16 +70,17 @@ fn decided(alloc: Global, problem: &Problem) -> Result<Option<Cut>, Halt> {
 }
 
 /// Returns the first answer that a heuristic proposes.
-fn guessed(alloc: Global, problem: &Problem) -> Result<Guess, Halt> {
+fn guessed(alloc: Global, problem: &Problem, work: &mut Work) -> Result<Guess, Halt> {
     let mut start = Start::new(alloc, problem, lows_of(alloc, problem)?)?;
     if let Some(cut) = simple_cut(alloc, problem, &start.excess)? {
+        work.is_done = true;
         return Ok(Guess::Cut(cut));
     }
     if problem.arcs.iter().all(|arc| arc.cost == 0) {
-        by_preflow(alloc, problem, &start)
+        by_preflow(alloc, problem, &start, work)
     } else {
         start.choose_bounds(problem);
-        by_simplex(alloc, problem, &start)
+        by_simplex(alloc, problem, &start, work)
     }
 }
 
@@ -106,10 +117,12 @@ fn run_preflow(
     problem: &Problem,
     start: &Start,
     is_by_cost: bool,
+    work: &mut Work,
 ) -> Result<(Preflow, Feasibility), Halt> {
     let limit = PREFLOW_LOOKS.saturating_mul(size_of(problem));
     let mut preflow = Preflow::new(alloc, problem, start, is_by_cost, limit)?;
     let shown = preflow.run();
+    work.preflow = work.preflow.wrapping_add(preflow.work);
     Ok((preflow, shown))
 }
 
@@ -122,8 +135,14 @@ fn cut_of(preflow: &mut Preflow, alloc: Global) -> Result<Cut, Halt> {
 }
 
 /// Returns what a preflow finds for a problem without costs: a flow or a cut.
-fn by_preflow(alloc: Global, problem: &Problem, start: &Start) -> Result<Guess, Halt> {
-    let (mut preflow, shown) = run_preflow(alloc, problem, start, false)?;
+fn by_preflow(
+    alloc: Global,
+    problem: &Problem,
+    start: &Start,
+    work: &mut Work,
+) -> Result<Guess, Halt> {
+    let (mut preflow, shown) = run_preflow(alloc, problem, start, false, work)?;
+    work.is_done = !matches!(&shown, Feasibility::Unknown);
     if let Feasibility::Infeasible = shown {
         return Ok(Guess::Cut(cut_of(&mut preflow, alloc)?));
     }
@@ -138,22 +157,30 @@ fn complete(
     problem: &Problem,
     simplex: &Simplex,
     is_by_cost: bool,
+    work: &mut Work,
 ) -> Result<(Preflow, Feasibility), Halt> {
     let flows = simplex.flows(alloc, problem)?;
     let start = Start::new(alloc, problem, flows)?;
-    run_preflow(alloc, problem, &start, is_by_cost)
+    run_preflow(alloc, problem, &start, is_by_cost, work)
 }
 
 /// Returns a simplex that continues from the flow that a preflow makes of this one's, or this one
-/// if there is none.
-fn restart(alloc: Global, problem: &Problem, simplex: Simplex) -> Result<Simplex, Halt> {
-    let (preflow, shown) = complete(alloc, problem, &simplex, true)?;
+/// if there is none. Its work is counted on.
+fn restart(
+    alloc: Global,
+    problem: &Problem,
+    simplex: Simplex,
+    work: &mut Work,
+) -> Result<Simplex, Halt> {
+    let (preflow, shown) = complete(alloc, problem, &simplex, true, work)?;
     match shown {
         Feasibility::Feasible => {
             let flows = preflow.incidence.flows(alloc, problem)?;
             let start = Start::new(alloc, problem, flows)?;
             let potentials = simplex.potentials(alloc, problem)?;
-            Simplex::from_flow(alloc, problem, &start, &potentials)
+            let mut other = Simplex::from_flow(alloc, problem, &start, &potentials)?;
+            other.work = other.work.wrapping_add(simplex.work);
+            Ok(other)
         }
         Feasibility::Infeasible | Feasibility::Unknown => Ok(simplex),
     }
@@ -161,24 +188,31 @@ fn restart(alloc: Global, problem: &Problem, simplex: Simplex) -> Result<Simplex
 
 /// Returns what a network simplex finds: a flow, or, if excess is left after a while, the cut that
 /// a preflow shows. If excess is left for long, the simplex restarts from a preflow's flow.
-fn by_simplex(alloc: Global, problem: &Problem, start: &Start) -> Result<Guess, Halt> {
+fn by_simplex(
+    alloc: Global,
+    problem: &Problem,
+    start: &Start,
+    work: &mut Work,
+) -> Result<Guess, Halt> {
     let size = size_of(problem);
     let mut simplex = Simplex::new(alloc, problem, start)?;
     let mut is_done = simplex.run(EARLY_LOOKS.saturating_mul(size))?;
     if simplex.has_excess() {
-        let (mut preflow, shown) = complete(alloc, problem, &simplex, false)?;
+        let (mut preflow, shown) = complete(alloc, problem, &simplex, false, work)?;
         if let Feasibility::Infeasible = shown {
+            work.simplex = simplex.work;
+            work.is_done = true;
             return Ok(Guess::Cut(cut_of(&mut preflow, alloc)?));
         }
         is_done = is_done || simplex.is_short || simplex.run(EXCESS_LOOKS.saturating_mul(size))?;
         if simplex.has_excess() {
-            simplex = restart(alloc, problem, simplex)?;
+            simplex = restart(alloc, problem, simplex, work)?;
             is_done = false;
         }
     }
-    if !is_done {
-        simplex.run(SIMPLEX_LOOKS.saturating_mul(size))?;
-    }
+    is_done = is_done || simplex.run(SIMPLEX_LOOKS.saturating_mul(size))?;
+    work.simplex = simplex.work;
+    work.is_done = is_done && !simplex.has_excess();
     let flows = simplex.flows(alloc, problem)?;
     let potentials = simplex.potentials(alloc, problem)?;
     Ok(Guess::Flow { flows, potentials })

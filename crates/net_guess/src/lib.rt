@@ -21,6 +21,6 @@ mod starting;
 mod tree;
 mod unchecked_lists;
 
-pub use guess::{Cut, Guess};
-pub use guessing::{find_cut, find_guess};
+pub use guess::{Cut, Guess, Work};
+pub use guessing::{find_counted_guess, find_cut, find_guess};
 pub use node_queue::NodeQueue;
