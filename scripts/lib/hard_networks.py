@@ -7,20 +7,20 @@ from typing import NamedTuple, Optional
 
 from lib.measuring import BENCH, MEASURE
 
-# The most work units for each node and arc, by family: twice the most that were seen with the seeds 1 to 3 of
-# scripts/check_solver.
+# The most work units for each node and arc, by family: twice the most that were seen in 600 mixtures and three networks
+# of each other family.
 LIMITS = {
-    "mixture": 1_100,
-    "hub_excess": 210,
-    "path_par": 1_100,
-    "path_two": 2_100,
-    "near_flow": 7_300,
-    "near_cut": 110,
-    "grid_50": 2_000,
-    "grid_250": 1_700,
-    "grid_4000": 1_700,
-    "negative": 2_000,
-    "tight": 1_600,
+    "mixture": 1_400,
+    "hub_excess": 170,
+    "path_par": 1_010,
+    "path_two": 2_910,
+    "near_flow": 7_220,
+    "near_cut": 50,
+    "grid_50": 2_330,
+    "grid_250": 1_830,
+    "grid_4000": 1_640,
+    "negative": 2_630,
+    "tight": 1_590,
 }
 # The most processor time of solving for each node, in microseconds: many times what any family takes. It only ends runs
 # that do not return.

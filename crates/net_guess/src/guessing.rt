@@ -11,8 +11,11 @@ use std::alloc::{AllocError, Global};
 
 // Each bound is a number of nodes and arcs to inspect, for each node and arc of the problem.
 
-/// After so much work, a network simplex that still has excess waits for a preflow to decide whether there is a flow. Most problems that
-/// have one need less.
+/// After so much work, a network simplex that has more than two thirds of its excess left waits for a preflow to decide whether there is a
+/// flow. It would hardly send the rest within `EARLY_LOOKS`.
+const FIRST_LOOKS: u64 = 10;
+
+/// After so much work, a network simplex that still has excess waits for a preflow in any case. Most problems that have a flow need less.
 const EARLY_LOOKS: u64 = 40;
 
 /// After so much work, a network simplex that still has excess restarts from the flow of a preflow.
@@ -186,6 +189,16 @@ fn restart(
     }
 }
 
+/// Runs a simplex until a preflow should decide whether there is a flow, if it has excess then. Returns whether it came to the end.
+fn run_early(simplex: &mut Simplex, size: u64) -> Result<bool, Halt> {
+    let before = simplex.excess();
+    let is_done = simplex.run(FIRST_LOOKS.saturating_mul(size))?;
+    if is_done || simplex.excess() > before / 3 * 2 {
+        return Ok(is_done);
+    }
+    simplex.run(EARLY_LOOKS.saturating_mul(size))
+}
+
 /// Returns what a network simplex finds: a flow, or, if excess is left after a while, the cut that
 /// a preflow shows. If excess is left for long, the simplex restarts from a preflow's flow.
 fn by_simplex(
@@ -196,7 +209,7 @@ fn by_simplex(
 ) -> Result<Guess, Halt> {
     let size = size_of(problem);
     let mut simplex = Simplex::new(alloc, problem, start)?;
-    let mut is_done = simplex.run(EARLY_LOOKS.saturating_mul(size))?;
+    let mut is_done = run_early(&mut simplex, size)?;
     if simplex.has_excess() {
         let (mut preflow, shown) = complete(alloc, problem, &simplex, false, work)?;
         if let Feasibility::Infeasible = shown {

@@ -194,15 +194,22 @@ impl Simplex {
         Ok(false)
     }
 
-    /// Returns whether there is flow left on arcs of the root.
-    pub fn has_excess(&self) -> bool {
+    /// Returns the flow left on arcs of the root: the excess and the deficits that are not met.
+    pub fn excess(&self) -> u128 {
+        let mut total = 0u128;
         for node in 0..index(self.tree.nodes.len()) {
             let number = self.tree.node(node).arc;
-            if number as usize >= self.numbers.len() && self.root_flow(node, number) != 0 {
-                return true;
+            if number as usize >= self.numbers.len() {
+                let flow = self.root_flow(node, number).unsigned_abs();
+                total = total.wrapping_add(u128::from(flow));
             }
         }
-        self.is_short
+        total
+    }
+
+    /// Returns whether excess is left.
+    pub fn has_excess(&self) -> bool {
+        self.is_short || self.excess() != 0
     }
 
     /// Returns the flow over a node's arc to or from the root with this number: arcs from the root
