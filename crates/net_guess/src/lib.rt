@@ -11,6 +11,7 @@ mod excess;
 mod guess;
 mod guessing;
 mod incidence;
+mod narrow_lists;
 mod node_queue;
 mod pivoting;
 mod preflow;
@@ -20,6 +21,7 @@ mod simplex_arc;
 mod starting;
 mod tree;
 mod unchecked_lists;
+mod wide_lists;
 
 pub use guess::{Cut, Guess, Work};
 pub use guessing::{find_counted_guess, find_cut, find_guess};

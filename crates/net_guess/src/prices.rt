@@ -5,9 +5,11 @@
 //! are stored in 32 bits, which doubles the number of them in the cache.
 
 use crate::guess::Halt;
+use crate::narrow_lists::{NarrowArc, NarrowLists, narrow};
 use crate::simplex_arc::PricedArc;
 use crate::tree::Thread;
-use crate::unchecked_lists::{at, fill, index, put, try_at};
+use crate::unchecked_lists::at;
+use crate::wide_lists::WideLists;
 use std::alloc::{AllocError, Global};
 
 /// The maximum cost of a unit from the root with which no potential and no reduced cost exceeds 32
@@ -18,61 +20,6 @@ pub const NARROW_LIMIT: i64 = 1 << 29;
 const NARROW_DRIFT: i64 = 1 << 29;
 
 const WIDE_DRIFT: i64 = 1 << 59;
-
-/// An arc for pricing, in 32 bits.
-#[derive(Clone, Copy)]
-struct NarrowArc {
-    src: u32,
-    dst: u32,
-    cost: i32,
-}
-
-impl NarrowArc {
-    /// The value of a missing arc, which is never eligible.
-    const NONE: NarrowArc = NarrowArc {
-        src: 0,
-        dst: 0,
-        cost: 0,
-    };
-}
-
-/// Converts a number to 32 bits; returns 0 if it does not fit.
-#[inline]
-fn narrow(number: i64) -> i32 {
-    i32::try_from(number).unwrap_or(0)
-}
-
-/// Adds to a node's potential.
-#[inline]
-fn add_narrow(potentials: &mut Vec<i32>, node: u32, amount: i32) -> Result<(), Halt> {
-    match potentials.get_mut(node as usize) {
-        Some(potential) => {
-            *potential = potential.wrapping_add(amount);
-            Ok(())
-        }
-        None => Err(Halt::OutOfRange),
-    }
-}
-
-#[inline]
-fn add_wide(potentials: &mut Vec<i64>, node: u32, amount: i64) -> Result<(), Halt> {
-    match potentials.get_mut(node as usize) {
-        Some(potential) => {
-            *potential = potential.wrapping_add(amount);
-            Ok(())
-        }
-        None => Err(Halt::OutOfRange),
-    }
-}
-
-/// Returns the index of the arc at an offset in a block of this length, or `None` past its end.
-fn place_in(length: usize, from: usize, offset: usize) -> Option<u32> {
-    if offset < length {
-        Some(index(from.saturating_add(offset)))
-    } else {
-        None
-    }
-}
 
 /// Consecutive nodes in the cyclic order: the first and the last, and their number.
 #[derive(Clone, Copy)]
@@ -86,59 +33,54 @@ pub struct Segment {
 #[derive(Drop)]
 pub struct Prices {
     is_narrow: bool,
-    narrow_arcs: Vec<NarrowArc>,
-    narrow_potentials: Vec<i32>,
-    wide_arcs: Vec<PricedArc>,
-    wide_potentials: Vec<i64>,
+    narrow: NarrowLists,
+    wide: WideLists,
 }
 
 impl Prices {
-    /// Creates lists for this many nodes, including the root, and this many arcs, given the cost of
-    /// a unit from the root. Fails only if memory runs out.
+    /// Creates lists for this many nodes, including the root, and this many arcs, which have to be
+    /// added, given the cost of a unit from the root. Fails only if memory runs out.
     pub fn with_room(
         alloc: Global,
         root_cost: i64,
         node_count: usize,
         arc_count: usize,
     ) -> Result<Prices, AllocError> {
-        let mut prices = Prices {
-            is_narrow: root_cost <= NARROW_LIMIT,
-            narrow_arcs: Vec::new(alloc),
-            narrow_potentials: Vec::new(alloc),
-            wide_arcs: Vec::new(alloc),
-            wide_potentials: Vec::new(alloc),
-        };
-        prices.make_room(alloc, node_count, arc_count)?;
-        Ok(prices)
-    }
-
-    fn make_room(
-        &mut self,
-        alloc: Global,
-        node_count: usize,
-        arc_count: usize,
-    ) -> Result<(), AllocError> {
-        if self.is_narrow {
-            fill(alloc, &mut self.narrow_arcs, NarrowArc::NONE, arc_count)?;
-            fill(alloc, &mut self.narrow_potentials, 0, node_count)
-        } else {
-            fill(alloc, &mut self.wide_arcs, PricedArc::NONE, arc_count)?;
-            fill(alloc, &mut self.wide_potentials, 0, node_count)
+        if root_cost <= NARROW_LIMIT {
+            let narrow = NarrowLists::with_room(alloc, node_count, arc_count)?;
+            let wide = WideLists::with_room(alloc, 0, 0)?;
+            return Ok(Prices {
+                is_narrow: true,
+                narrow,
+                wide,
+            });
         }
+        let narrow = NarrowLists::with_room(alloc, 0, 0)?;
+        let wide = WideLists::with_room(alloc, node_count, arc_count)?;
+        Ok(Prices {
+            is_narrow: false,
+            narrow,
+            wide,
+        })
     }
 
     /// Returns the arc at an index.
     #[inline]
     pub fn arc(&self, place: u32) -> PricedArc {
         if self.is_narrow {
-            let arc = at(&self.narrow_arcs, place, NarrowArc::NONE);
-            PricedArc {
-                src: arc.src,
-                dst: arc.dst,
-                cost: i64::from(arc.cost),
-            }
+            at(&self.narrow.arcs, place, NarrowArc::NONE).widened()
         } else {
-            at(&self.wide_arcs, place, PricedArc::NONE)
+            at(&self.wide.arcs, place, PricedArc::NONE)
+        }
+    }
+
+    /// Adds the next arc.
+    #[inline]
+    pub fn push_arc(&mut self, arc: PricedArc) -> Result<(), Halt> {
+        if self.is_narrow {
+            self.narrow.push(NarrowArc::of(arc))
+        } else {
+            self.wide.push(arc)
         }
     }
 
@@ -146,14 +88,9 @@ impl Prices {
     #[inline]
     pub fn put_arc(&mut self, place: u32, arc: PricedArc) {
         if self.is_narrow {
-            let own = NarrowArc {
-                src: arc.src,
-                dst: arc.dst,
-                cost: narrow(arc.cost),
-            };
-            put(&mut self.narrow_arcs, place, own);
+            self.narrow.put(place, NarrowArc::of(arc));
         } else {
-            put(&mut self.wide_arcs, place, arc);
+            self.wide.put(place, arc);
         }
     }
 
@@ -161,9 +98,9 @@ impl Prices {
     #[inline]
     pub fn potential(&self, node: u32) -> i64 {
         if self.is_narrow {
-            i64::from(at(&self.narrow_potentials, node, 0))
+            i64::from(at(&self.narrow.potentials, node, 0))
         } else {
-            at(&self.wide_potentials, node, 0)
+            at(&self.wide.potentials, node, 0)
         }
     }
 
@@ -171,9 +108,9 @@ impl Prices {
     #[inline]
     pub fn put_potential(&mut self, node: u32, potential: i64) {
         if self.is_narrow {
-            put(&mut self.narrow_potentials, node, narrow(potential));
+            self.narrow.put_potential(node, narrow(potential));
         } else {
-            put(&mut self.wide_potentials, node, potential);
+            self.wide.put_potential(node, potential);
         }
     }
 
@@ -196,8 +133,7 @@ impl Prices {
             .wrapping_sub(self.potential(arc.dst))
     }
 
-    /// Adds to the potentials of consecutive nodes, from both ends, since each step depends on the
-    /// one before it.
+    /// Adds to the potentials of consecutive nodes.
     pub fn raise(
         &mut self,
         threads: &Vec<Thread>,
@@ -205,86 +141,18 @@ impl Prices {
         amount: i64,
     ) -> Result<(), Halt> {
         if self.is_narrow {
-            return self.raise_narrow(threads, segment, narrow(amount));
+            self.narrow.raise(threads, segment, narrow(amount))
+        } else {
+            self.wide.raise(threads, segment, amount)
         }
-        let (mut first, mut last) = (segment.first, segment.last);
-        for _ in 0..segment.count / 2 {
-            add_wide(&mut self.wide_potentials, first, amount)?;
-            add_wide(&mut self.wide_potentials, last, amount)?;
-            first = try_at(threads, first)?.next;
-            last = try_at(threads, last)?.previous;
-        }
-        if segment.count % 2 == 1 {
-            add_wide(&mut self.wide_potentials, first, amount)?;
-        }
-        Ok(())
     }
 
-    fn raise_narrow(
-        &mut self,
-        threads: &Vec<Thread>,
-        segment: Segment,
-        amount: i32,
-    ) -> Result<(), Halt> {
-        let (mut first, mut last) = (segment.first, segment.last);
-        for _ in 0..segment.count / 2 {
-            add_narrow(&mut self.narrow_potentials, first, amount)?;
-            add_narrow(&mut self.narrow_potentials, last, amount)?;
-            first = try_at(threads, first)?.next;
-            last = try_at(threads, last)?.previous;
-        }
-        if segment.count % 2 == 1 {
-            add_narrow(&mut self.narrow_potentials, first, amount)?;
-        }
-        Ok(())
-    }
-
-    /// Returns the index of the arc with the most negative reduced cost in this range. A single
-    /// test, of the upper limit, covers both limits.
-    #[inline(never)]
+    /// Returns the index of the arc with the most negative reduced cost in this range.
     pub fn cheapest_between(&self, from: usize, to: usize) -> Result<Option<u32>, Halt> {
         if self.is_narrow {
-            return self.cheapest_narrow(from, to);
+            self.narrow.cheapest(from, to)
+        } else {
+            self.wide.cheapest(from, to)
         }
-        let Some(block) = self.wide_arcs.get(from..to) else {
-            return Err(Halt::OutOfRange);
-        };
-        let mut least = 0i64;
-        let mut found = block.len();
-        for (offset, arc) in block.iter().enumerate() {
-            if arc.src.max(arc.dst) as usize >= self.wide_potentials.len() {
-                return Err(Halt::OutOfRange);
-            }
-            let src = try_at(&self.wide_potentials, arc.src)?;
-            let dst = try_at(&self.wide_potentials, arc.dst)?;
-            let price = arc.cost.wrapping_add(src).wrapping_sub(dst);
-            if price < least {
-                least = price;
-                found = offset;
-            }
-        }
-        Ok(place_in(block.len(), from, found))
-    }
-
-    #[inline(never)]
-    fn cheapest_narrow(&self, from: usize, to: usize) -> Result<Option<u32>, Halt> {
-        let Some(block) = self.narrow_arcs.get(from..to) else {
-            return Err(Halt::OutOfRange);
-        };
-        let mut least = 0i32;
-        let mut found = block.len();
-        for (offset, arc) in block.iter().enumerate() {
-            if arc.src.max(arc.dst) as usize >= self.narrow_potentials.len() {
-                return Err(Halt::OutOfRange);
-            }
-            let src = try_at(&self.narrow_potentials, arc.src)?;
-            let dst = try_at(&self.narrow_potentials, arc.dst)?;
-            let price = arc.cost.wrapping_add(src).wrapping_sub(dst);
-            if price < least {
-                least = price;
-                found = offset;
-            }
-        }
-        Ok(place_in(block.len(), from, found))
     }
 }

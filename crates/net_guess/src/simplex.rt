@@ -123,24 +123,21 @@ impl Simplex {
     fn take_arcs(&mut self, alloc: Global, problem: &Problem, start: &Start) -> Result<(), Halt> {
         let count = problem.arcs.len();
         fill(alloc, &mut self.numbers, NO_PLACE, count)?;
-        fill(alloc, &mut self.rooms, 0, count)?;
+        self.rooms.reserve(count)?;
         put_priced_order(&mut self.numbers, problem.supplies.len());
-        for place in 0..index(count) {
-            let arc = self.known(problem, place);
+        for number in &self.numbers {
+            let arc = arc_at(problem, *number);
             let room = arc.cap.wrapping_sub(arc.low);
-            if room != 0 {
-                let ahead = PricedArc::of(&arc);
-                let flow = at(&start.flows, at(&self.numbers, place, NO_PLACE), arc.low);
-                self.prices.put_arc(
-                    place,
-                    if flow == arc.cap {
-                        ahead.turned()
-                    } else {
-                        ahead
-                    },
-                );
-                put(&mut self.rooms, place, room);
-            }
+            let ahead = PricedArc::of(&arc);
+            let flow = at(&start.flows, *number, arc.low);
+            self.prices.push_arc(if room == 0 {
+                PricedArc::NONE
+            } else if flow == arc.cap {
+                ahead.turned()
+            } else {
+                ahead
+            })?;
+            self.rooms.push(room)?;
         }
         Ok(())
     }

@@ -1,8 +1,9 @@
 //! Access to lists by unverified indices.
 //!
-//! The heuristic's indices are unverified, so each read and write is bounds-checked. Outside a
-//! list, a read returns a default value, and a write does nothing; in the innermost loops the
-//! heuristic gives up instead. All loops are bounded, and callers check the results.
+//! The heuristic's indices are unverified, except the ends of priced arcs. So each read and write
+//! is bounds-checked. Outside a list, a read returns a default value, and a write does nothing; in
+//! the innermost loops the heuristic gives up instead. All loops are bounded, and callers check the
+//! results.
 
 use crate::guess::Halt;
 use net_normal::{FlowArc, Problem};
