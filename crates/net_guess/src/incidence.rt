@@ -77,28 +77,55 @@ impl Incidence {
             rooms,
         };
         incidence.put_rooms(problem, flows);
+        if is_by_cost {
+            incidence.add_by_cost(alloc, problem)?;
+        } else {
+            incidence.add_in_order(problem);
+        }
+        Ok(incidence)
+    }
+
+    /// Adds the arcs of a problem, the last of each node first: forwards from the most expensive
+    /// one, then backwards from the cheapest.
+    fn add_by_cost(&mut self, alloc: Global, problem: &Problem) -> Result<(), AllocError> {
         let mut order = Vec::with_capacity(alloc, problem.arcs.len())?;
         for (number, arc) in problem.arcs.iter().enumerate() {
             order.push((arc.cost, index(number)))?;
         }
-        if is_by_cost {
-            order.sort()?;
+        order.sort()?;
+        for (_, number) in order.iter().rev() {
+            self.add_forwards(problem, *number);
         }
-        incidence.add_arcs(problem, &order);
-        Ok(incidence)
+        for (_, number) in &order {
+            self.add_backwards(problem, *number);
+        }
+        Ok(())
     }
 
-    /// Adds the arcs of a problem, the last of each node first: forwards from the last one in this
-    /// order, then backwards from the first.
-    fn add_arcs(&mut self, problem: &Problem, order: &Vec<(i64, u32)>) {
-        for (_, number) in order.iter().rev() {
-            let arc = arc_at(problem, *number);
-            self.add(arc.src, arc.dst, number.wrapping_mul(2));
+    /// Adds the arcs of a problem, the last of each node first: forwards from the last one, then
+    /// backwards from the first.
+    fn add_in_order(&mut self, problem: &Problem) {
+        let count = index(problem.arcs.len());
+        for behind in 0..count {
+            self.add_forwards(problem, count - 1 - behind);
         }
-        for (_, number) in order {
-            let arc = arc_at(problem, *number);
-            self.add(arc.dst, arc.src, back_of(number.wrapping_mul(2)));
+        for number in 0..count {
+            self.add_backwards(problem, number);
         }
+    }
+
+    /// Adds the arc with this number at its tail.
+    #[inline]
+    fn add_forwards(&mut self, problem: &Problem, number: u32) {
+        let arc = arc_at(problem, number);
+        self.add(arc.src, arc.dst, number.wrapping_mul(2));
+    }
+
+    /// Adds the arc with this number at its head.
+    #[inline]
+    fn add_backwards(&mut self, problem: &Problem, number: u32) {
+        let arc = arc_at(problem, number);
+        self.add(arc.dst, arc.src, back_of(number.wrapping_mul(2)));
     }
 
     /// Sets the residual capacities.
