@@ -152,5 +152,5 @@ not_refused text p h Unwritten k = absurd k
 
 pub read_back : AreCompilationsReadBack
 read_back requested m d c h short =
-    let is : IsProblemOf c.text.items c.problem = record { short = short; is = h.problem; only = h.only } in
+    let is : IsProblemOf c.text.items c.problem = record { short = short; is = h.written.problem; only = h.written.only } in
     record { is_problem = is; certified = λ settled answer. kept c.text.items answer settled c.problem is; taken = not_refused c.text.items c.problem is }

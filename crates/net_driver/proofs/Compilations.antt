@@ -106,12 +106,10 @@ names_are (objective t n p e ∷ ds) = ap (λ ns. n.text ∷ ns) (names_are ds)
 module _ (represent : ProblemsRepresent) (worlds : WorldsAreSound) (models : model_laws.IsComplete) (data_files : data_laws.IsComplete) where
   -- the compiled model, whose network is one of the declarations in the computed world
   compilation_of : (lean : Bool) (wanted : Option Name) (m d : List ℕ) (c : Compiled) (h : IsBuilt lean wanted m d c)
-      → (x : IsCompilation wanted m d c) × IsNetwork wanted h.world (declarations h.declarations) x.nodes x.arcs x.objective
+      → (x : IsCompilation wanted m d c) × IsNetwork wanted h.world (declarations h.declarations) x.network
   compilation_of lean wanted m d c h = (
     record {
-      nodes = has.nodes;
-      arcs = has.arcs;
-      objective = has.objective;
+      network = has.network;
       mean = record {
         declarations = declarations h.declarations;
         model = record {
@@ -134,19 +132,17 @@ module _ (represent : ProblemsRepresent) (worlds : WorldsAreSound) (models : mod
       represents = found.2;
       names = record {
         objective = ap (λ n. n.objective) h.names ∙ sym has.same_name;
-        nodes = subst (λ names. AreNames names (map (λ (v : meaning.Node). listed_label v.label) has.nodes) c.names.nodes) (sym (nodes_are_declared h.declarations))
-            (subst (λ labels. AreNames (flat_map written.node_declared h.declarations) labels c.names.nodes) (node_labels (nodes h.world h.declarations) has.nodes has.same_nodes) h.node_names);
-        arcs = subst (λ names. AreNames names (map (λ (a : meaning.Arc). listed_label a.label) has.arcs) c.names.arcs) (sym (arcs_are_declared h.declarations))
-            (subst (λ labels. AreNames (flat_map written.arc_declared h.declarations) labels c.names.arcs) (arc_labels (arcs h.world h.declarations) has.arcs has.same_arcs) h.arc_names);
+        nodes = subst (λ names. AreNames names (map (λ (v : meaning.Node). listed_label v.label) has.network.nodes) c.names.nodes) (sym (nodes_are_declared h.declarations))
+            (subst (λ labels. AreNames (flat_map written.node_declared h.declarations) labels c.names.nodes) (node_labels (nodes h.world h.declarations) has.network.nodes has.same_nodes) h.node_names);
+        arcs = subst (λ names. AreNames names (map (λ (a : meaning.Arc). listed_label a.label) has.network.arcs) c.names.arcs) (sym (arcs_are_declared h.declarations))
+            (subst (λ labels. AreNames (flat_map written.arc_declared h.declarations) labels c.names.arcs) (arc_labels (arcs h.world h.declarations) has.network.arcs has.same_arcs) h.arc_names);
       };
-      text = h.text;
-      problem = h.problem;
-      only = h.only;
+      written = record { text = h.text; problem = h.problem; only = h.only };
     },
     has.is_network,
   )
     where
-      found : (has : HasNetwork wanted h.world h.declarations (seen_as h.made)) × IsEvaluated has.nodes has.arcs has.objective × Represents has.nodes has.arcs has.objective c.problem c.link
+      found : (has : HasNetwork wanted h.world h.declarations (seen_as h.made)) × IsEvaluated has.network × Represents has.network c.problem c.link
       found = represent wanted h.world h.declarations h.made (profile_of lean) c.problem c.link (sets_of lean wanted m d c h) (names_of lean wanted m d c h) h.accepts.model.means.level h.has_network h.normal h.by_number
 
       has : HasNetwork wanted h.world h.declarations (seen_as h.made)
@@ -161,23 +157,23 @@ module _ (represent : ProblemsRepresent) (worlds : WorldsAreSound) (models : mod
   printed c ns xs p (Displayed text numbers value) h = h.displayed
   printed c ns xs p (Infeasible text flags side) h = (h.violated, h.reported)
 
-  explained : (vs : List meaning.Node) (all : List meaning.Arc) (o : meaning.Objective) (c : Compiled) (outcome : Outcome) → Represents vs all o c.problem c.link → IsDistinct meaning.same_label (map (λ (a : meaning.Arc). a.label) all)
-      → IsPrinted c outcome → IsExplained vs all c.problem outcome
-  explained vs all o c (Displayed text numbers value) h apart k = tt
-  explained vs all o c (Infeasible text flags side) h apart k = cuts_are_missed vs all o c.problem c.link flags.items side h apart k.0
+  explained : (network : meaning.Network) (c : Compiled) (outcome : Outcome) → Represents network c.problem c.link → IsDistinct meaning.same_label (map (λ (a : meaning.Arc). a.label) network.arcs)
+      → IsPrinted c outcome → IsExplained network c.problem outcome
+  explained network c (Displayed text numbers value) h apart k = tt
+  explained network c (Infeasible text flags side) h apart k = cuts_are_missed network c.problem c.link flags.items side h apart k.0
 
   -- the solved model, whose network is one of the declarations in the computed world
   pub solution_of : AssignmentsAreSound → HaveFeasible → HaveObjective → (lean : Bool) (wanted : Option Name) (m d : List ℕ) (a : Answer) (h : IsSolved lean wanted m d a)
-      → (x : IsSolution wanted m d a) × IsNetwork wanted h.compiled.world (declarations h.compiled.declarations) x.compilation.nodes x.compilation.arcs x.compilation.objective
+      → (x : IsSolution wanted m d a) × IsNetwork wanted h.compiled.world (declarations h.compiled.declarations) x.compilation.network
   solution_of sound fits aims lean wanted m d a h =
       let own = compilation_of lean wanted m d a.compiled h.compiled in
       let solved = answers_solve represent sound fits aims lean wanted m d a h in
       let text = printed a.compiled (nodes h.compiled.world h.compiled.declarations) (arcs h.compiled.world h.compiled.declarations) h.compiled.objective a.outcome h.outcome in (
         record {
           compilation = own.0;
-          holds = holds_moved wanted h.compiled.world (declarations h.compiled.declarations) _ own.0.nodes _ own.0.arcs _ own.0.objective a.outcome solved.network.is_network own.1 solved.holds;
+          holds = holds_moved wanted h.compiled.world (declarations h.compiled.declarations) _ own.0.network a.outcome solved.represented.is_network own.1 solved.holds;
           printed = text;
-          explained = explained own.0.nodes own.0.arcs own.0.objective a.compiled a.outcome own.0.represents own.0.mean.is_network.arcs_apart text;
+          explained = explained own.0.network a.compiled a.outcome own.0.represents own.0.mean.is_network.arcs_apart text;
         },
         own.1,
       )
@@ -192,5 +188,5 @@ pub solutions_are_sound : SolutionsAreSound
 solutions_are_sound = solutions_sound problems_represent worlds_are_sound model-complete complete assignments_are_sound have_feasible have_objective
 
 pub solution_with_network : (lean : Bool) (wanted : Option Name) (m d : List ℕ) (a : Answer) (h : IsSolved lean wanted m d a)
-    → (x : IsSolution wanted m d a) × IsNetwork wanted h.compiled.world (declarations h.compiled.declarations) x.compilation.nodes x.compilation.arcs x.compilation.objective
+    → (x : IsSolution wanted m d a) × IsNetwork wanted h.compiled.world (declarations h.compiled.declarations) x.compilation.network
 solution_with_network = solution_of problems_represent worlds_are_sound model-complete complete assignments_are_sound have_feasible have_objective

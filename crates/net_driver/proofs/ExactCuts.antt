@@ -17,7 +17,7 @@ use Rattle.net_check.specs.Certificates.{is_in, goes_out, comes_in, supply_in, m
 use Rattle.net_check.specs.declared.certificate.Side.{Side}
 use Rattle.net_check.specs.declared.certificate.Side.TheVariants.{Over, Under}
 use Rattle.net_meaning.specs.Network as meaning
-use Rattle.net_meaning.specs.Network.{Node, Arc, Objective, Assignment, same_label, net_inflow, AreWithinBounds, IsSatisfied}
+use Rattle.net_meaning.specs.Network.{Node, Arc, Network, Assignment, same_label, net_inflow, AreWithinBounds, IsSatisfied}
 use Rattle.net_meaning.specs.Represents.{IsEncoded, fixed, at, AreEncoded, assignment_of, Lacks, magnitude, HasSlackWithin, Represents}
 use Rattle.net_inst.proofs.SoundProblems.{flows_are}
 use Rattle.net_driver.specs.Meaning.{marked, nodes_of_cut, shortage, IsExactlyMissed}
@@ -162,7 +162,13 @@ by_side : (problem : Problem) (flags : List Bool) (side : Side) → IsViolatedCu
 by_side problem flags Over cut sum e = omega (arith, ints, clamps, e, most flags problem.arcs.items, cut.violated)
 by_side problem flags Under cut sum e = omega (arith, ints, clamps, e, least flags problem.arcs.items, cut.violated)
 
-module _ (vs : List Node) (all : List Arc) (o : Objective) (problem : Problem) (link : Link) (flags : List Bool) (side : Side) (h : Represents vs all o problem link) (apart : IsDistinct same_label (map (λ (a : Arc). a.label) all)) (cut : IsViolatedCut problem flags side) where
+module _ (network : Network) (problem : Problem) (link : Link) (flags : List Bool) (side : Side) (h : Represents network problem link) (apart : IsDistinct same_label (map (λ (a : Arc). a.label) network.arcs)) (cut : IsViolatedCut problem flags side) where
+  abbrev vs : List Node
+  vs = network.nodes
+
+  abbrev all : List Arc
+  all = network.arcs
+
   abbrev supplies : List ℤ
   supplies = problem.supplies.items
 

@@ -118,10 +118,10 @@ labels_stay label names (x ∷ xs) h = (h.0.1, labels_stay label names xs h.1)
 
 pub names_exact : model_laws.IsSound → data_laws.IsSound → AreUnchanged → NamesAreExact
 names_exact models data_files same requested m d c is = record {
-  nodes = exact same (flat_map node_declared is.mean.declarations) (map (λ (v : Node). listed_label v.label) is.nodes) c.names.nodes (subst (λ ds. NamesStay (flat_map node_declared ds)) found.3 (nodes_declared_stay found.0 printed))
-      (labels_stay (λ (v : Node). v.label) (nodes_in is.mean.declarations) is.nodes here.0) is.names.nodes;
-  arcs = exact same (flat_map arc_declared is.mean.declarations) (map (λ (a : Arc). listed_label a.label) is.arcs) c.names.arcs (subst (λ ds. NamesStay (flat_map arc_declared ds)) found.3 (arcs_declared_stay found.0 printed))
-      (labels_stay (λ (a : Arc). a.label) (arcs_in is.mean.declarations) is.arcs here.1) is.names.arcs;
+  nodes = exact same (flat_map node_declared is.mean.declarations) (map (λ (v : Node). listed_label v.label) is.network.nodes) c.names.nodes (subst (λ ds. NamesStay (flat_map node_declared ds)) found.3 (nodes_declared_stay found.0 printed))
+      (labels_stay (λ (v : Node). v.label) (nodes_in is.mean.declarations) is.network.nodes here.0) is.names.nodes;
+  arcs = exact same (flat_map arc_declared is.mean.declarations) (map (λ (a : Arc). listed_label a.label) is.network.arcs) c.names.arcs (subst (λ ds. NamesStay (flat_map arc_declared ds)) found.3 (arcs_declared_stay found.0 printed))
+      (labels_stay (λ (a : Arc). a.label) (arcs_in is.mean.declarations) is.network.arcs here.1) is.names.arcs;
 }
   where
     found : (ds : List Declaration) × AreDeclarations ds × (print ds ≡ is.mean.model.tokens) × (declarations ds ≡ is.mean.declarations)
@@ -133,9 +133,9 @@ names_exact models data_files same requested m d c is = record {
     own : DeclarationsHold HasNoLineEnd is.mean.declarations
     own = declarations_stay models m is.mean.declarations is.mean.model
 
-    here : AllByRecursion (λ (v : Node). LabelHolds HasNoLineEnd (nodes_in is.mean.declarations) v.label) is.nodes × AllByRecursion (λ (a : Arc). LabelHolds HasNoLineEnd (arcs_in is.mean.declarations) a.label) is.arcs
+    here : AllByRecursion (λ (v : Node). LabelHolds HasNoLineEnd (nodes_in is.mean.declarations) v.label) is.network.nodes × AllByRecursion (λ (a : Arc). LabelHolds HasNoLineEnd (arcs_in is.mean.declarations) a.label) is.network.arcs
     here =
-        network_holds HasNoLineEnd requested is.mean.world is.mean.declarations is.nodes is.arcs is.objective
+        network_holds HasNoLineEnd requested is.mean.world is.mean.declarations is.network
         (world_holds HasNoLineEnd is.mean.declarations is.mean.tables.statements is.mean.world own (statements_stay data_files d is.mean.tables is.mean.data_statements) is.mean.is_world) own is.mean.is_network
 
 pub built_exact : model_laws.IsSound → data_laws.IsSound → AreUnchanged → CompilationsAreSound → BuiltNamesAreExact

@@ -11,7 +11,7 @@ use Rattle.net_normal.specs.declared.problem.Problem.{Problem}
 use Rattle.net_check.specs.Certificates.{is_in, supply_in, most_out, least_out, IsViolatedCut}
 use Rattle.net_check.specs.declared.certificate.Side.{Side}
 use Rattle.net_check.specs.declared.certificate.Side.TheVariants.{Over, Under}
-use Rattle.net_meaning.specs.Network.{Node, Arc, Objective, Assignment, net_inflow, AreWithinBounds, IsSatisfied, IsSatisfiedBy}
+use Rattle.net_meaning.specs.Network.{Node, Arc, Network, Assignment, net_inflow, AreWithinBounds, IsSatisfied, IsSatisfiedBy}
 use Rattle.net_meaning.specs.Represents.{Lacks, magnitude, Represents}
 use Rattle.net_driver.specs.Meaning.{marked, nodes_of_cut, shortage}
 use Rattle.net_driver.specs.MeaningLaws.{CutsAreMissed}
@@ -56,7 +56,13 @@ zeros_sum : (vs : List Node) → sum_of (map magnitude (zeros vs)) ≡ pos 0
 zeros_sum [] = refl
 zeros_sum (v ∷ vs) = omega (arith, ints, clamps, zeros_sum vs)
 
-module _ (vs : List Node) (all : List Arc) (o : Objective) (problem : Problem) (link : Link) (flags : List Bool) (h : Represents vs all o problem link) (one_a_node : length flags ≡ vec_len problem.supplies) (x : Assignment) (within : AreWithinBounds all x) where
+module _ (network : Network) (problem : Problem) (link : Link) (flags : List Bool) (h : Represents network problem link) (one_a_node : length flags ≡ vec_len problem.supplies) (x : Assignment) (within : AreWithinBounds network.arcs x) where
+  abbrev vs : List Node
+  vs = network.nodes
+
+  abbrev all : List Arc
+  all = network.arcs
+
   -- the node's condition is true of its net inflow and d more units
   abbrev IsMissedBy : Node → ℤ → Type 0
   IsMissedBy v d = IsSatisfied v.env v.condition (net_inflow all x v.label +ℤ d)
@@ -118,8 +124,8 @@ module _ (vs : List Node) (all : List Arc) (o : Objective) (problem : Problem) (
   contradicted Under cut k = omega (arith, ints, cut.violated, under (zeros (nodes_of_cut vs flags)) (no_misses (nodes_of_cut vs flags) k), zeros_sum (nodes_of_cut vs flags))
 
 pub cuts_are_missed : CutsAreMissed
-cuts_are_missed vs all o problem link flags side h apart cut = record {
-  contradict = λ x within k. contradicted vs all o problem link flags h cut.one_a_node x within side cut k;
-  missing = λ x ds within zip. missed vs all o problem link flags h cut.one_a_node x within ds zip side;
-  exact = exactly vs all o problem link flags side h apart cut;
+cuts_are_missed network problem link flags side h apart cut = record {
+  contradict = λ x within k. contradicted network problem link flags h cut.one_a_node x within side cut k;
+  missing = λ x ds within zip. missed network problem link flags h cut.one_a_node x within ds zip side;
+  exact = exactly network problem link flags side h apart cut;
 }

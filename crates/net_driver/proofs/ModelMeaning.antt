@@ -44,7 +44,7 @@ module _ (lean : Bool) (wanted : Option Name) (m d : List ℕ) (c : Compiled) (h
 pub compiled_represent : ProblemsRepresent → CompiledProblemsRepresent
 compiled_represent represent lean wanted m d c h =
     let found = represent wanted h.world h.declarations h.made (profile_of lean) c.problem c.link (sets_of lean wanted m d c h) (names_of lean wanted m d c h) h.accepts.model.means.level h.has_network h.normal h.by_number in
-    record { nodes = found.0.nodes; arcs = found.0.arcs; objective = found.0.objective; is_network = found.0.is_network; represents = found.2 }
+    record { network = found.0.network; is_network = found.0.is_network; represents = found.2 }
 
 -- ---- answers
 
@@ -69,16 +69,12 @@ by_same (v ∷ xs) (a ∷ all) (y ∷ ys) h n key =
     ∙ ap (λ (z : ℤ). if bytes_eq v.label.name n && same_tuple v.label.key key then y else z) (by_same xs all ys h.1 n key)
 
 -- what holds in one network of the declarations holds in the other, which is the same
-pub holds_moved : (wanted : Option Name) (w : World) (ds : List Declaration) (vs us : List meaning.Node) (all others : List meaning.Arc) (o p : meaning.Objective) (outcome : Outcome)
-    → meaning.IsNetwork wanted w ds vs all o → meaning.IsNetwork wanted w ds us others p → HoldsIn vs all o outcome → HoldsIn us others p outcome
-holds_moved wanted w ds vs us all others o p outcome is are h =
-    let same = one_network wanted w ds vs us all others o p is are in
-    subst (λ q. HoldsIn us others q outcome) same.2
-    (subst (λ xs. HoldsIn us xs o outcome) same.1
-    (subst (λ ns. HoldsIn ns all o outcome) same.0 h))
+pub holds_moved : (wanted : Option Name) (w : World) (ds : List Declaration) (network other : meaning.Network) (outcome : Outcome)
+    → meaning.IsNetwork wanted w ds network → meaning.IsNetwork wanted w ds other → HoldsIn network outcome → HoldsIn other outcome
+holds_moved wanted w ds network other outcome is are h = subst (λ (n : meaning.Network). HoldsIn n outcome) (one_network wanted w ds network other is are) h
 
 pub answers_solve : ProblemsRepresent → AssignmentsAreSound → HaveFeasible → HaveObjective → AnswersSolveModels
-answers_solve represent sound fits aims lean wanted m d a h = record { network = network; holds = moved }
+answers_solve represent sound fits aims lean wanted m d a h = record { represented = represented; holds = moved }
   where
     p : IsBuilt lean wanted m d a.compiled
     p = h.compiled
@@ -95,10 +91,10 @@ answers_solve represent sound fits aims lean wanted m d a h = record { network =
     apart : written.AreDistinct ns xs
     apart = bound_apart p.declarations p.accepts.tables.statements p.world p.accepts.model.named p.accepts.world
 
-    flows : (x : meaning.Assignment) → map (flow_on x) s.has.arcs ≡ written.numbers_on x xs
-    flows x = flows_same xs s.has.arcs x s.has.same_arcs
+    flows : (x : meaning.Assignment) → map (flow_on x) s.has.network.arcs ≡ written.numbers_on x xs
+    flows x = flows_same xs s.has.network.arcs x s.has.same_arcs
 
-    feasible : (x : meaning.Assignment) → meaning.IsFeasible s.has.nodes s.has.arcs x ↔ written.IsFeasible ns xs x
+    feasible : (x : meaning.Assignment) → meaning.IsFeasible s.has.network x ↔ written.IsFeasible ns xs x
     feasible x =
         let own = s.feasible x in
         let by = fits wanted p.world p.declarations p.made p.has_network apart x in (
@@ -109,18 +105,18 @@ answers_solve represent sound fits aims lean wanted m d a h = record { network =
     aim : IsObjectiveOf p.objective (seen_as p.made) xs
     aim = aim_of lean wanted m d a.compiled aims p
 
-    is_value : (x : meaning.Assignment) → value_of p.made.instance (map (flow_on x) s.has.arcs) ≡ readings.value_of p.objective x
+    is_value : (x : meaning.Assignment) → value_of p.made.instance (map (flow_on x) s.has.network.arcs) ≡ readings.value_of p.objective x
     is_value x = ap (value_of p.made.instance) (flows x) ∙ aim.value apart.arcs x
 
-    sense : s.has.objective.sense ≡ p.objective.sense
+    sense : s.has.network.objective.sense ≡ p.objective.sense
     sense = s.has.same_sense ∙ aim.sense
 
-    go : (o : Outcome) → IsOutcome a.compiled ns xs p.objective o → HoldsIn s.has.nodes s.has.arcs s.has.objective o
+    go : (o : Outcome) → IsOutcome a.compiled ns xs p.objective o → HoldsIn s.has.network o
     go (Displayed text numbers value) k =
-        let x : meaning.Assignment = by_label s.has.arcs numbers.items in
-        let same : x ≡ by_arc xs numbers.items = λ t n key. by_same xs s.has.arcs numbers.items s.has.same_arcs n key t in
+        let x : meaning.Assignment = by_label s.has.network.arcs numbers.items in
+        let same : x ≡ by_arc xs numbers.items = λ t n key. by_same xs s.has.network.arcs numbers.items s.has.same_arcs n key t in
         record {
-          each = k.best.each ∙ zip_length IsSameArc xs s.has.arcs s.has.same_arcs;
+          each = k.best.each ∙ zip_length IsSameArc xs s.has.network.arcs s.has.same_arcs;
           feasible = (feasible x).1 (subst (written.IsFeasible ns xs) (sym same) k.best.feasible);
           has_value = (s.value x value).1 (sym (is_value x ∙ ap (readings.value_of p.objective) same ∙ k.best.is_value));
           none_better = λ y other f v.
@@ -129,8 +125,8 @@ answers_solve represent sound fits aims lean wanted m d a h = record { network =
         }
     go (Infeasible text flags side) k = λ x f. k.none x ((feasible x).0 f)
 
-    network : RepresentsModel wanted p.world (declarations p.declarations) a.compiled.problem a.compiled.link
-    network = compiled_represent represent lean wanted m d a.compiled p
+    represented : RepresentsModel wanted p.world (declarations p.declarations) a.compiled.problem a.compiled.link
+    represented = compiled_represent represent lean wanted m d a.compiled p
 
-    moved : HoldsIn network.nodes network.arcs network.objective a.outcome
-    moved = holds_moved wanted p.world (declarations p.declarations) s.has.nodes network.nodes s.has.arcs network.arcs s.has.objective network.objective a.outcome s.has.is_network network.is_network (go a.outcome h.outcome)
+    moved : HoldsIn represented.network a.outcome
+    moved = holds_moved wanted p.world (declarations p.declarations) s.has.network represented.network a.outcome s.has.is_network represented.is_network (go a.outcome h.outcome)

@@ -124,10 +124,10 @@ module _ (wanted : Option Name) (w : World) (ds : List Declaration) (n : Named) 
   xs = written.arcs w ds
 
   abbrev vs : List meaning.Node
-  vs = s.has.nodes
+  vs = s.has.network.nodes
 
   abbrev all : List meaning.Arc
-  all = s.has.arcs
+  all = s.has.network.arcs
 
   abbrev is : List InstArc
   is = n.instance.arcs.items
@@ -137,12 +137,12 @@ module _ (wanted : Option Name) (w : World) (ds : List Declaration) (n : Named) 
       let same : by_label all numbers ≡ written.by_label (map (λ (a : written.WrittenArc). a.label) xs) numbers = λ t name key. by_same xs all numbers s.has.same_arcs name key t in
       flows_same xs all (by_label all numbers) s.has.same_arcs ∙ ap (λ (x : meaning.Assignment). written.numbers_on x xs) same ∙ have_assignments xs numbers apart.arcs long
 
-  coefficients_are : AreCoefficients s.has.objective all n.instance.constant (map (λ (i : InstArc). i.coefficient) is)
+  coefficients_are : AreCoefficients s.has.network n.instance.constant (map (λ (i : InstArc). i.coefficient) is)
   coefficients_are x = (s.value x _).1 (ap (λ (m : ℤ). n.instance.constant +ℤ m) (price_of-map (λ (c : ℤ). c) (λ (i : InstArc). i.coefficient) is (map (flow_on x) all)))
 
   pub proved : (numbers prices : List ℤ) → length numbers ≡ length xs → length prices ≡ length vs → AllZip (λ a y. IsBoundBy (signed n.instance.sense (printed.reduced_cost prices a)) a y) is numbers
       → ((u : ℕ) (r : NodeRange) → slice_get n.instance.nodes.items u ≡ Some r → IsSideBy (signed n.instance.sense (slice_index_or prices u (pos 0))) r (net_inflow is numbers u))
-      → ProvePlan vs all s.has.objective (by_label all numbers) prices (map (printed.reduced_cost prices) is)
+      → ProvePlan s.has.network (by_label all numbers) prices (map (printed.reduced_cost prices) is)
   proved numbers prices each many arcs nodes = record {
     constant = n.instance.constant;
     coefficients = map (λ (i : InstArc). i.coefficient) is;

@@ -106,9 +106,9 @@ head_same : (o p : Objective) → o ∷ [] ≡ p ∷ [] → o ≡ p
 head_same o p e = cc
 
 pub one_network : NetworksAreUnique
-one_network wanted w ds vs us all bs o p h j =
-    let goal = head_same o p (sym h.objective ∙ j.objective) in (
-      in_order_unique AreNodesOf nodes_unique w 0 ds vs us h.nodes j.nodes,
-      in_order_unique (AreArcsOf p.name) (arcs_unique p.name) w 0 ds all bs (subst (λ (q : Objective). InOrder (AreArcsOf q.name) w 0 ds all) goal h.arcs) j.arcs,
-      goal,
-    )
+one_network wanted w ds n m h j =
+    let nodes = in_order_unique AreNodesOf nodes_unique w 0 ds n.nodes m.nodes h.nodes j.nodes in
+    let goal = head_same n.objective m.objective (sym h.objective ∙ j.objective) in
+    let own = subst (λ (q : Objective). InOrder (AreArcsOf q.name) w 0 ds n.arcs) goal h.arcs in
+    let arcs = in_order_unique (AreArcsOf m.objective.name) (arcs_unique m.objective.name) w 0 ds n.arcs m.arcs own j.arcs in
+    λ t. record { nodes = nodes t; arcs = arcs t; objective = goal t }

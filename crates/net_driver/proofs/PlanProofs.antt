@@ -16,7 +16,7 @@ use Rattle.net_normal.proofs.WholeNumbers.{mul-add, neg-mul}
 use Rattle.net_check.proofs.Products.{add-mul, sub-mul, mul-sub, mul-le, mul-ge}
 use Rattle.net_expr.specs.Worlds.{Name}
 use Rattle.net_tree.specs.Syntax.{Clause, absent, present}
-use Rattle.net_meaning.specs.Network.{Label, Node, Arc, Objective, Assignment, same_label, is_at, flow_on, net_inflow, AreWithinBounds, IsSatisfiedBy, IsFeasible, IsExpressionValue, HasValue}
+use Rattle.net_meaning.specs.Network.{Label, Node, Arc, Network, Assignment, same_label, is_at, flow_on, net_inflow, AreWithinBounds, IsSatisfiedBy, IsFeasible, IsExpressionValue, HasValue}
 use Rattle.net_meaning.specs.Operators as values
 use Rattle.net_meaning.specs.Values.{Env}
 use Rattle.net_meaning.proofs.Unique.{values_are_unique, number_same}
@@ -187,9 +187,9 @@ expression_same : (e : Env) (p : Clause) (k m : ℤ) → IsExpressionValue e p k
 expression_same e absent k m h j = h ∙ sym j
 expression_same e (present x) k m h j = number_same k m (values_are_unique e x (values.number k) (values.number m) h j)
 
-one_value : (o : Objective) (all : List Arc) (x : Assignment) (m n : ℤ) → HasValue o all x m → HasValue o all x n → m ≡ n
-one_value o all x m n h k =
-    let same = expression_same _ o.expression h.0 k.0 h.1 k.1 in
+one_value : (network : Network) (x : Assignment) (m n : ℤ) → HasValue network x m → HasValue network x n → m ≡ n
+one_value network x m n h k =
+    let same = expression_same _ network.objective.expression h.0 k.0 h.1 k.1 in
     let left = h.2 in
     let right = k.2 in
     omega (arith, ints, same, left, right)
@@ -197,20 +197,29 @@ one_value o all x m n h k =
 -- ---- the law
 
 pub prices_prove : PricesProve
-prices_prove vs all o x value prices costs apart proof is z other fits has =
-    as_good_by o.sense proof.constant (weighted proof.coefficients all x) (weighted proof.coefficients all z) value other
-    (one_value o all x value _ is (proof.are_coefficients x)) (one_value o all z other _ has (proof.are_coefficients z))
-    (subst (λ (m : ℤ). signed o.sense m ≤ℤ signed o.sense (weighted proof.coefficients all z)) (sym (whole x))
-    (subst (λ (m : ℤ). signed o.sense (weighted own all x +ℤ inflow_terms vs prices all x) ≤ℤ signed o.sense m) (sym (whole z))
-    (signed_add o.sense (weighted own all x) (inflow_terms vs prices all x) (weighted own all z) (inflow_terms vs prices all z)
-    (costs_le o.sense x z all own arcs fits.bounds)
-    (inflows_le o.sense all x z vs prices proof.nodes fits.conditions))))
+prices_prove network x value prices costs apart proof is z other fits has =
+    as_good_by sense proof.constant (weighted proof.coefficients all x) (weighted proof.coefficients all z) value other
+    (one_value network x value _ is (proof.are_coefficients x)) (one_value network z other _ has (proof.are_coefficients z))
+    (subst (λ (m : ℤ). signed sense m ≤ℤ signed sense (weighted proof.coefficients all z)) (sym (whole x))
+    (subst (λ (m : ℤ). signed sense (weighted own all x +ℤ inflow_terms vs prices all x) ≤ℤ signed sense m) (sym (whole z))
+    (signed_add sense (weighted own all x) (inflow_terms vs prices all x) (weighted own all z) (inflow_terms vs prices all z)
+    (costs_le sense x z all own arcs fits.bounds)
+    (inflows_le sense all x z vs prices proof.nodes fits.conditions))))
   where
+    vs : List Node
+    vs = network.nodes
+
+    all : List Arc
+    all = network.arcs
+
+    sense : Sense
+    sense = network.objective.sense
+
     own : List ℤ
     own = reduced_costs vs prices all proof.coefficients
 
-    arcs : AllZip (IsAtBound o.sense x) all own
-    arcs = subst (AllZip (IsAtBound o.sense x) all) proof.are_costs proof.arcs
+    arcs : AllZip (IsAtBound sense x) all own
+    arcs = subst (AllZip (IsAtBound sense x) all) proof.are_costs proof.arcs
 
     whole : (y : Assignment) → weighted proof.coefficients all y ≡ weighted own all y +ℤ inflow_terms vs prices all y
-    whole y = split vs prices (IsAtBound o.sense x) all proof.coefficients y arcs ∙ ap (λ (m : ℤ). weighted own all y +ℤ m) (exchanged vs prices all y apart)
+    whole y = split vs prices (IsAtBound sense x) all proof.coefficients y arcs ∙ ap (λ (m : ℤ). weighted own all y +ℤ m) (exchanged vs prices all y apart)

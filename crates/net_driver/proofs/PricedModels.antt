@@ -11,7 +11,7 @@ use Rattle.net_normal.specs.Links.{signed, mapped_back}
 use Rattle.net_normal.specs.NormalForm.{flow_arc_of}
 use Rattle.net_normal.specs.declared.instance.Instance.{Instance}
 use Rattle.net_normal.specs.declared.instance.NodeRange.{NodeRange}
-use Rattle.net_meaning.specs.Network.{Node, Arc, Objective, IsNetwork}
+use Rattle.net_meaning.specs.Network.{Network, IsNetwork}
 use Rattle.net_meaning.specs.Represents.{by_label}
 use Rattle.net_inst.specs.AsWritten as written
 use Rattle.net_inst.specs.Instances.{seen_as}
@@ -42,13 +42,9 @@ use Rattle.net_driver.proofs.PriceBounds.{IsBoundBy, IsSideBy, arcs_bound, nodes
 use Rattle.net_driver.proofs.Priced.{form_sizes}
 use Rattle.net_driver.proofs.PricedForms.{IsHeld, IsCompleted, above, all_held, completed}
 
-proves_moved : (wanted : Option Name) (w : World) (ds : List Declaration) (vs us : List Node) (all others : List Arc) (o p : Objective) (c : Compiled) (outcome : Outcome) (text : List ℕ)
-    → IsNetwork wanted w ds vs all o → IsNetwork wanted w ds us others p → ProvesIn vs all o c outcome text → ProvesIn us others p c outcome text
-proves_moved wanted w ds vs us all others o p c outcome text is are h =
-    let same = one_network wanted w ds vs us all others o p is are in
-    subst (λ q. ProvesIn us others q c outcome text) same.2
-    (subst (λ xs. ProvesIn us xs o c outcome text) same.1
-    (subst (λ ns. ProvesIn ns all o c outcome text) same.0 h))
+proves_moved : (wanted : Option Name) (w : World) (ds : List Declaration) (network other : Network) (c : Compiled) (outcome : Outcome) (text : List ℕ)
+    → IsNetwork wanted w ds network → IsNetwork wanted w ds other → ProvesIn network c outcome text → ProvesIn other c outcome text
+proves_moved wanted w ds network other c outcome text is are h = subst (λ (n : Network). ProvesIn n c outcome text) (one_network wanted w ds network other is are) h
 
 pub priced_plans_are_proved : PricedPlansAreProved
 priced_plans_are_proved lean wanted m d a text h = record { solution = own.0; proves = moved }
@@ -65,15 +61,15 @@ priced_plans_are_proved lean wanted m d a text h = record { solution = own.0; pr
     apart : written.AreDistinct (written.nodes p.world p.declarations) (written.arcs p.world p.declarations)
     apart = bound_apart p.declarations p.accepts.tables.statements p.world p.accepts.model.named p.accepts.world
 
-    many : vec_len n.nodes ≡ length s.has.nodes
+    many : vec_len n.nodes ≡ length s.has.network.nodes
     many =
         n.nodes.ok.0
         ∙ sym (length-map n.nodes.items sides_of)
         ∙ sym (zip_length IsRangeOf (written.nodes p.world p.declarations) (map sides_of n.nodes.items) (have_exact_ranges wanted p.world p.declarations (seen_as p.made) p.has_network))
-        ∙ zip_length IsSameNode (written.nodes p.world p.declarations) s.has.nodes s.has.same_nodes
+        ∙ zip_length IsSameNode (written.nodes p.world p.declarations) s.has.network.nodes s.has.same_nodes
 
     plan : (numbers : List ℤ) (shown : List ℕ) → length numbers ≡ length (written.arcs p.world p.declarations) → (k : IsPricedPlan n a.compiled numbers shown text)
-        → ProvePlan s.has.nodes s.has.arcs s.has.objective (by_label s.has.arcs numbers) (node_prices n k.potentials) (reduced_costs n k.potentials)
+        → ProvePlan s.has.network (by_label s.has.network.arcs numbers) (node_prices n k.potentials) (reduced_costs n k.potentials)
     plan numbers shown each k =
         proved wanted p.world p.declarations p.made s apart (have_ends wanted p.world p.declarations (seen_as p.made) p.has_network apart) numbers (node_prices n k.potentials) each (prices_count n k.potentials sized ∙ many)
         (subst (AllZip (λ a y. IsBoundBy (signed n.sense (reduced_cost (node_prices n k.potentials) a)) a y) n.arcs.items) (sym k.maps_back) (arcs_bound (profile_of lean) n k.potentials x held sides sized))
@@ -91,14 +87,14 @@ priced_plans_are_proved lean wanted m d a text h = record { solution = own.0; pr
         sides : (u : ℕ) (r : NodeRange) → slice_get n.nodes.items u ≡ Some r → IsCompleted n.arcs.items u r (above k.potentials (vec_len n.nodes) u) (net_inflow n.arcs.items x u)
         sides = completed (profile_of lean) n a.compiled.problem a.compiled.link p.normal k.potentials k.flows k.certificate.feasible k.certificate.slackness
 
-    go : (o : Outcome) → IsOutcome a.compiled (written.nodes p.world p.declarations) (written.arcs p.world p.declarations) p.objective o → IsPricedOutcome n a.compiled o text → ProvesIn s.has.nodes s.has.arcs s.has.objective a.compiled o text
+    go : (o : Outcome) → IsOutcome a.compiled (written.nodes p.world p.declarations) (written.arcs p.world p.declarations) p.objective o → IsPricedOutcome n a.compiled o text → ProvesIn s.has.network a.compiled o text
     go (Displayed shown numbers value) f k = (node_prices n k.potentials, reduced_costs n k.potentials, k.displayed, plan numbers.items shown.items f.best.each k)
     go (Infeasible shown flags side) f k = k
 
-    own : (x : IsSolution wanted m d a) × IsNetwork wanted p.world (declarations p.declarations) x.compilation.nodes x.compilation.arcs x.compilation.objective
+    own : (x : IsSolution wanted m d a) × IsNetwork wanted p.world (declarations p.declarations) x.compilation.network
     own = solution_with_network lean wanted m d a h.0
 
-    moved : ProvesIn own.0.compilation.nodes own.0.compilation.arcs own.0.compilation.objective a.compiled a.outcome text
+    moved : ProvesIn own.0.compilation.network a.compiled a.outcome text
     moved =
-        proves_moved wanted p.world (declarations p.declarations) s.has.nodes own.0.compilation.nodes s.has.arcs own.0.compilation.arcs s.has.objective own.0.compilation.objective a.compiled a.outcome text
+        proves_moved wanted p.world (declarations p.declarations) s.has.network own.0.compilation.network a.compiled a.outcome text
         s.has.is_network own.1 (go a.outcome h.0.outcome h.1)

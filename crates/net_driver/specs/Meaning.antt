@@ -21,7 +21,7 @@ use Rattle.net_inst.specs.AsWritten as written
 use Rattle.net_inst.specs.declared.network_names.Declared.{Declared}
 use Rattle.net_inst.specs.declared.network_names.Names.{Names}
 use Rattle.net_inst.specs.Laws.{AreNames}
-use Rattle.net_meaning.specs.Network.{Label, Node, Arc, Objective, Assignment, IsNetwork, IsEvaluated, net_inflow, AreWithinBounds, IsSatisfied, IsSatisfiedBy, IsFeasible, HasValue}
+use Rattle.net_meaning.specs.Network.{Label, Node, Arc, Network, Assignment, IsNetwork, IsEvaluated, net_inflow, AreWithinBounds, IsSatisfied, IsSatisfiedBy, IsFeasible, HasValue}
 use Rattle.net_normal.specs.declared.problem.Problem.{Problem}
 use Rattle.net_normal.specs.Sums.{sum_of}
 use Rattle.net_meaning.specs.Represents.{magnitude, Represents, by_label}
@@ -49,10 +49,10 @@ pub record ContainsData (text : List ℕ) (tables : Tables) : Type 0 where
   pub read : AreTokensOf languages.Data text tokens
   pub derived : IsDataFile tables tokens
 
--- The two inputs mean this network (vs: nodes, all: arcs, o: objective). The model contains these declarations, in which no name is declared
--- twice, and the data these statements. Together they give each set its members and each parameter its values: this is the world. In it the
--- declarations have these nodes, arcs and objective, which is the requested one, or the only one; nothing in this network is without a value.
-pub record MeanNetwork (requested : Option Name) (model_text data_text : List ℕ) (vs : List Node) (all : List Arc) (o : Objective) : Type 0 where
+-- The two inputs mean this network. The model contains these declarations, in which no name is declared twice, and the data these statements.
+-- Together they give each set its members and each parameter its values: this is the world. In it the declarations have this network, with the
+-- requested objective, or the only one; nothing in it is without a value.
+pub record MeanNetwork (requested : Option Name) (model_text data_text : List ℕ) (network : Network) : Type 0 where
   pub declarations : List Declaration
   pub model : ContainsModel model_text declarations
   pub names_once : IsDistinct bytes_eq (names_in declarations)
@@ -60,8 +60,8 @@ pub record MeanNetwork (requested : Option Name) (model_text data_text : List �
   pub data_statements : ContainsData data_text tables
   pub world : World
   pub is_world : IsWorld declarations tables.statements world
-  pub is_network : IsNetwork requested world declarations vs all o
-  pub evaluated : IsEvaluated vs all o
+  pub is_network : IsNetwork requested world declarations network
+  pub evaluated : IsEvaluated network
 
 -- ---- compiled models
 
@@ -80,40 +80,40 @@ arc_declared _ = []
 
 -- the names to print are those of the network: its objective, and for nodes and for arcs (`AreNames`) the names of the declarations and in order
 -- the label of each node or arc
-pub record AreNetworkNames (ds : List Declaration) (vs : List Node) (all : List Arc) (o : Objective) (names : Names) : Type 0 where
-  pub objective : names.objective ≡ o.name
-  pub nodes : AreNames (flat_map node_declared ds) (map (λ (v : Node). listed_label v.label) vs) names.nodes
-  pub arcs : AreNames (flat_map arc_declared ds) (map (λ (a : Arc). listed_label a.label) all) names.arcs
+pub record AreNetworkNames (ds : List Declaration) (network : Network) (names : Names) : Type 0 where
+  pub objective : names.objective ≡ network.objective.name
+  pub nodes : AreNames (flat_map node_declared ds) (map (λ (v : Node). listed_label v.label) network.nodes) names.nodes
+  pub arcs : AreNames (flat_map arc_declared ds) (map (λ (a : Arc). listed_label a.label) network.arcs) names.arcs
 
--- The compiled model is that of the two inputs.
-pub record IsCompilation (requested : Option Name) (model_text data_text : List ℕ) (c : Compiled) : Type 0 where
-  -- the inputs mean a network
-  pub nodes : List Node
-  pub arcs : List Arc
-  pub objective : Objective
-  pub mean : MeanNetwork requested model_text data_text nodes arcs objective
-  -- the problem represents it: feasible flows correspond one to one to feasible assignments, and costs to values
-  pub represents : Represents nodes arcs objective c.problem c.link
-  pub names : AreNetworkNames mean.declarations nodes arcs objective c.names
-  -- the text is the name map followed by the problem's lines; it contains this problem and no other
+-- the text is the name map followed by the problem's lines; it contains this problem and no other
+pub record IsWritten (c : Compiled) : Type 0 where
   pub text : c.text.items ≡ link_text c.names c.link ++ problem_text c.problem.supplies.items c.problem.arcs.items
   pub problem : IsProblemText c.text.items c.problem.supplies.items c.problem.arcs.items
   pub only : IsOnlyProblem c.text.items c.problem.supplies.items c.problem.arcs.items
+
+-- The compiled model is that of the two inputs: they mean a network, the problem represents it, the names are the network's, and the text is
+-- written from both.
+pub record IsCompilation (requested : Option Name) (model_text data_text : List ℕ) (c : Compiled) : Type 0 where
+  pub network : Network
+  pub mean : MeanNetwork requested model_text data_text network
+  pub represents : Represents network c.problem c.link
+  pub names : AreNetworkNames mean.declarations network c.names
+  pub written : IsWritten c
 
 -- ---- solved models
 
 -- there is a flow for each arc, in order; the assignment of these flows is feasible and has this value, and this value is at least as good as
 -- that of every feasible assignment
-pub record IsOptimal (vs : List Node) (all : List Arc) (o : Objective) (flows : List ℤ) (value : ℤ) : Type 0 where
-  pub each : length flows ≡ length all
-  pub feasible : IsFeasible vs all (by_label all flows)
-  pub has_value : HasValue o all (by_label all flows) value
-  pub none_better : (x : Assignment) (other : ℤ) → IsFeasible vs all x → HasValue o all x other → IsAsGood o.sense value other
+pub record IsOptimal (network : Network) (flows : List ℤ) (value : ℤ) : Type 0 where
+  pub each : length flows ≡ length network.arcs
+  pub feasible : IsFeasible network (by_label network.arcs flows)
+  pub has_value : HasValue network (by_label network.arcs flows) value
+  pub none_better : (x : Assignment) (other : ℤ) → IsFeasible network x → HasValue network x other → IsAsGood network.objective.sense value other
 
 -- a displayed plan is optimal in the network; if the outcome is a cut, no assignment is feasible
-abbrev pub HoldsIn : List Node → List Arc → Objective → Outcome → Type 0
-HoldsIn vs all o (Displayed text numbers value) = IsOptimal vs all o numbers.items value
-HoldsIn vs all o (Infeasible text flags side) = (x : Assignment) → ¬ IsFeasible vs all x
+abbrev pub HoldsIn : Network → Outcome → Type 0
+HoldsIn network (Displayed text numbers value) = IsOptimal network numbers.items value
+HoldsIn network (Infeasible text flags side) = (x : Assignment) → ¬ IsFeasible network x
 
 -- the text of the outcome: the plan; or the cut, a set of nodes whose supply is outside what its arcs in the problem allow
 abbrev pub IsPrinted : Compiled → Outcome → Type 0
@@ -153,14 +153,14 @@ pub record AreMissed (vs : List Node) (all : List Arc) (short : ℤ) : Type 0 wh
   pub exact : IsExactlyMissed vs all short
 
 -- a cut's nodes are those whose conditions are missed, by the difference of its two numbers
-abbrev pub IsExplained : List Node → List Arc → Problem → Outcome → Type 0
-IsExplained vs all problem (Displayed text numbers value) = ⊤
-IsExplained vs all problem (Infeasible text flags side) = AreMissed (nodes_of_cut vs flags.items) all (shortage problem flags.items side)
+abbrev pub IsExplained : Network → Problem → Outcome → Type 0
+IsExplained network problem (Displayed text numbers value) = ⊤
+IsExplained network problem (Infeasible text flags side) = AreMissed (nodes_of_cut network.nodes flags.items) network.arcs (shortage problem flags.items side)
 
 -- The solved model is that of the two inputs: its compiled model is, the outcome holds in the network, the text prints it, and a cut says what is
 -- missing there.
 pub record IsSolution (requested : Option Name) (model_text data_text : List ℕ) (a : Answer) : Type 0 where
   pub compilation : IsCompilation requested model_text data_text a.compiled
-  pub holds : HoldsIn compilation.nodes compilation.arcs compilation.objective a.outcome
+  pub holds : HoldsIn compilation.network a.outcome
   pub printed : IsPrinted a.compiled a.outcome
-  pub explained : IsExplained compilation.nodes compilation.arcs a.compiled.problem a.outcome
+  pub explained : IsExplained compilation.network a.compiled.problem a.outcome

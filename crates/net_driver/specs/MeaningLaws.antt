@@ -8,7 +8,7 @@ use Rattle.net_tree.specs.Syntax.{Declaration}
 use Rattle.net_normal.specs.declared.problem.Link.{Link}
 use Rattle.net_normal.specs.declared.problem.Problem.{Problem}
 use Rattle.net_expr.specs.Worlds.{Name, World}
-use Rattle.net_meaning.specs.Network.{Node, Arc, Objective, same_label, IsNetwork}
+use Rattle.net_meaning.specs.Network.{Arc, Network, same_label, IsNetwork}
 use Rattle.net_meaning.specs.Represents.{Represents}
 use Rattle.net_driver.specs.declared.answer.Answer.{Answer}
 use Rattle.net_driver.specs.declared.compiled.Compiled.{Compiled}
@@ -28,16 +28,13 @@ SolutionsAreSound = (lean : Bool) (wanted : Option Name) (model_text data_text :
 
 -- declarations have at most one network in a world
 abbrev pub NetworksAreUnique : Type 0
-NetworksAreUnique = (wanted : Option Name) (w : World) (ds : List Declaration) (vs us : List Node) (all others : List Arc) (o p : Objective)
-    → IsNetwork wanted w ds vs all o → IsNetwork wanted w ds us others p → (vs ≡ us) × (all ≡ others) × (o ≡ p)
+NetworksAreUnique = (wanted : Option Name) (w : World) (ds : List Declaration) (network other : Network) → IsNetwork wanted w ds network → IsNetwork wanted w ds other → network ≡ other
 
 -- the declarations have a network in the world, and the problem represents it
 pub record RepresentsModel (wanted : Option Name) (w : World) (ds : List Declaration) (problem : Problem) (link : Link) : Type 0 where
-  pub nodes : List Node
-  pub arcs : List Arc
-  pub objective : Objective
-  pub is_network : IsNetwork wanted w ds nodes arcs objective
-  pub represents : Represents nodes arcs objective problem link
+  pub network : Network
+  pub is_network : IsNetwork wanted w ds network
+  pub represents : Represents network problem link
 
 -- the problem of a compiled model represents the network of the model's declarations, in the world of the model and its data
 abbrev pub CompiledProblemsRepresent : Type 0
@@ -46,8 +43,8 @@ CompiledProblemsRepresent = (lean : Bool) (wanted : Option Name) (model_text dat
 
 -- the compiled problem represents the network of the declarations in the world, and the outcome holds in this network
 pub record SolvesModel (wanted : Option Name) (w : World) (ds : List Declaration) (a : Answer) : Type 0 where
-  pub network : RepresentsModel wanted w ds a.compiled.problem a.compiled.link
-  pub holds : HoldsIn network.nodes network.arcs network.objective a.outcome
+  pub represented : RepresentsModel wanted w ds a.compiled.problem a.compiled.link
+  pub holds : HoldsIn represented.network a.outcome
 
 -- the outcome of a solved model holds in the network of the model's declarations, in the world of the model and its data
 abbrev pub AnswersSolveModels : Type 0
@@ -57,5 +54,5 @@ AnswersSolveModels = (lean : Bool) (wanted : Option Name) (model_text data_text 
 -- every assignment within the bounds misses the conditions of the nodes of a violated cut, by at least the difference of the cut's two numbers;
 -- this holds of every problem that represents a network in which no two arcs have the same label
 abbrev pub CutsAreMissed : Type 0
-CutsAreMissed = (vs : List Node) (all : List Arc) (o : Objective) (problem : Problem) (link : Link) (flags : List Bool) (side : Side) → Represents vs all o problem link
-    → IsDistinct same_label (map (λ (a : Arc). a.label) all) → IsViolatedCut problem flags side → AreMissed (nodes_of_cut vs flags) all (shortage problem flags side)
+CutsAreMissed = (network : Network) (problem : Problem) (link : Link) (flags : List Bool) (side : Side) → Represents network problem link
+    → IsDistinct same_label (map (λ (a : Arc). a.label) network.arcs) → IsViolatedCut problem flags side → AreMissed (nodes_of_cut network.nodes flags) network.arcs (shortage problem flags side)

@@ -7,7 +7,7 @@ use Rattle.net_normal.specs.Sums.{price_of}
 use Rattle.net_normal.specs.declared.instance.Sense.{Sense}
 use Rattle.net_sets.specs.Sets.{Tuple}
 use Rattle.net_expr.specs.Worlds.{Name}
-use Rattle.net_meaning.specs.Network.{Node, Arc, Objective, Assignment, same_label, is_at, flow_on, net_inflow, IsSatisfiedBy, IsFeasible, HasValue}
+use Rattle.net_meaning.specs.Network.{Node, Arc, Network, Assignment, same_label, is_at, flow_on, net_inflow, IsSatisfiedBy, IsFeasible, HasValue}
 use Rattle.net_meaning.specs.Represents.{by_label}
 use Rattle.net_report.specs.Prices.{prices_of_all}
 use Rattle.net_driver.specs.declared.answer.Answer.{Answer}
@@ -33,8 +33,8 @@ reduced_costs vs prices (a ∷ all) (c ∷ coefficients) = ((c +ℤ price_at vs 
 
 -- the value of every assignment is this constant plus the sum over all arcs of coefficient times flow. So a coefficient counts the arc's `obj`
 -- phrases and its terms in the objective's expression.
-abbrev pub AreCoefficients : Objective → List Arc → (constant : ℤ) (coefficients : List ℤ) → Type 0
-AreCoefficients o all constant coefficients = (x : Assignment) → HasValue o all x (constant +ℤ price_of (λ c. c) coefficients (map (flow_on x) all))
+abbrev pub AreCoefficients : Network → (constant : ℤ) (coefficients : List ℤ) → Type 0
+AreCoefficients network constant coefficients = (x : Assignment) → HasValue network x (constant +ℤ price_of (λ c. c) coefficients (map (flow_on x) network.arcs))
 
 -- an arc with a positive reduced cost carries its lower bound, one with a negative reduced cost its upper bound; to maximize the other way round
 pub record IsAtBound (sense : Sense) (x : Assignment) (a : Arc) (cost : ℤ) : Type 0 where
@@ -48,29 +48,29 @@ pub record IsAtSide (sense : Sense) (all : List Arc) (x : Assignment) (v : Node)
   pub negative : signed sense price <ℤ pos 0 → (z : Assignment) → IsSatisfiedBy all z v → net_inflow all z v.label ≤ℤ net_inflow all x v.label
 
 -- the prices of the nodes and the reduced costs of the arcs, in order, prove that the assignment is optimal if it is feasible
-pub record ProvePlan (vs : List Node) (all : List Arc) (o : Objective) (x : Assignment) (prices costs : List ℤ) : Type 0 where
+pub record ProvePlan (network : Network) (x : Assignment) (prices costs : List ℤ) : Type 0 where
   pub constant : ℤ
   pub coefficients : List ℤ
-  pub are_coefficients : AreCoefficients o all constant coefficients
-  pub are_costs : costs ≡ reduced_costs vs prices all coefficients
-  pub arcs : AllZip (IsAtBound o.sense x) all costs
-  pub nodes : AllZip (IsAtSide o.sense all x) vs prices
+  pub are_coefficients : AreCoefficients network constant coefficients
+  pub are_costs : costs ≡ reduced_costs network.nodes prices network.arcs coefficients
+  pub arcs : AllZip (IsAtBound network.objective.sense x) network.arcs costs
+  pub nodes : AllZip (IsAtSide network.objective.sense network.arcs x) network.nodes prices
 
 -- if no two nodes have the same name and key, every feasible assignment has a value that is no better
 abbrev pub PricesProve : Type 0
-PricesProve = (vs : List Node) (all : List Arc) (o : Objective) (x : Assignment) (value : ℤ) (prices costs : List ℤ) → IsDistinct same_label (map (λ (v : Node). v.label) vs)
-    → ProvePlan vs all o x prices costs → HasValue o all x value → (z : Assignment) (other : ℤ) → IsFeasible vs all z → HasValue o all z other → IsAsGood o.sense value other
+PricesProve = (network : Network) (x : Assignment) (value : ℤ) (prices costs : List ℤ) → IsDistinct same_label (map (λ (v : Node). v.label) network.nodes)
+    → ProvePlan network x prices costs → HasValue network x value → (z : Assignment) (other : ℤ) → IsFeasible network z → HasValue network z other → IsAsGood network.objective.sense value other
 
 -- the text prints a plan, then prices and reduced costs that prove it in this network; or it prints a cut alone
-abbrev pub ProvesIn : List Node → List Arc → Objective → Compiled → Outcome → List ℕ → Type 0
-ProvesIn vs all o c (Displayed shown numbers value) text =
-    (prices : List ℤ) × (costs : List ℤ) × (text ≡ shown.items ++ prices_of_all c.names prices costs) × ProvePlan vs all o (by_label all numbers.items) prices costs
-ProvesIn vs all o c (Infeasible shown flags side) text = text ≡ shown.items
+abbrev pub ProvesIn : Network → Compiled → Outcome → List ℕ → Type 0
+ProvesIn network c (Displayed shown numbers value) text =
+    (prices : List ℤ) × (costs : List ℤ) × (text ≡ shown.items ++ prices_of_all c.names prices costs) × ProvePlan network (by_label network.arcs numbers.items) prices costs
+ProvesIn network c (Infeasible shown flags side) text = text ≡ shown.items
 
 -- the solved model is that of the two inputs, and the prices in the text prove its plan in the network that the inputs mean
 pub record IsPricedSolution (requested : Option Name) (model_text data_text : List ℕ) (a : Answer) (text : List ℕ) : Type 0 where
   pub solution : IsSolution requested model_text data_text a
-  pub proves : ProvesIn solution.compilation.nodes solution.compilation.arcs solution.compilation.objective a.compiled a.outcome text
+  pub proves : ProvesIn solution.compilation.network a.compiled a.outcome text
 
 -- the printed prices of a solved model prove its plan
 abbrev pub PricedPlansAreProved : Type 0

@@ -233,11 +233,11 @@ condition_alike ns v rs ranges i f y =
 
 -- ---- feasible assignments
 
-pub feasible_alike : (w : World) (ds : List Declaration) (vs : List meaning.Node) (all : List meaning.Arc) (rs : List Sides) (is : List InstArc) (x : meaning.Assignment) → HasSets w → AreDeclarations ds → AllZip IsSameNode (written.nodes w ds) vs → AllZip IsSameArc (written.arcs w ds) all
-    → AllZip HasRange (written.nodes w ds) rs → AllZip HasBounds all is → AllZip IsBoundedAs (written.arcs w ds) is → meaning.IsFeasible vs all x ↔ written.IsFeasible (written.nodes w ds) (written.arcs w ds) x
-feasible_alike w ds vs all rs is x sets good nodes arcs ranges has ok = (
-  (λ h. record { bounds = bounds_to (written.arcs w ds) all is x arcs has ok h.bounds; conditions = conditions_to (written.arcs w ds) all x arcs (written.nodes w ds) vs rs nodes (conditions_of w sets 0 ds good) ranges h.conditions }),
-  (λ h. record { bounds = bounds_from (written.arcs w ds) all is x arcs has ok h.bounds; conditions = conditions_from (written.arcs w ds) all x arcs (written.nodes w ds) vs rs nodes (conditions_of w sets 0 ds good) ranges h.conditions }),
+pub feasible_alike : (w : World) (ds : List Declaration) (network : meaning.Network) (rs : List Sides) (is : List InstArc) (x : meaning.Assignment) → HasSets w → AreDeclarations ds → AllZip IsSameNode (written.nodes w ds) network.nodes → AllZip IsSameArc (written.arcs w ds) network.arcs
+    → AllZip HasRange (written.nodes w ds) rs → AllZip HasBounds network.arcs is → AllZip IsBoundedAs (written.arcs w ds) is → meaning.IsFeasible network x ↔ written.IsFeasible (written.nodes w ds) (written.arcs w ds) x
+feasible_alike w ds network rs is x sets good nodes arcs ranges has ok = (
+  (λ h. record { bounds = bounds_to (written.arcs w ds) network.arcs is x arcs has ok h.bounds; conditions = conditions_to (written.arcs w ds) network.arcs x arcs (written.nodes w ds) network.nodes rs nodes (conditions_of w sets 0 ds good) ranges h.conditions }),
+  (λ h. record { bounds = bounds_from (written.arcs w ds) network.arcs is x arcs has ok h.bounds; conditions = conditions_from (written.arcs w ds) network.arcs x arcs (written.nodes w ds) network.nodes rs nodes (conditions_of w sets 0 ds good) ranges h.conditions }),
 )
 
 expression_unique : (e : Env) (p : Clause) (k m : ℤ) → IsExpressionValue e p k → IsExpressionValue e p m → k ≡ m
@@ -248,11 +248,11 @@ pub assignments_are_sound : AssignmentsAreSound
 assignments_are_sound requested w ds n sets names good e = record {
   has = found.has;
   evaluated = record {
-    conditions = λ y. all_have_sides y (written.nodes w ds) found.has.nodes f.drawing.nodes.ranges found.has.same_nodes (conditions_of w sets 0 ds good) all_ranges;
-    objective = λ x. (value_of n.instance (map (meaning.flow_on x) found.has.arcs), (value x _).1 refl);
+    conditions = λ y. all_have_sides y (written.nodes w ds) found.has.network.nodes f.drawing.nodes.ranges found.has.same_nodes (conditions_of w sets 0 ds good) all_ranges;
+    objective = λ x. (value_of n.instance (map (meaning.flow_on x) found.has.network.arcs), (value x _).1 refl);
     alike = λ x y m same h. (value y m).1 ((value x m).0 h ∙ ap (value_of n.instance) same);
   };
-  bounds = λ x. (limits_to found.has.arcs n.instance.arcs.items x found.has.bounds, limits_from found.has.arcs n.instance.arcs.items x found.has.bounds);
+  bounds = λ x. (limits_to found.has.network.arcs n.instance.arcs.items x found.has.bounds, limits_from found.has.network.arcs n.instance.arcs.items x found.has.bounds);
   ranges = ranges;
   feasible = feasible;
   value = value;
@@ -267,28 +267,28 @@ assignments_are_sound requested w ds n sets names good e = record {
     apart : written.AreDistinct (written.nodes w ds) (written.arcs w ds)
     apart = are_distinct_in_sets w ds sets (nodes_once ds names.once) (arcs_once ds names.once)
 
-    flows : (x : meaning.Assignment) → map (meaning.flow_on x) found.has.arcs ≡ map (number_on x) (written.arcs w ds)
-    flows x = flows_same (written.arcs w ds) found.has.arcs x found.has.same_arcs
+    flows : (x : meaning.Assignment) → map (meaning.flow_on x) found.has.network.arcs ≡ map (number_on x) (written.arcs w ds)
+    flows x = flows_same (written.arcs w ds) found.has.network.arcs x found.has.same_arcs
 
     all_ranges : AllZip HasRange (written.nodes w ds) f.drawing.nodes.ranges
     all_ranges = (all_written requested w ds f.drawing f.is_built).nodes.ranges
 
-    ranges : (i : ℕ) (v : meaning.Node) → slice_get found.has.nodes i ≡ Some v → IsRangeAt n.instance found.has.arcs i v
+    ranges : (i : ℕ) (v : meaning.Node) → slice_get found.has.network.nodes i ≡ Some v → IsRangeAt n.instance found.has.network.arcs i v
     ranges i v at = (one.range, one.range_at, condition_alike (written.nodes w ds) v f.drawing.nodes.ranges n.instance.nodes.items i one, inflow)
       where
         one : IsFoundAt (written.nodes w ds) v f.drawing.nodes.ranges n.instance.nodes.items i
-        one = found_at i (written.nodes w ds) found.has.nodes f.drawing.nodes.ranges n.instance.nodes.items v found.has.same_nodes (conditions_of w sets 0 ds good) all_ranges (have_exact_ranges requested w ds (seen_as n) e) at
+        one = found_at i (written.nodes w ds) found.has.network.nodes f.drawing.nodes.ranges n.instance.nodes.items v found.has.same_nodes (conditions_of w sets 0 ds good) all_ranges (have_exact_ranges requested w ds (seen_as n) e) at
 
-        inflow : (x : meaning.Assignment) → meaning.net_inflow found.has.arcs x v.label ≡ net_inflow n.instance.arcs.items (map (meaning.flow_on x) found.has.arcs) i
+        inflow : (x : meaning.Assignment) → meaning.net_inflow found.has.network.arcs x v.label ≡ net_inflow n.instance.arcs.items (map (meaning.flow_on x) found.has.network.arcs) i
         inflow x =
-            ap (meaning.net_inflow found.has.arcs x) (label_is one.node v one.same)
-            ∙ inflow_same (written.arcs w ds) found.has.arcs x one.node.label found.has.same_arcs
+            ap (meaning.net_inflow found.has.network.arcs x) (label_is one.node v one.same)
+            ∙ inflow_same (written.arcs w ds) found.has.network.arcs x one.node.label found.has.same_arcs
             ∙ inflow_is (map (λ u. u.label) (written.nodes w ds)) i one.node.label apart.nodes (label_get (written.nodes w ds) i one.node one.at) (written.arcs w ds) n.instance.arcs.items x (have_ends requested w ds (seen_as n) e apart)
             ∙ ap (λ (ys : List ℤ). net_inflow n.instance.arcs.items ys i) (sym (flows x))
 
-    feasible : (x : meaning.Assignment) → meaning.IsFeasible found.has.nodes found.has.arcs x ↔ IsFeasibleAssignment n.instance (map (meaning.flow_on x) found.has.arcs)
+    feasible : (x : meaning.Assignment) → meaning.IsFeasible found.has.network x ↔ IsFeasibleAssignment n.instance (map (meaning.flow_on x) found.has.network.arcs)
     feasible x =
-        let alike = feasible_alike w ds found.has.nodes found.has.arcs f.drawing.nodes.ranges n.instance.arcs.items x sets good found.has.same_nodes found.has.same_arcs all_ranges found.has.bounds (have_bounds requested w ds (seen_as n) e) in
+        let alike = feasible_alike w ds found.has.network f.drawing.nodes.ranges n.instance.arcs.items x sets good found.has.same_nodes found.has.same_arcs all_ranges found.has.bounds (have_bounds requested w ds (seen_as n) e) in
         let by_number = have_feasible requested w ds n e apart x in (
           (λ h. subst (IsFeasibleAssignment n.instance) (sym (flows x)) (by_number.0 (alike.0 h))),
           (λ h. alike.1 (by_number.1 (subst (IsFeasibleAssignment n.instance) (flows x) h))),
@@ -300,9 +300,9 @@ assignments_are_sound requested w ds n sets names good e = record {
     phrase_expression : meaning.Assignment → ℤ
     phrase_expression x = part_value p.before p.env p.expression x
 
-    terms : (x : meaning.Assignment) → meaning.coefficient_terms found.has.arcs x ≡ prices p.name p.behind x
+    terms : (x : meaning.Assignment) → meaning.coefficient_terms found.has.network.arcs x ≡ prices p.name p.behind x
     terms x =
-        terms_are p.name (written.arcs w ds) found.has.arcs x found.prices found.has.same_arcs
+        terms_are p.name (written.arcs w ds) found.has.network.arcs x found.prices found.has.same_arcs
         ∙ all_prices requested [] [] w 0 ds x p names.priced (objectives_once w ds names.once) (λ m l. absurd l) found.is_chosen
 
     total : (x : meaning.Assignment) → value_of n.instance (map (number_on x) (written.arcs w ds)) ≡ phrase_expression x +ℤ prices p.name p.behind x
@@ -311,13 +311,13 @@ assignments_are_sound requested w ds n sets names good e = record {
         let same : aims.0 ≡ p = some_is aims.0 p (sym aims.1 ∙ found.is_chosen) in
         aims.2.value apart.arcs x ∙ ap (λ (o : Objective). objective_value o x) same
 
-    whole : (x : meaning.Assignment) → value_of n.instance (map (meaning.flow_on x) found.has.arcs) ≡ phrase_expression x +ℤ meaning.coefficient_terms found.has.arcs x
+    whole : (x : meaning.Assignment) → value_of n.instance (map (meaning.flow_on x) found.has.network.arcs) ≡ phrase_expression x +ℤ meaning.coefficient_terms found.has.network.arcs x
     whole x = ap (value_of n.instance) (flows x) ∙ total x ∙ ap (λ (m : ℤ). phrase_expression x +ℤ m) (sym (terms x))
 
-    value : (x : meaning.Assignment) (m : ℤ) → meaning.HasValue found.has.objective found.has.arcs x m ↔ (m ≡ value_of n.instance (map (meaning.flow_on x) found.has.arcs))
+    value : (x : meaning.Assignment) (m : ℤ) → meaning.HasValue found.has.network x m ↔ (m ≡ value_of n.instance (map (meaning.flow_on x) found.has.network.arcs))
     value x m =
         let valued = objective_valued requested w ds (seen_as n) e p found.is_chosen (objective_has requested w ds sets p found.is_chosen) apart.arcs x in
-        subst (λ (o : meaning.Objective). meaning.HasValue o found.has.arcs x m ↔ (m ≡ value_of n.instance (map (meaning.flow_on x) found.has.arcs))) (sym found.same) (
-          (λ h. h.2 ∙ ap (λ (k : ℤ). k +ℤ meaning.coefficient_terms found.has.arcs x) (expression_unique _ (clause p.expression) h.0 (phrase_expression x) h.1 valued) ∙ sym (whole x)),
+        subst (λ (o : meaning.Objective). meaning.HasValue (record { nodes = found.has.network.nodes; arcs = found.has.network.arcs; objective = o }) x m ↔ (m ≡ value_of n.instance (map (meaning.flow_on x) found.has.network.arcs))) (sym found.same) (
+          (λ h. h.2 ∙ ap (λ (k : ℤ). k +ℤ meaning.coefficient_terms found.has.network.arcs x) (expression_unique _ (clause p.expression) h.0 (phrase_expression x) h.1 valued) ∙ sym (whole x)),
           (λ k. (phrase_expression x, valued, k ∙ whole x)),
         )

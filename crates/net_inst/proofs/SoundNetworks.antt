@@ -260,8 +260,8 @@ pub record IsFound (requested : Option Name) (w : World) (ds : List Declaration)
   pub has : HasNetwork requested w ds n
   pub objective : Objective
   pub is_chosen : chosen requested (objectives w ds) ≡ Some objective
-  pub same : has.objective ≡ as_objective objective
-  pub prices : AllZip (HasPrice objective.name) (written.arcs w ds) has.arcs
+  pub same : has.network.objective ≡ as_objective objective
+  pub prices : AllZip (HasPrice objective.name) (written.arcs w ds) has.network.arcs
 
 pub network_found : (requested : Option Name) (w : World) (ds : List Declaration) (n : Network) → HasSets w → IsNamedOnce ds → network requested w ds ≡ Ok n → IsFound requested w ds n
 network_found requested w ds n sets names e =
@@ -274,9 +274,7 @@ network_found requested w ds n sets names e =
     let apart = are_distinct_in_sets w ds sets (nodes_once ds names.once) (arcs_once ds names.once) in
     let goal : f.goal.name ≡ aims.0.name = ap (λ (z : Network). z.names.objective) f.whole ∙ aims.2.name in
     let has : HasNetwork requested w ds n = record {
-      nodes = found.nodes;
-      arcs = found.arcs;
-      objective = as_objective aims.0;
+      network = record { nodes = found.nodes; arcs = found.arcs; objective = as_objective aims.0 };
       is_network = record {
         objective = objective_is requested w ds f.drawing aims.0 names.once f.is_built aims.1;
         priced = all_priced w ds names.priced;

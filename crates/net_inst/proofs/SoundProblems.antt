@@ -187,10 +187,10 @@ problems_represent requested w ds n p problem link sets names good e form one = 
     a = assignments_are_sound requested w ds n sets names good e
 
     vs : List meaning.Node
-    vs = a.has.nodes
+    vs = a.has.network.nodes
 
     all : List meaning.Arc
-    all = a.has.arcs
+    all = a.has.network.arcs
 
     is : List InstArc
     is = n.instance.arcs.items

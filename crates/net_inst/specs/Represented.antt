@@ -18,4 +18,4 @@ use Rattle.net_inst.specs.Soundness.{IsNamedOnce, HasNetwork}
 -- everything in the network of the model has a value, and the normal form or the lean form of the computed network represents it
 abbrev pub ProblemsRepresent : Type 0
 ProblemsRepresent = (requested : Option Name) (w : World) (ds : List Declaration) (n : Named) (p : Profile) (problem : Problem) (link : Link) → HasSets w → IsNamedOnce ds → AreDeclarations ds → network requested w ds ≡ Ok (seen_as n)
-    → IsFormIn p n.instance problem link → CorrespondsOneToOne n.instance problem link → (has : HasNetwork requested w ds (seen_as n)) × IsEvaluated has.nodes has.arcs has.objective × Represents has.nodes has.arcs has.objective problem link
+    → IsFormIn p n.instance problem link → CorrespondsOneToOne n.instance problem link → (has : HasNetwork requested w ds (seen_as n)) × IsEvaluated has.network × Represents has.network problem link

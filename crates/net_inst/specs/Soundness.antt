@@ -80,15 +80,13 @@ pub record HasBounds (a : meaning.Arc) (x : InstArc) : Type 0 where
 -- the network of the model, with its nodes and arcs in order of declaration and key; the network n that the code computes has the same labels,
 -- ends, bounds and objective
 pub record HasNetwork (requested : Option Name) (w : World) (ds : List Declaration) (n : Network) : Type 0 where
-  pub nodes : List meaning.Node
-  pub arcs : List meaning.Arc
-  pub objective : meaning.Objective
-  pub is_network : IsNetwork requested w ds nodes arcs objective
-  pub same_name : objective.name ≡ n.names.objective
-  pub same_sense : objective.sense ≡ n.sense
-  pub same_nodes : AllZip IsSameNode (written.nodes w ds) nodes
-  pub same_arcs : AllZip IsSameArc (written.arcs w ds) arcs
-  pub bounds : AllZip HasBounds arcs n.arcs
+  pub network : meaning.Network
+  pub is_network : IsNetwork requested w ds network
+  pub same_name : network.objective.name ≡ n.names.objective
+  pub same_sense : network.objective.sense ≡ n.sense
+  pub same_nodes : AllZip IsSameNode (written.nodes w ds) network.nodes
+  pub same_arcs : AllZip IsSameArc (written.arcs w ds) network.arcs
+  pub bounds : AllZip HasBounds network.arcs n.arcs
 
 -- the node with number i has a range; its condition is true of a net inflow if and only if this is in the range; and an assignment gives the node
 -- the same net inflow by label as by number
@@ -102,11 +100,11 @@ IsRangeAt instance all i v = (r : NodeRange) × (slice_get instance.nodes.items 
 -- coefficients of n give
 pub record HasAssignments (requested : Option Name) (w : World) (ds : List Declaration) (n : Named) : Type 0 where
   pub has : HasNetwork requested w ds (seen_as n)
-  pub evaluated : meaning.IsEvaluated has.nodes has.arcs has.objective
-  pub bounds : (x : meaning.Assignment) → meaning.AreWithinBounds has.arcs x ↔ AllZip IsWithinBounds n.instance.arcs.items (map (flow_on x) has.arcs)
-  pub ranges : (i : ℕ) (v : meaning.Node) → slice_get has.nodes i ≡ Some v → IsRangeAt n.instance has.arcs i v
-  pub feasible : (x : meaning.Assignment) → meaning.IsFeasible has.nodes has.arcs x ↔ IsFeasibleAssignment n.instance (map (flow_on x) has.arcs)
-  pub value : (x : meaning.Assignment) (m : ℤ) → HasValue has.objective has.arcs x m ↔ (m ≡ value_of n.instance (map (flow_on x) has.arcs))
+  pub evaluated : meaning.IsEvaluated has.network
+  pub bounds : (x : meaning.Assignment) → meaning.AreWithinBounds has.network.arcs x ↔ AllZip IsWithinBounds n.instance.arcs.items (map (flow_on x) has.network.arcs)
+  pub ranges : (i : ℕ) (v : meaning.Node) → slice_get has.network.nodes i ≡ Some v → IsRangeAt n.instance has.network.arcs i v
+  pub feasible : (x : meaning.Assignment) → meaning.IsFeasible has.network x ↔ IsFeasibleAssignment n.instance (map (flow_on x) has.network.arcs)
+  pub value : (x : meaning.Assignment) (m : ℤ) → HasValue has.network x m ↔ (m ≡ value_of n.instance (map (flow_on x) has.network.arcs))
 
 -- if the code computes a network, the model has this network; the declared sets of the world have to be sets
 abbrev pub NetworksAreSound : Type 0

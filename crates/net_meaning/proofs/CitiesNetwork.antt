@@ -13,7 +13,7 @@ use Rattle.net_expr.specs.Worlds.{bound, entry_of}
 use Rattle.net_meaning.specs.Operators as results
 use Rattle.net_meaning.specs.Operators.{One, Truth, number, IsResult}
 use Rattle.net_meaning.specs.Values.{env_of, start, a_set, parameter, dummy, Extends, IsValue, AreKeys}
-use Rattle.net_meaning.specs.Network.{Node, Arc, IsArc, IsNode, name_and_key, IsNetwork, Assignment, same_label, flow_on, net_inflow, coefficient_terms, HasSides, IsEvaluated, with_inflow, IsSatisfied, IsSatisfiedBy, IsFeasible, HasValue}
+use Rattle.net_meaning.specs.Network.{Node, Arc, IsArc, IsNode, name_and_key, Network, IsNetwork, Assignment, same_label, flow_on, net_inflow, coefficient_terms, HasSides, IsEvaluated, with_inflow, IsSatisfied, IsSatisfiedBy, IsFeasible, HasValue}
 use Rattle.net_meaning.proofs.Cities.{at, at_both, in_cities, link_item, in_links, balance, ship, declarations, City, cities, pitt, ne, se, bos, ewr, bwi, atl, mco, Link, links, pitt_ne, pitt_se, ne_bos, ne_ewr, ne_bwi, se_ewr, se_bwi, se_atl, se_mco, city, ends, of_links, world, key_of, key_of_link, node_of, arc_of, total_cost, plan}
 use Rattle.net_meaning.proofs.CitiesLemmas.{n0, each, all_left, have_lengths, are_distinct}
 use Rattle.net_meaning.proofs.CitiesWorld.{keys_in_cities, value_at}
@@ -56,6 +56,9 @@ is_ship l capacity cost h = record {
 
 -- ---- the network
 
+abbrev pub eight_cities : Network
+eight_cities = record { nodes = map node_of cities; arcs = map arc_of links; objective = total_cost }
+
 are_nodes : AllZip (IsNode (codes "Balance") (Some (in_cities (codes "k"))) balance) (map (key_of world (codes "k")) cities) (map node_of cities)
 are_nodes = (refl, (refl, (refl, (refl, (refl, (refl, (refl, (refl, tt))))))))
 
@@ -86,7 +89,7 @@ are_arcs = (
   ),
 )
 
-pub is_network : IsNetwork None world declarations (map node_of cities) (map arc_of links) total_cost
+pub is_network : IsNetwork None world declarations eight_cities
 unfolding role_of marks keys
 is_network = record {
   objective = refl;
@@ -124,7 +127,7 @@ is_balanced c demand supply h = subst (IsSatisfied (node_of c).env balance) (sym
   subst (λ b. IsResult op.Equal (number (c.demand -ℤ c.supply)) (number (c.demand -ℤ c.supply)) (Truth b)) (int_eq_equiv.refl (c.demand -ℤ c.supply)) (results.equal (Number (c.demand -ℤ c.supply)) (Number (c.demand -ℤ c.supply))),
 )
 
-pub is_feasible : IsFeasible (map node_of cities) (map arc_of links) plan
+pub is_feasible : IsFeasible eight_cities plan
 is_feasible = record {
   bounds = (
     is_within pitt_ne refl (omega (arith, ints)) (omega (arith, ints)),
@@ -154,7 +157,7 @@ is_feasible = record {
   conditions = (is_balanced pitt refl refl refl, (is_balanced ne refl refl refl, (is_balanced se refl refl refl, (is_balanced bos refl refl refl, (is_balanced ewr refl refl refl, (is_balanced bwi refl refl refl, (is_balanced atl refl refl refl, (is_balanced mco refl refl refl, tt))))))));
 }
 
-pub costs_18190 : HasValue total_cost (map arc_of links) plan (pos 18190)
+pub costs_18190 : HasValue eight_cities plan (pos 18190)
 costs_18190 = (pos 0, refl, refl)
 
 -- ---- nothing in the network is without a value
@@ -173,7 +176,7 @@ has_sides : (y : ℤ) (c : City) → at_key (map (λ (x : City). (city x, Number
     → HasSides (with_inflow (node_of c).env y) balance
 has_sides y c demand supply = ((y, refl), (c.demand -ℤ c.supply, needed y c demand supply))
 
-pub is_evaluated : IsEvaluated (map node_of cities) (map arc_of links) total_cost
+pub is_evaluated : IsEvaluated eight_cities
 is_evaluated = record {
   conditions = λ y. (has_sides y pitt refl refl, (has_sides y ne refl refl, (has_sides y se refl refl, (has_sides y bos refl refl, (has_sides y ewr refl refl, (has_sides y bwi refl refl, (has_sides y atl refl refl, (has_sides y mco refl refl, tt))))))));
   objective = λ x. (pos 0 +ℤ coefficient_terms (map arc_of links) x, (pos 0, refl, refl));

@@ -227,7 +227,7 @@ minimize_total = record { sense = Minimise; name = codes "Total"; env = just_two
 abbrev arc_i : Arc
 arc_i = record { label = record { name = codes "i"; indexed = false; key = [] }; lower = pos 0; upper = pos 9; from = None; to = Some (codes "Y", []); coefficient = pos 0 }
 
-later_arc_is_no_flow : (x : Assignment) → HasValue minimize_total (arc_i ∷ []) x (pos 2)
+later_arc_is_no_flow : (x : Assignment) → HasValue (record { nodes = []; arcs = arc_i ∷ []; objective = minimize_total }) x (pos 2)
 unfolding role_of marks keys
 later_arc_is_no_flow x = (
   pos 2,

@@ -7,7 +7,7 @@ use Rattle.net_base.proofs.Elements.{all_append, all_take}
 use Rattle.net_tree.specs.Syntax.{Braces, Condition, Declaration, set, param, check, node, arc, objective}
 use Rattle.net_expr.specs.declared.world.Entry.{Entry}
 use Rattle.net_expr.specs.Worlds.{Name, World}
-use Rattle.net_meaning.specs.Network.{IsArc, IsNode, AreNodesOf, AreArcsOf, IsNetwork, Label, label_at, Node, Arc, InOrder, Objective}
+use Rattle.net_meaning.specs.Network.{IsArc, IsNode, AreNodesOf, AreArcsOf, IsNetwork, Label, label_at, Node, Arc, InOrder, Network}
 use Rattle.net_meaning.specs.Texts.{EntryHolds, WorldHolds, KeysHold, DeclarationsHold, nodes_in, arcs_in, LabelHolds}
 use Rattle.net_meaning.specs.Values.{Key}
 use Rattle.net_meaning.proofs.TextWorlds.{indexed_hold}
@@ -77,6 +77,6 @@ module _ (P : List ℕ → Type 0) where
   arcs_hold o w k (node n b c ∷ ds) all h i (these, others, is, more, j) = no_labels arc_label (arcs_in ds) these others all is (arcs_hold o w k ds others h i.1 more) j
   arcs_hold o w k (objective minimizes n p ∷ ds) all h i (these, others, is, more, j) = no_labels arc_label (arcs_in ds) these others all is (arcs_hold o w k ds others h i.1 more) j
 
-  pub network_holds : (requested : Option Name) (w : World) (ds : List Declaration) (vs : List Node) (all : List Arc) (o : Objective) → WorldHolds P w → DeclarationsHold P ds → IsNetwork requested w ds vs all o
-      → LabelsHold node_label (nodes_in ds) vs × LabelsHold arc_label (arcs_in ds) all
-  network_holds requested w ds vs all o h i is = (nodes_hold w 0 ds vs h i is.nodes, arcs_hold o.name w 0 ds all h i is.arcs)
+  pub network_holds : (requested : Option Name) (w : World) (ds : List Declaration) (network : Network) → WorldHolds P w → DeclarationsHold P ds → IsNetwork requested w ds network
+      → LabelsHold node_label (nodes_in ds) network.nodes × LabelsHold arc_label (arcs_in ds) network.arcs
+  network_holds requested w ds network h i is = (nodes_hold w 0 ds network.nodes h i is.nodes, arcs_hold network.objective.name w 0 ds network.arcs h i is.arcs)

@@ -55,7 +55,7 @@ not_seven (u, v, a, b, c) = no (subst (λ (z : Value). IsResult op.Equal z (numb
     no h = elim h [ ]
 
 -- without arcs no flow satisfies the shop; its supply is -5 all the same, and not -7
-not_minus_seven : (o : Objective) (problem : Problem) (link : Link) → problem.supplies.items ≡ negsuc 6 ∷ pos 7 ∷ [] → problem.arcs.items ≡ [] → Represents (shop ∷ []) [] o problem link → ⊥
+not_minus_seven : (o : Objective) (problem : Problem) (link : Link) → problem.supplies.items ≡ negsuc 6 ∷ pos 7 ∷ [] → problem.arcs.items ≡ [] → Represents (record { nodes = shop ∷ []; arcs = []; objective = o }) problem link → ⊥
 not_minus_seven o problem link supplies arcs h = not_seven (h.satisfied [] 0 shop (pos 7) nothing refl seven)
   where
     nothing : HasSlackWithin problem link []

@@ -13,7 +13,7 @@ use Rattle.net_expr.specs.SetValues.{HasSets}
 use Rattle.net_expr.specs.Values.{value, index}
 use Rattle.net_expr.specs.Worlds.{Name, World, Scope}
 use Rattle.net_meaning.specs.Operators.{Value, One, Several, Many, Truth}
-use Rattle.net_meaning.specs.Network.{Node, Arc, Objective, IsNetwork}
+use Rattle.net_meaning.specs.Network.{Node, Arc, Network, IsNetwork}
 use Rattle.net_meaning.specs.OfTrees.{IsValue, AreKeys}
 use Rattle.net_meaning.specs.Texts.{ValueHolds, WorldHolds, EnvHolds, KeysHold, ExpressionHolds, BracesHold, DeclarationsHold, StatementsHold, nodes_in, arcs_in, LabelHolds}
 use Rattle.net_meaning.specs.Values as values
@@ -93,6 +93,6 @@ TextsOfWorldsPass = (test : List ℕ → Bool) (ds : List forms.Declaration) (ss
 -- if the texts of the world and the names and strings of the declarations pass a test, the texts of the keys of nodes and arcs pass it; the name
 -- of each node and each arc is the name of a declaration
 abbrev pub TextsOfLabelsPass : Type 0
-TextsOfLabelsPass = (test : List ℕ → Bool) (requested : Option Name) (w : World) (ds : List forms.Declaration) (vs : List Node) (all : List Arc) (o : Objective) → WorldHolds (Passes test) w → DeclarationsHold (Passes test) ds
-    → IsNetwork requested w ds vs all o
-    → AllByRecursion (λ (v : Node). LabelHolds (Passes test) (nodes_in ds) v.label) vs × AllByRecursion (λ (a : Arc). LabelHolds (Passes test) (arcs_in ds) a.label) all
+TextsOfLabelsPass = (test : List ℕ → Bool) (requested : Option Name) (w : World) (ds : List forms.Declaration) (network : Network) → WorldHolds (Passes test) w → DeclarationsHold (Passes test) ds
+    → IsNetwork requested w ds network
+    → AllByRecursion (λ (v : Node). LabelHolds (Passes test) (nodes_in ds) v.label) network.nodes × AllByRecursion (λ (a : Arc). LabelHolds (Passes test) (arcs_in ds) a.label) network.arcs

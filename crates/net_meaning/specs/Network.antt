@@ -153,6 +153,11 @@ ArePriced os d = ⊤
 
 -- ---- the network
 
+pub record Network : Type 0 where
+  pub nodes : List Node
+  pub arcs : List Arc
+  pub objective : Objective
+
 -- the end is the node with this label
 abbrev pub is_at : Option (Name × Tuple) → Label → Bool
 is_at None l = false
@@ -163,15 +168,16 @@ abbrev pub IsNodeAt : List Node → Option (Name × Tuple) → Type 0
 IsNodeAt vs None = ⊤
 IsNodeAt vs (Some r) = IsTrue (list_any (λ (v : Node). is_at (Some r) v.label) vs)
 
-pub record IsNetwork (requested : Option Name) (w : World) (ds : List Declaration) (vs : List Node) (all : List Arc) (o : Objective) : Type 0 where
-  pub objective : IsObjective requested w ds o
+-- the network that the declarations have in the world, with the requested objective
+pub record IsNetwork (requested : Option Name) (w : World) (ds : List Declaration) (network : Network) : Type 0 where
+  pub objective : IsObjective requested w ds network.objective
   pub priced : AllByRecursion (ArePriced (objectives w 0 [] ds)) ds
-  pub nodes : InOrder AreNodesOf w 0 ds vs
-  pub arcs : InOrder (AreArcsOf o.name) w 0 ds all
-  pub ends : AllByRecursion (λ (a : Arc). IsNodeAt vs a.from × IsNodeAt vs a.to × IsTrue (is_some a.from || is_some a.to)) all
+  pub nodes : InOrder AreNodesOf w 0 ds network.nodes
+  pub arcs : InOrder (AreArcsOf network.objective.name) w 0 ds network.arcs
+  pub ends : AllByRecursion (λ (a : Arc). IsNodeAt network.nodes a.from × IsNodeAt network.nodes a.to × IsTrue (is_some a.from || is_some a.to)) network.arcs
   -- labels are unique among nodes, and among arcs
-  pub nodes_apart : IsDistinct same_label (map (λ (v : Node). v.label) vs)
-  pub arcs_apart : IsDistinct same_label (map (λ (a : Arc). a.label) all)
+  pub nodes_apart : IsDistinct same_label (map (λ (v : Node). v.label) network.nodes)
+  pub arcs_apart : IsDistinct same_label (map (λ (a : Arc). a.label) network.arcs)
 
 -- ---- assignments
 
@@ -215,9 +221,9 @@ abbrev pub IsSatisfiedBy : List Arc → Assignment → Node → Type 0
 IsSatisfiedBy all x v = IsSatisfied v.env v.condition (net_inflow all x v.label)
 
 -- each flow is within its arc's bounds, and each node's condition is true of its net inflow
-pub record IsFeasible (vs : List Node) (all : List Arc) (x : Assignment) : Type 0 where
-  pub bounds : AreWithinBounds all x
-  pub conditions : AllByRecursion (IsSatisfiedBy all x) vs
+pub record IsFeasible (network : Network) (x : Assignment) : Type 0 where
+  pub bounds : AreWithinBounds network.arcs x
+  pub conditions : AllByRecursion (IsSatisfiedBy network.arcs x) network.nodes
 
 -- the environment in which each of these names of arcs denotes its flow
 abbrev pub with_arcs : Env → List Name → Assignment → Env
@@ -234,8 +240,8 @@ IsExpressionValue e absent n = n ≡ pos 0
 IsExpressionValue e (present x) n = IsValue e x (number n)
 
 -- the value of an assignment: that of the objective's expression, plus for each arc its coefficient times its flow
-abbrev pub HasValue : Objective → List Arc → Assignment → ℤ → Type 0
-HasValue o all x n = (m : ℤ) × IsExpressionValue (with_arcs (env_of o.env []) o.arcs x) o.expression m × (n ≡ m +ℤ coefficient_terms all x)
+abbrev pub HasValue : Network → Assignment → ℤ → Type 0
+HasValue network x n = (m : ℤ) × IsExpressionValue (with_arcs (env_of network.objective.env []) network.objective.arcs x) network.objective.expression m × (n ≡ m +ℤ coefficient_terms network.arcs x)
 
 -- ---- values
 
@@ -251,7 +257,7 @@ HasSides e (between x o z p u) = IsNumeric e x × IsNumeric e z × IsNumeric e u
 
 -- nothing in the network is without a value: at each net inflow the sides of each node's condition have numbers, and each assignment has a
 -- value. The flow of an arc that does not exist has no effect on it (`alike`).
-pub record IsEvaluated (vs : List Node) (all : List Arc) (o : Objective) : Type 0 where
-  pub conditions : (y : ℤ) → AllByRecursion (λ (v : Node). HasSides (with_inflow v.env y) v.condition) vs
-  pub objective : (x : Assignment) → (n : ℤ) × HasValue o all x n
-  pub alike : (x y : Assignment) (n : ℤ) → Agree all x y → HasValue o all x n → HasValue o all y n
+pub record IsEvaluated (network : Network) : Type 0 where
+  pub conditions : (y : ℤ) → AllByRecursion (λ (v : Node). HasSides (with_inflow v.env y) v.condition) network.nodes
+  pub objective : (x : Assignment) → (n : ℤ) × HasValue network x n
+  pub alike : (x y : Assignment) (n : ℤ) → Agree network.arcs x y → HasValue network x n → HasValue network y n

@@ -18,7 +18,7 @@ use Rattle.net_meaning.specs.Values as values
 use Rattle.net_meaning.specs.Values.{Env, Key}
 use Rattle.net_meaning.specs.World as world
 use Rattle.net_meaning.specs.Network as network
-use Rattle.net_meaning.specs.Network.{Node, Arc, Objective}
+use Rattle.net_meaning.specs.Network.{Node, Arc, Objective, Network}
 
 -- ---- values
 
@@ -146,7 +146,7 @@ objectives w k before ds = network.objectives w k before (declarations ds)
 abbrev pub IsObjective : Option Name → World → List Declaration → Objective → Type 0
 IsObjective requested w ds = network.IsObjective requested w (declarations ds)
 
-abbrev pub IsNetwork : Option Name → World → List Declaration → List Node → List Arc → Objective → Type 0
+abbrev pub IsNetwork : Option Name → World → List Declaration → Network → Type 0
 IsNetwork requested w ds = network.IsNetwork requested w (declarations ds)
 
 abbrev pub Compares : Env → Tree → Operator → Tree → Type 0

@@ -12,7 +12,7 @@ use Rattle.net_normal.specs.declared.problem.Problem.{Problem}
 use Rattle.net_normal.specs.Flows.{net_outflow, IsWithinCapacity, IsFeasibleFlow, cost_of}
 use Rattle.net_normal.specs.Links.{mapped_back, value_at}
 use Rattle.net_normal.specs.Sums.{sum_of}
-use Rattle.net_meaning.specs.Network.{Node, Arc, Objective, Assignment, Agree, is_at, AreWithinBounds, net_inflow, IsSatisfied, IsFeasible, HasValue}
+use Rattle.net_meaning.specs.Network.{Node, Arc, Network, Assignment, Agree, is_at, AreWithinBounds, net_inflow, IsSatisfied, IsFeasible, HasValue}
 
 -- the number of a node in the problem, from 0. The problem has one more node after the model's nodes, which is the missing end of arcs with one end.
 pub data IsNodeNumber (vs : List Node) : Option (Name × Tuple) → ℕ → Type 0 where
@@ -60,25 +60,25 @@ pub record HasSlackWithin (problem : Problem) (link : Link) (flows : List ℤ) :
 
 -- the problem represents the network: it has the network's nodes and one more, each arc is in it or has a fixed flow, and its feasible flows
 -- correspond one to one to the feasible assignments, with costs and values
-pub record Represents (vs : List Node) (all : List Arc) (o : Objective) (problem : Problem) (link : Link) : Type 0 where
-  pub sense : link.sense ≡ o.sense
-  pub nodes : length problem.supplies.items ≡ length vs + 1
+pub record Represents (network : Network) (problem : Problem) (link : Link) : Type 0 where
+  pub sense : link.sense ≡ network.objective.sense
+  pub nodes : length problem.supplies.items ≡ length network.nodes + 1
   -- so the supplies of the model's nodes determine that of the other node
   pub total : sum_of problem.supplies.items ≡ pos 0
-  pub arcs : AreEncoded vs problem.arcs.items all link.offsets.items link.numbers.items
+  pub arcs : AreEncoded network.nodes problem.arcs.items network.arcs link.offsets.items link.numbers.items
   -- feasible flows correspond one to one to feasible assignments
-  pub forward : (flows : List ℤ) → IsFeasibleFlow problem flows → IsFeasible vs all (assignment_of all link flows)
-  pub onto : (x : Assignment) → IsFeasible vs all x → (flows : List ℤ) × IsFeasibleFlow problem flows × Agree all (assignment_of all link flows) x
-  pub injective : (flows others : List ℤ) → IsFeasibleFlow problem flows → IsFeasibleFlow problem others → Agree all (assignment_of all link flows) (assignment_of all link others) → flows ≡ others
+  pub forward : (flows : List ℤ) → IsFeasibleFlow problem flows → IsFeasible network (assignment_of network.arcs link flows)
+  pub onto : (x : Assignment) → IsFeasible network x → (flows : List ℤ) × IsFeasibleFlow problem flows × Agree network.arcs (assignment_of network.arcs link flows) x
+  pub injective : (flows others : List ℤ) → IsFeasibleFlow problem flows → IsFeasibleFlow problem others → Agree network.arcs (assignment_of network.arcs link flows) (assignment_of network.arcs link others) → flows ≡ others
   -- the cost of a flow, feasible or not, gives the value of its assignment: the constant plus the cost, or minus it to maximize
-  pub value : (flows : List ℤ) → length flows ≡ length problem.arcs.items → HasValue o all (assignment_of all link flows) (value_at link (cost_of problem flows))
+  pub value : (flows : List ℤ) → length flows ≡ length problem.arcs.items → HasValue network (assignment_of network.arcs link flows) (value_at link (cost_of problem flows))
   -- If no assignment is feasible, the fields above say nothing of supplies. The next two do, node by node. If a node lacks d units, its condition
   -- is true of its net inflow and d more units, whatever the flows on the model's arcs. So its supply, with any slack, stands for net inflows that
   -- the condition allows. A condition that is true of no net inflow (E54) has no such supply.
-  pub satisfied : (flows : List ℤ) (i : ℕ) (v : Node) (d : ℤ) → HasSlackWithin problem link flows → slice_get vs i ≡ Some v → Lacks problem flows i d
-      → IsSatisfied v.env v.condition (net_inflow all (assignment_of all link flows) v.label +ℤ d)
+  pub satisfied : (flows : List ℤ) (i : ℕ) (v : Node) (d : ℤ) → HasSlackWithin problem link flows → slice_get network.nodes i ≡ Some v → Lacks problem flows i d
+      → IsSatisfied v.env v.condition (net_inflow network.arcs (assignment_of network.arcs link flows) v.label +ℤ d)
   -- Each assignment within the bounds has a flow within the capacities that misses the supply of each node by no more than the assignment misses
   -- the node's condition.
-  pub balanced : (x : Assignment) → AreWithinBounds all x
-      → (flows : List ℤ) × AllZip IsWithinCapacity problem.arcs.items flows × Agree all (assignment_of all link flows) x
-      × ((i : ℕ) (v : Node) (d : ℤ) → slice_get vs i ≡ Some v → IsSatisfied v.env v.condition (net_inflow all x v.label +ℤ d) → (e : ℤ) × Lacks problem flows i e × (magnitude e ≤ℤ magnitude d))
+  pub balanced : (x : Assignment) → AreWithinBounds network.arcs x
+      → (flows : List ℤ) × AllZip IsWithinCapacity problem.arcs.items flows × Agree network.arcs (assignment_of network.arcs link flows) x
+      × ((i : ℕ) (v : Node) (d : ℤ) → slice_get network.nodes i ≡ Some v → IsSatisfied v.env v.condition (net_inflow network.arcs x v.label +ℤ d) → (e : ℤ) × Lacks problem flows i e × (magnitude e ≤ℤ magnitude d))
