@@ -1,9 +1,9 @@
 -- Compiled models and answers are those of the network that the two inputs mean.
-use Rattle.std.specs.Prelude.{◌≡◌, ℕ, Bool, List, [], ◌∷◌, ◌++◌, map, Option}
-use Rattle.std.specs.List.{AllZip, IsDistinct, flat_map}
+use Rattle.std.specs.Prelude.{◌≡◌, ℕ, Bool, List, [], ◌∷◌, map, Option}
+use Rattle.std.specs.List.{IsDistinct}
 use Rattle.std.specs.Str.{bytes_eq}
-use Rattle.std.proofs.Common.{refl, ap, sym, ◌∙◌, subst}
-use Rattle.net_tree.specs.Erasure.{declaration, declarations}
+use Rattle.std.proofs.Common.{refl, ap, sym, subst}
+use Rattle.net_tree.specs.Erasure.{declarations}
 use Rattle.net_tree.specs.Tree.{Declaration, set, param, check, node, arc, objective}
 use Rattle.net_model.specs.GrammarLaws as model_laws
 use Rattle.net_model.specs.GrammarOfDeclarations.{IsModel}
@@ -14,15 +14,14 @@ use Rattle.net_meaning.specs.Network as meaning
 use Rattle.net_meaning.specs.Network.{IsNetwork, IsEvaluated}
 use Rattle.net_meaning.specs.Represents.{Represents}
 use Rattle.net_meaning.specs.World.{names_in}
-use Rattle.net_meaning.proofs.Erased.{indexed_is}
 use Rattle.net_inst.specs.AsWritten as written
 use Rattle.net_inst.specs.AsWritten.{nodes, arcs}
 use Rattle.net_inst.specs.Instances.{seen_as}
-use Rattle.net_inst.specs.Laws.{AreNames, HaveFeasible, HaveObjective}
+use Rattle.net_inst.specs.Laws.{HaveFeasible, HaveObjective}
 use Rattle.net_inst.specs.Readings.{Objective}
 use Rattle.net_inst.specs.Represented.{ProblemsRepresent}
 use Rattle.net_inst.specs.Soundness as once
-use Rattle.net_inst.specs.Soundness.{IsSameNode, IsSameArc, HasNetwork, AssignmentsAreSound}
+use Rattle.net_inst.specs.Soundness.{HasNetwork, AssignmentsAreSound}
 use Rattle.net_driver.specs.declared.answer.Answer.{Answer}
 use Rattle.net_driver.specs.declared.answer.Outcome.{Outcome}
 use Rattle.net_driver.specs.declared.answer.Outcome.TheVariants.{Displayed, Infeasible}
@@ -30,11 +29,12 @@ use Rattle.net_driver.specs.declared.compiled.Compiled.{Compiled}
 use Rattle.net_driver.specs.IsSolved.{IsSolved, IsOutcome}
 use Rattle.net_driver.specs.IsBuilt.{IsBuilt}
 use Rattle.net_driver.specs.Made.{profile_of}
-use Rattle.net_driver.specs.Meaning.{listed_label, node_declared, arc_declared, IsCompilation, IsSolution, IsPrinted, IsExplained}
+use Rattle.net_driver.specs.Meaning.{IsCompilation, IsSolution, IsPrinted, IsExplained}
 use Rattle.net_driver.specs.MeaningLaws.{CompilationsAreSound, SolutionsAreSound}
 use Rattle.net_driver.proofs.MissedCuts.{cuts_are_missed}
 use Rattle.net_driver.proofs.ModelMeaning.{sets_of, names_of, answers_solve, holds_moved}
 use Rattle.net_driver.proofs.ModelWorld.{is_world}
+use Rattle.net_driver.proofs.NetworkNames.{names_are_listed}
 use Rattle.net_inst.proofs.SoundProblems.{problems_represent}
 use Rattle.net_inst.proofs.SoundAssignments.{assignments_are_sound}
 use Rattle.net_inst.proofs.Feasible.{have_feasible}
@@ -43,54 +43,7 @@ use Rattle.net_bind.proofs.SoundWorlds.{worlds_are_sound}
 use Rattle.net_model.proofs.GrammarModelsComplete.{model-complete}
 use Rattle.net_data.proofs.GrammarAgrees.{complete}
 
--- ---- labels
-
-one_label : (m : written.WrittenLabel) (l : meaning.Label) → l.name ≡ m.name → l.indexed ≡ m.indexed → l.key ≡ m.key → m ≡ listed_label l
-one_label m l name indexed key = λ t. record { name = sym name t; indexed = sym indexed t; key = sym key t }
-
-node_labels : (ns : List written.WrittenNode) (vs : List meaning.Node) → AllZip IsSameNode ns vs → map (λ (n : written.WrittenNode). n.label) ns ≡ map (λ (v : meaning.Node). listed_label v.label) vs
-node_labels [] [] h = refl
-node_labels [] (v ∷ vs) h = absurd h
-node_labels (n ∷ ns) [] h = absurd h
-node_labels (n ∷ ns) (v ∷ vs) h =
-    let one = one_label n.label v.label h.0.name h.0.indexed h.0.key in
-    let more = node_labels ns vs h.1 in
-    λ t. one t ∷ more t
-
-arc_labels : (xs : List written.WrittenArc) (all : List meaning.Arc) → AllZip IsSameArc xs all → map (λ (x : written.WrittenArc). x.label) xs ≡ map (λ (a : meaning.Arc). listed_label a.label) all
-arc_labels [] [] h = refl
-arc_labels [] (a ∷ all) h = absurd h
-arc_labels (x ∷ xs) [] h = absurd h
-arc_labels (x ∷ xs) (a ∷ all) h =
-    let one = one_label x.label a.label h.0.name h.0.indexed h.0.key in
-    let more = arc_labels xs all h.1 in
-    λ t. one t ∷ more t
-
 -- ---- declared names
-
-nodes_are_declared : (ds : List Declaration) → flat_map node_declared (declarations ds) ≡ flat_map written.node_declared ds
-nodes_are_declared [] = refl
-nodes_are_declared (d ∷ ds) = ap (λ names. names ++ flat_map node_declared (declarations ds)) (one d) ∙ ap (λ names. written.node_declared d ++ names) (nodes_are_declared ds)
-  where
-    one : (d : Declaration) → node_declared (declaration d) ≡ written.node_declared d
-    one (node t n b c e) = ap (λ i. (record { name = n.text; indexed = i }) ∷ []) (indexed_is b)
-    one (set t n ps e) = refl
-    one (param t n b ps e) = refl
-    one (check t b m x e) = refl
-    one (arc t n b ps e) = refl
-    one (objective t n p e) = refl
-
-arcs_are_declared : (ds : List Declaration) → flat_map arc_declared (declarations ds) ≡ flat_map written.arc_declared ds
-arcs_are_declared [] = refl
-arcs_are_declared (d ∷ ds) = ap (λ names. names ++ flat_map arc_declared (declarations ds)) (one d) ∙ ap (λ names. written.arc_declared d ++ names) (arcs_are_declared ds)
-  where
-    one : (d : Declaration) → arc_declared (declaration d) ≡ written.arc_declared d
-    one (arc t n b ps e) = ap (λ i. (record { name = n.text; indexed = i }) ∷ []) (indexed_is b)
-    one (set t n ps e) = refl
-    one (param t n b ps e) = refl
-    one (check t b m x e) = refl
-    one (node t n b c e) = refl
-    one (objective t n p e) = refl
 
 names_are : (ds : List Declaration) → names_in (declarations ds) ≡ once.names_in ds
 names_are [] = refl
@@ -130,14 +83,7 @@ module _ (represent : ProblemsRepresent) (worlds : WorldsAreSound) (models : mod
         evaluated = found.1;
       };
       represents = found.2;
-      names = record {
-        objective = ap (λ n. n.objective) h.names ∙ sym has.same_name;
-        nodes = subst (λ names. AreNames names (map (λ (v : meaning.Node). listed_label v.label) has.network.nodes) c.names.nodes) (sym (nodes_are_declared h.declarations))
-            (subst (λ labels. AreNames (flat_map written.node_declared h.declarations) labels c.names.nodes) (node_labels (nodes h.world h.declarations) has.network.nodes has.same_nodes) h.node_names);
-        arcs = subst (λ names. AreNames names (map (λ (a : meaning.Arc). listed_label a.label) has.network.arcs) c.names.arcs) (sym (arcs_are_declared h.declarations))
-            (subst (λ labels. AreNames (flat_map written.arc_declared h.declarations) labels c.names.arcs) (arc_labels (arcs h.world h.declarations) has.network.arcs has.same_arcs) h.arc_names);
-      };
-      written = record { text = h.text; problem = h.problem; only = h.only };
+      written = record { names = names_are_listed lean wanted m d c h has; text = h.text; problem = h.problem; only = h.only };
     },
     has.is_network,
   )

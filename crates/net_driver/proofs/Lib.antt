@@ -28,6 +28,7 @@ mod CutSums
 mod ExactCuts
 pub mod MissedCuts
 mod ModelMeaning
+mod NetworkNames
 mod Compilations
 mod Extremes
 mod PricedForms

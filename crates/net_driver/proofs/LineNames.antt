@@ -1,6 +1,6 @@
 -- The names of a network are without line endings, since the tokens of the files are.
 use Rattle.std.specs.Prelude.{◌≡◌, ℕ, List, [], ◌∷◌, map}
-use Rattle.std.specs.List.{AllByRecursion, AllZip, flat_map}
+use Rattle.std.specs.List.{AllByRecursion, flat_map}
 use Rattle.std.proofs.Common.{sym, subst}
 use Rattle.net_base.specs.declared.diagnostic.Language.TheVariants as languages
 use Rattle.net_lex.specs.declared.token.Token.{Token}
@@ -24,15 +24,13 @@ use Rattle.net_meaning.specs.Texts.{TupleHolds, DeclarationsHold, StatementsHold
 use Rattle.net_meaning.proofs.TextNetworks.{network_holds}
 use Rattle.net_meaning.proofs.TextTokens.{declaration_and, declarations_hold, statements_hold}
 use Rattle.net_meaning.proofs.TextWorlds.{world_holds}
-use Rattle.net_inst.specs.AsWritten as written
 use Rattle.net_inst.specs.declared.network_names.Declared.{Declared}
 use Rattle.net_inst.specs.Lists.{Key, Listed}
-use Rattle.net_inst.specs.Laws.{IsKeyOf, AreNames}
 use Rattle.net_report.specs.LineNames.{AreWithinLine, HasLineNames}
 use Rattle.net_report.specs.Links.{in_line}
 use Rattle.net_report.specs.References.{names_in}
-use Rattle.net_driver.specs.LineNames.{AreExact, NamesAreExact, BuiltNamesAreExact}
-use Rattle.net_driver.specs.Meaning.{ContainsModel, ContainsData, listed_label, node_declared, arc_declared}
+use Rattle.net_driver.specs.LineNames.{AreExact, HasExactNames, NamesAreExact, BuiltNamesAreExact}
+use Rattle.net_driver.specs.Meaning.{ContainsModel, ContainsData, node_declared, arc_declared, key_in, listed}
 use Rattle.net_driver.specs.MeaningLaws.{CompilationsAreSound}
 
 -- ---- tokens
@@ -90,39 +88,37 @@ key_within [] h = tt
 key_within (member.Number n ∷ key) h = (tt, key_within key h.1)
 key_within (member.Name text ∷ key) h = (h.0, key_within key h.1)
 
-abbrev LabelsStay : List written.WrittenLabel → Type 0
-LabelsStay labels = AllByRecursion (λ (l : written.WrittenLabel). TupleHolds HasNoLineEnd l.key) labels
+abbrev LabelsStay : List Label → Type 0
+LabelsStay labels = AllByRecursion (λ (l : Label). TupleHolds HasNoLineEnd l.key) labels
 
-keys_within : (declared : List Declared) (labels : List written.WrittenLabel) (keys : List Key) → LabelsStay labels → AllZip (IsKeyOf declared) labels keys → AllByRecursion (λ (k : Key). AreWithinLine k.tuple) keys
-keys_within declared [] [] h z = tt
-keys_within declared [] (k ∷ keys) h z = absurd z
-keys_within declared (l ∷ labels) [] h z = absurd z
-keys_within declared (l ∷ labels) (k ∷ keys) h z = (subst AreWithinLine (sym z.0.key) (key_within l.key h.0), keys_within declared labels keys h.1 z.1)
+keys_within : (declared : List Declared) (labels : List Label) → LabelsStay labels → AllByRecursion (λ (k : Key). AreWithinLine k.tuple) (map (key_in declared) labels)
+keys_within declared [] h = tt
+keys_within declared (l ∷ labels) h = (key_within l.key h.0, keys_within declared labels h.1)
 
 -- names without line endings are unchanged in their lines
 abbrev AreUnchanged : Type 0
 AreUnchanged = (listed : Listed) → HasLineNames listed → AllByRecursion (λ (name : List ℕ). in_line name ≡ name) (names_in listed)
 
 -- the names of labels are exact in the name map
-exact : AreUnchanged → (declared : List Declared) (labels : List written.WrittenLabel) (listed : Listed) → NamesStay declared → LabelsStay labels → AreNames declared labels listed → AreExact listed
-exact same declared labels listed h k are = record { within = within; unchanged = same listed within }
+exact : AreUnchanged → (declared : List Declared) (labels : List Label) → NamesStay declared → LabelsStay labels → AreExact (listed declared labels)
+exact same declared labels h k = record { within = within; unchanged = same (listed declared labels) within }
   where
-    within : HasLineNames listed
-    within = record { names = subst NamesStay (sym are.declarations) h; keys = keys_within declared labels listed.keys k are.keys }
+    within : HasLineNames (listed declared labels)
+    within = record { names = h; keys = keys_within declared labels k }
 
-labels_stay : {A : Type 0} (label : A → Label) (names : List Name) (xs : List A) → AllByRecursion (λ x. LabelHolds HasNoLineEnd names (label x)) xs → LabelsStay (map (λ x. listed_label (label x)) xs)
+labels_stay : {A : Type 0} (label : A → Label) (names : List Name) (xs : List A) → AllByRecursion (λ x. LabelHolds HasNoLineEnd names (label x)) xs → LabelsStay (map label xs)
 labels_stay label names [] h = tt
 labels_stay label names (x ∷ xs) h = (h.0.1, labels_stay label names xs h.1)
 
 -- ---- compiled models
 
 pub names_exact : model_laws.IsSound → data_laws.IsSound → AreUnchanged → NamesAreExact
-names_exact models data_files same requested m d c is = record {
-  nodes = exact same (flat_map node_declared is.mean.declarations) (map (λ (v : Node). listed_label v.label) is.network.nodes) c.names.nodes (subst (λ ds. NamesStay (flat_map node_declared ds)) found.3 (nodes_declared_stay found.0 printed))
-      (labels_stay (λ (v : Node). v.label) (nodes_in is.mean.declarations) is.network.nodes here.0) is.names.nodes;
-  arcs = exact same (flat_map arc_declared is.mean.declarations) (map (λ (a : Arc). listed_label a.label) is.network.arcs) c.names.arcs (subst (λ ds. NamesStay (flat_map arc_declared ds)) found.3 (arcs_declared_stay found.0 printed))
-      (labels_stay (λ (a : Arc). a.label) (arcs_in is.mean.declarations) is.network.arcs here.1) is.names.arcs;
-}
+names_exact models data_files same requested m d c is = subst HasExactNames (sym is.written.names) (record {
+  nodes = exact same (flat_map node_declared is.mean.declarations) (map (λ (v : Node). v.label) is.network.nodes) (subst (λ ds. NamesStay (flat_map node_declared ds)) found.3 (nodes_declared_stay found.0 printed))
+      (labels_stay (λ (v : Node). v.label) (nodes_in is.mean.declarations) is.network.nodes here.0);
+  arcs = exact same (flat_map arc_declared is.mean.declarations) (map (λ (a : Arc). a.label) is.network.arcs) (subst (λ ds. NamesStay (flat_map arc_declared ds)) found.3 (arcs_declared_stay found.0 printed))
+      (labels_stay (λ (a : Arc). a.label) (arcs_in is.mean.declarations) is.network.arcs here.1);
+})
   where
     found : (ds : List Declaration) × AreDeclarations ds × (print ds ≡ is.mean.model.tokens) × (declarations ds ≡ is.mean.declarations)
     found = models is.mean.declarations is.mean.model.tokens is.mean.model.derived

@@ -2,7 +2,7 @@
 -- Challenge, minimum-cost flow). The meaning of sets, parameters, expressions and networks is that of net_meaning, which has no errors and no
 -- defaults; no definition of the code's evaluation is cited.
 use Rattle.std.specs.Prelude.{◌≡◌, ℕ, Bool, not, if◌then◌else◌, List, [], ◌∷◌, ◌++◌, map, Option, is_some, length, ⊤, ℤ, ◌+ℤ◌, ◌-ℤ◌, ◌≤ℤ◌}
-use Rattle.std.specs.List.{AllByRecursion, AllZip, flat_map, IsDistinct}
+use Rattle.std.specs.List.{AllByRecursion, AllZip, flat_map, IsDistinct, position_or_len}
 use Rattle.std.specs.Str.{bytes_eq}
 use Rattle.net_lex.specs.Lexing.{AreTokensOf}
 use Rattle.net_lex.specs.declared.token.Token.{Token}
@@ -17,10 +17,9 @@ use Rattle.net_check.specs.declared.certificate.Side.TheVariants.{Over, Under}
 use Rattle.net_dimacs.specs.Problems.{IsProblemText, IsOnlyProblem}
 use Rattle.net_dimacs.specs.Written.{problem_text}
 use Rattle.net_expr.specs.Worlds.{Name, World}
-use Rattle.net_inst.specs.AsWritten as written
 use Rattle.net_inst.specs.declared.network_names.Declared.{Declared}
 use Rattle.net_inst.specs.declared.network_names.Names.{Names}
-use Rattle.net_inst.specs.Laws.{AreNames}
+use Rattle.net_inst.specs.Lists.{Key, Listed}
 use Rattle.net_meaning.specs.Network.{Label, Node, Arc, Network, Assignment, IsNetwork, IsEvaluated, net_inflow, AreWithinBounds, IsSatisfied, IsSatisfiedBy, IsFeasible, HasValue}
 use Rattle.net_normal.specs.declared.problem.Problem.{Problem}
 use Rattle.net_normal.specs.Sums.{sum_of}
@@ -65,10 +64,6 @@ pub record MeanNetwork (requested : Option Name) (model_text data_text : List �
 
 -- ---- compiled models
 
--- the label as a record of net_inst, which has the same fields
-abbrev pub listed_label : Label → written.WrittenLabel
-listed_label l = record { name = l.name; indexed = l.indexed; key = l.key }
-
 -- the names of nodes and of arcs that a declaration declares, each with whether it is indexed
 abbrev pub node_declared : Declaration → List Declared
 node_declared (node n b c) = (record { name = n; indexed = is_some b }) ∷ []
@@ -78,27 +73,36 @@ abbrev pub arc_declared : Declaration → List Declared
 arc_declared (arc n b ps) = (record { name = n; indexed = is_some b }) ∷ []
 arc_declared _ = []
 
--- the names to print are those of the network: its objective, and for nodes and for arcs (`AreNames`) the names of the declarations and in order
--- the label of each node or arc
-pub record AreNetworkNames (ds : List Declaration) (network : Network) (names : Names) : Type 0 where
-  pub objective : names.objective ≡ network.objective.name
-  pub nodes : AreNames (flat_map node_declared ds) (map (λ (v : Node). listed_label v.label) network.nodes) names.nodes
-  pub arcs : AreNames (flat_map arc_declared ds) (map (λ (a : Arc). listed_label a.label) network.arcs) names.arcs
+-- a label by the index of its declaration, and its key
+abbrev pub key_in : List Declared → Label → Key
+key_in declared l = record { declaration = position_or_len (λ (d : Declared). bytes_eq d.name l.name) declared; tuple = l.key }
 
--- the text is the name map followed by the problem's lines; it contains this problem and no other
-pub record IsWritten (c : Compiled) : Type 0 where
+-- the declared names, and the labels in order
+abbrev pub listed : List Declared → List Label → Listed
+listed declared labels = record { declarations = declared; keys = map (key_in declared) labels }
+
+-- the names of the network: that of its objective, and those of its nodes and arcs
+abbrev pub network_names : List Declaration → Network → Names
+network_names ds network = record {
+  objective = network.objective.name;
+  nodes = listed (flat_map node_declared ds) (map (λ (v : Node). v.label) network.nodes);
+  arcs = listed (flat_map arc_declared ds) (map (λ (a : Arc). a.label) network.arcs);
+}
+
+-- the names are those of the network; the text is the name map followed by the problem's lines, and it contains this problem and no other
+pub record IsWritten (ds : List Declaration) (network : Network) (c : Compiled) : Type 0 where
+  pub names : c.names ≡ network_names ds network
   pub text : c.text.items ≡ link_text c.names c.link ++ problem_text c.problem.supplies.items c.problem.arcs.items
   pub problem : IsProblemText c.text.items c.problem.supplies.items c.problem.arcs.items
   pub only : IsOnlyProblem c.text.items c.problem.supplies.items c.problem.arcs.items
 
--- The compiled model is that of the two inputs: they mean a network, the problem represents it, the names are the network's, and the text is
--- written from both.
+-- The compiled model is that of the two inputs: they mean a network, the problem represents it, and the text is the network's names and this
+-- problem.
 pub record IsCompilation (requested : Option Name) (model_text data_text : List ℕ) (c : Compiled) : Type 0 where
   pub network : Network
   pub mean : MeanNetwork requested model_text data_text network
   pub represents : Represents network c.problem c.link
-  pub names : AreNetworkNames mean.declarations network c.names
-  pub written : IsWritten c
+  pub written : IsWritten mean.declarations network c
 
 -- ---- solved models
 
