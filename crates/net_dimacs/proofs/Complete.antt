@@ -271,12 +271,3 @@ text_is_read text s a t fit =
     nodes_read ls line (first_sketch n m) nodes a e refl (subst (λ (k : ℕ). MayName marks k nodes) count may) (subst (λ (k : ℕ). AllByRecursion (IsFlowArcOf k) a) count arcs) refl
     ∙ ap (λ (x : List ℤ). Ok (x, a)) (same_supplies s nodes t.nodes t.supply) in
     head_read 1 (lines text) (map node_statement nodes ++ map arc_statement a) n m s a fit.some_node fit.few_nodes fit.few_arcs rest t.says
-
-same_read : (read : Result Numbers Rejection) (x y : Numbers) → read ≡ Ok x → read ≡ Ok y → x ≡ y
-same_read read x y e f = cc
-
--- a text is at most one problem
-pub one_problem : (text : List ℕ) (s t : List ℤ) (a b : List FlowArc) → IsProblemText text s a → IsWithinLimits s a → IsProblemText text t b → IsWithinLimits t b → (s ≡ t) × (a ≡ b)
-one_problem text s t a b p p_fits q q_fits =
-    let e = same_read (read_lines 1 Start (lines text)) (s, a) (t, b) (text_is_read text s a p p_fits) (text_is_read text t b q q_fits) in
-    (ap (λ (x : Numbers). x.0) e, ap (λ (x : Numbers). x.1) e)

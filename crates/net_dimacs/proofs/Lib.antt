@@ -19,6 +19,7 @@ pub mod Lists
 mod Steps
 mod Sound
 pub mod Complete
+mod OneProblem
 mod ReadLaws
 pub mod Decimals
 pub mod WrittenLines

@@ -18,7 +18,8 @@ use Rattle.net_dimacs.specs.Reading.{Sketch, new_sketch, with_node, with_arc, St
 use Rattle.net_dimacs.specs.Problems.{IsProblemText, IsNoProblemText, IsOnlyProblem}
 use Rattle.net_normal.specs.Limits.{IsWithinLimits}
 use Rattle.net_dimacs.proofs.Sound.{is_problem_text}
-use Rattle.net_dimacs.proofs.Complete.{text_is_read, one_problem}
+use Rattle.net_dimacs.proofs.Complete.{text_is_read}
+use Rattle.net_dimacs.proofs.OneProblem.{one_problem}
 
 abbrev too_long : Rejection
 too_long = record { fault = TooLarge; line = 1 }
@@ -44,7 +45,7 @@ limits_of p = record {
 }
 
 pub is_only : (text : List ℕ) (r : Result Problem ProblemFault) → Gives (read_text text) r → IfOk r (λ p. IsOnlyProblem text p.supplies.items p.arcs.items)
-is_only text (Ok p) given = λ s a fit t. one_problem text s p.supplies.items a p.arcs.items t fit (is_found text (Ok p) given) (limits_of p)
+is_only text (Ok p) given = λ s a t. one_problem text s p.supplies.items a p.arcs.items t (is_found text (Ok p) given)
 is_only text (Err e) given = tt
 
 no_problem : (text : List ℕ) (r : Rejection) → read_lines 1 Start (lines text) ≡ Err r → IsNoProblemText text

@@ -50,7 +50,6 @@ pub record IsProblemText (text : List ℕ) (supplies : List ℤ) (arcs : List Fl
 abbrev pub IsNoProblemText : List ℕ → Type 0
 IsNoProblemText text = (supplies : List ℤ) (arcs : List FlowArc) → IsWithinLimits supplies arcs → IsProblemText text supplies arcs → ⊥
 
--- the file contains no other problem within the limits
+-- the file contains no other problem
 abbrev pub IsOnlyProblem : List ℕ → List ℤ → List FlowArc → Type 0
-IsOnlyProblem text supplies arcs =
-    (others : List ℤ) (other_arcs : List FlowArc) → IsWithinLimits others other_arcs → IsProblemText text others other_arcs → (others ≡ supplies) × (other_arcs ≡ arcs)
+IsOnlyProblem text supplies arcs = (others : List ℤ) (other_arcs : List FlowArc) → IsProblemText text others other_arcs → (others ≡ supplies) × (other_arcs ≡ arcs)

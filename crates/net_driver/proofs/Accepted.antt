@@ -74,7 +74,7 @@ from_numbers p (certificates.Cut flags Under) h = record { one_a_node = h.one_a_
 -- ---- the problem of a text is one
 
 same_problem : (text : List ℕ) (p q : Problem) → IsProblemOf text p → IsProblemOf text q → (q.supplies.items ≡ p.supplies.items) × (q.arcs.items ≡ p.arcs.items)
-same_problem text p q h k = h.only q.supplies.items q.arcs.items (limits_of q) k.is
+same_problem text p q h k = h.only q.supplies.items q.arcs.items k.is
 
 -- the answer is that certificate's text for whichever problem the text is read as
 text_for : (text answer : List ℕ) (settled : Certificate) (s : Settles text settled answer) (q : Problem) → IsProblemOf text q → IsCertificateText answer (length q.supplies.items) q.arcs.items (account_of settled)

@@ -152,4 +152,4 @@ pub same_problem : (text other : List ℕ) (supplies : List ℤ) (arcs : List Fl
 same_problem text other supplies arcs e h = record { named = h.named; says = e ∙ h.says; nodes = h.nodes; distinct = h.distinct; supply = h.supply }
 
 pub same_only : (text other : List ℕ) (supplies : List ℤ) (arcs : List FlowArc) → statements_of text ≡ statements_of other → IsOnlyProblem other supplies arcs → IsOnlyProblem text supplies arcs
-same_only text other supplies arcs e h = λ s a fit t. h s a fit (same_problem other text s a (sym e) t)
+same_only text other supplies arcs e h = λ s a t. h s a (same_problem other text s a (sym e) t)
