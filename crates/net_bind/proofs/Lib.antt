@@ -25,7 +25,7 @@ pub mod SoundTaken
 mod SoundValues
 mod SoundParameters
 mod Sorting
-mod NamesDeclared
+pub mod NamesDeclared
 mod SetRowsSound
 mod SetItems
 mod SoundSets

@@ -45,7 +45,7 @@ use Rattle.net_data.proofs.GrammarAgrees.{complete}
 
 -- ---- declared names
 
-names_are : (ds : List Declaration) → names_in (declarations ds) ≡ once.names_in ds
+pub names_are : (ds : List Declaration) → names_in (declarations ds) ≡ once.names_in ds
 names_are [] = refl
 names_are (set t n ps e ∷ ds) = ap (λ ns. n.text ∷ ns) (names_are ds)
 names_are (param t n b ps e ∷ ds) = ap (λ ns. n.text ∷ ns) (names_are ds)

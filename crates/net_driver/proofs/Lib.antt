@@ -30,6 +30,8 @@ pub mod MissedCuts
 mod ModelMeaning
 mod NetworkNames
 mod Compilations
+mod DataNames
+mod TextFaults
 mod Extremes
 mod PricedForms
 mod PriceBounds

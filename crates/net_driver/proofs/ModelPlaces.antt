@@ -23,9 +23,9 @@ use Rattle.net_model.proofs.ModelLaws.{model-begins}
 use Rattle.net_model.proofs.RowLaws.{put_all}
 use Rattle.net_base.specs.Places.{IsSpanIn}
 use Rattle.net_tree.specs.Standing.{DeclarationsHaveSpans}
-use Rattle.net_base.proofs.Elements.{all_drop}
+use Rattle.net_base.proofs.Elements.{OfSome, all_drop}
 use Rattle.net_tree.proofs.ModelsStand.{declaration_passed}
-use Rattle.net_names.proofs.NamesStand.{FaultStands, names_stand}
+use Rattle.net_names.proofs.NamesStand.{names_stand}
 use Rattle.net_lex.proofs.Rising.{Rise, rise_ends, rise_later}
 
 abbrev TokensLie : ℕ → Tokens → Type 0
@@ -68,13 +68,13 @@ module _ (size : ℕ) where
   ErrLies (Ok ds) = ⊤
   ErrLies (Err f) = Lies f
 
-  names_lie : (ds : List Declaration) (o : Option names.Fault) → FaultStands (IsSpanIn size) o → ErrLies (unless_fault ds o)
+  names_lie : (ds : List Declaration) (o : Option names.Fault) → OfSome (λ (f : names.Fault). IsSpanIn size f.1.span) o → ErrLies (unless_fault ds o)
   names_lie ds None h = tt
   names_lie ds (Some f) h = (refl, h)
 
   meant_by_lies : (ts : Tokens) (r : Read (List Declaration × Unit {0})) → model_at nesting_limit ts ≡ r → Rise 0 size ts → ErrLies (meant_by ts r)
   meant_by_lies ts (Ok r) is h =
-      names_lie r.0.0 (names_fault [] r.0.0) (names_stand (IsSpanIn size) [] r.0.0 (read_stand 0 r.0.0 r.1 (subst (Rise 0 size) (sym (model-begins nesting_limit ts r is)) h)))
+      names_lie r.0.0 (names_fault [] r.0.0) (names_stand (IsSpanIn size) (λ f. IsSpanIn size f.1.span) (λ d t i k. k) (λ t k. k) [] r.0.0 (read_stand 0 r.0.0 r.1 (subst (Rise 0 size) (sym (model-begins nesting_limit ts r is)) h)))
   meant_by_lies ts (Err s) is h = reported_lies s ts (rising_lie 0 ts h)
 
   pub meant_lies : (ts : Tokens) (f : Diagnostic) → Rise 0 size ts → meant ts ≡ Err (At f) → (f.text ≡ Model) × IsSpanIn size f.at

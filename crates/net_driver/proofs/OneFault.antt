@@ -35,7 +35,7 @@ ok_same {A = A} {B = B} r x y p q = let both : ◌≡◌ {A = Result A B} (Ok x)
 err_same : {A B : Type 0} (r : Result A B) (x y : B) → r ≡ Err x → r ≡ Err y → x ≡ y
 err_same {A = A} {B = B} r x y p q = let both : ◌≡◌ {A = Result A B} (Err x) (Err y) = sym p ∙ q in cc
 
-same_tokens : (language : Language) (text : List ℕ) (ts us : List Token) → AreTokensOf language text ts → AreTokensOf language text us → ts ≡ us
+pub same_tokens : (language : Language) (text : List ℕ) (ts us : List Token) → AreTokensOf language text ts → AreTokensOf language text us → ts ≡ us
 same_tokens language text ts us t u = reads_same language 0 text ts us t.read u.read
 
 same_model : (text : List ℕ) (ds es : List Declaration) → IsModel text ds → IsModel text es → ds ≡ es
