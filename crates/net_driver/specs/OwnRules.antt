@@ -1,4 +1,4 @@
--- Which errors show that the inputs mean no network (AMPL book, chapter 15). With the others netflow also rejects inputs that mean a network.
+-- Which errors show that the inputs mean no network (AMPL book, chapter 15). With the others netflow can also reject inputs that mean one.
 use Rattle.std.specs.Prelude.{◌≡◌, ℕ, Bool, true, false, List, Option, Err}
 use Rattle.net_base.specs.declared.diagnostic.Diagnostic.{Diagnostic}
 use Rattle.net_base.specs.declared.error_code.ErrorCode.{ErrorCode}
