@@ -1,8 +1,9 @@
 //! The number of arcs that a network simplex prices in one block.
 
-use crate::simplex_arc::root_of;
+/// The maximum of the square root of the number of arcs.
+const ROOT_LIMIT: usize = 999;
 
-/// The minimum length, in hundredths of the square root of the number of arcs.
+/// The minimum length, in hundredths of that root.
 const LEAST: usize = 40;
 
 /// The initial length, if some nodes have arcs both in and out.
@@ -45,7 +46,7 @@ impl Block {
             (FIRST, GREATEST)
         };
         Block {
-            root: root_of(arc_count),
+            root: arc_count.isqrt().min(ROOT_LIMIT),
             share,
             greatest,
             moved: 0,

@@ -1,7 +1,7 @@
 //! Shortest paths to the nodes with a deficit, over nonnegative costs (Dijkstra 1959).
 
-use crate::simplex_arc::PricedArc;
-use crate::unchecked_lists::{at, fill, index, put, row_at};
+use crate::by_node::ByNode;
+use crate::unchecked_lists::{at, index, put};
 use std::alloc::{AllocError, Global};
 use std::cmp::Reverse;
 use std::collections::BinaryHeap;
@@ -15,16 +15,17 @@ const FAR: i64 = i64::MAX;
 /// The cost of a node from which no path is searched.
 const BARRED: i64 = i64::MIN;
 
-/// An arc into a node.
+/// An arc into a node, with its index and its nonnegative cost.
 #[derive(Clone, Copy)]
-struct Arrival {
-    tail: u32,
-    place: u32,
-    cost: i64,
+pub struct Arrival {
+    pub tail: u32,
+    pub place: u32,
+    pub cost: i64,
 }
 
 impl Arrival {
-    const NONE: Arrival = Arrival {
+    /// No arc.
+    pub const NONE: Arrival = Arrival {
         tail: 0,
         place: NO_PLACE,
         cost: 0,
@@ -34,9 +35,7 @@ impl Arrival {
 /// The shortest paths.
 #[derive(Drop)]
 pub struct CheapestPaths {
-    /// The start of each node's incoming arcs, and the end of the last.
-    starts: Vec<u32>,
-    arrivals: Vec<Arrival>,
+    arrivals: ByNode<Arrival>,
     /// The cost of the path from each node.
     costs: Vec<i64>,
     /// The index of the first arc of each node's path.
@@ -47,63 +46,22 @@ pub struct CheapestPaths {
 }
 
 impl CheapestPaths {
-    /// Creates empty lists with space for the arcs, each of which is first counted by
-    /// `count_arrival` and then added by `put_arrival`. Fails only if memory runs out.
-    pub fn with_room(
+    /// Creates the paths of nodes with these arcs into them, before `find`. Fails only if memory runs
+    /// out.
+    pub fn new(
         alloc: Global,
         node_count: usize,
-        arc_count: usize,
+        arrivals: ByNode<Arrival>,
     ) -> Result<CheapestPaths, AllocError> {
-        let mut ways = CheapestPaths {
-            starts: Vec::new(alloc),
-            arrivals: Vec::new(alloc),
-            costs: Vec::new(alloc),
-            firsts: Vec::new(alloc),
+        let costs = vec![in alloc; FAR; node_count]?;
+        let firsts = vec![in alloc; NO_PLACE; node_count]?;
+        Ok(CheapestPaths {
+            arrivals,
+            costs,
+            firsts,
             order: Vec::with_capacity(alloc, node_count)?,
             waiting: BinaryHeap::new(alloc),
-        };
-        ways.make_room(alloc, node_count, arc_count)?;
-        Ok(ways)
-    }
-
-    fn make_room(
-        &mut self,
-        alloc: Global,
-        node_count: usize,
-        arc_count: usize,
-    ) -> Result<(), AllocError> {
-        fill(alloc, &mut self.starts, 0, node_count.saturating_add(1))?;
-        fill(alloc, &mut self.arrivals, Arrival::NONE, arc_count)?;
-        fill(alloc, &mut self.costs, FAR, node_count)?;
-        fill(alloc, &mut self.firsts, NO_PLACE, node_count)
-    }
-
-    /// Counts an arc into a node.
-    pub fn count_arrival(&mut self, head: u32) {
-        let count = at(&self.starts, head, 0).wrapping_add(1);
-        put(&mut self.starts, head, count);
-    }
-
-    /// Converts the counts to positions: each node's arcs end at the sum of its count and those
-    /// before it.
-    pub fn end_count(&mut self) {
-        let mut end = 0u32;
-        for count in &mut self.starts {
-            end = end.wrapping_add(*count);
-            *count = end;
-        }
-    }
-
-    /// Adds the arc with this index.
-    pub fn put_arrival(&mut self, place: u32, arc: PricedArc) {
-        let free = at(&self.starts, arc.dst, 0).wrapping_sub(1);
-        put(&mut self.starts, arc.dst, free);
-        let arrival = Arrival {
-            tail: arc.src,
-            place,
-            cost: arc.cost.max(0),
-        };
-        put(&mut self.arrivals, free, arrival);
+        })
     }
 
     /// Returns the index of the first arc of a node's path, or `NO_PLACE` if the path is empty or
@@ -124,7 +82,7 @@ impl CheapestPaths {
                 self.waiting.push(Reverse((0i64, node)))?;
             }
         }
-        for _ in 0..self.arrivals.len().saturating_add(excess.len()) {
+        for _ in 0..self.arrivals.items.len().saturating_add(excess.len()) {
             let Some(Reverse((cost, node))) = self.waiting.pop() else {
                 break;
             };
@@ -138,8 +96,8 @@ impl CheapestPaths {
 
     /// Relaxes the arcs into a node.
     fn reach_back(&mut self, node: u32, cost: i64) -> Result<(), AllocError> {
-        for place in row_at(&self.starts, node) {
-            let arrival = at(&self.arrivals, place, Arrival::NONE);
+        for place in self.arrivals.row(node) {
+            let arrival = at(&self.arrivals.items, place, Arrival::NONE);
             let own = cost.wrapping_add(arrival.cost);
             if own < at(&self.costs, arrival.tail, 0) {
                 put(&mut self.costs, arrival.tail, own);

@@ -1,41 +1,23 @@
 //! The excess or deficit of each node.
 
-use crate::unchecked_lists::{arc_at, at, index, put};
+use crate::unchecked_lists::{add_at, arc_at, at, index, put};
 use net_normal::{FlowArc, Problem};
 use std::alloc::{AllocError, Global};
 
-/// Adds to a node's excess.
-fn add_excess(excess: &mut Vec<i128>, node: u32, amount: i128) {
-    let sum = at(excess, node, 0).wrapping_add(amount);
-    put(excess, node, sum);
-}
-
 /// Returns the flow with each arc at its lower bound.
 pub fn lows_of(alloc: Global, problem: &Problem) -> Result<Vec<i64>, AllocError> {
-    let mut lows = Vec::with_capacity(alloc, problem.arcs.len())?;
-    for arc in &problem.arcs {
-        lows.push(arc.low)?;
-    }
-    Ok(lows)
-}
-
-/// Returns each node's supply.
-fn supplies_of(alloc: Global, problem: &Problem) -> Result<Vec<i128>, AllocError> {
-    let mut supplies = Vec::with_capacity(alloc, problem.supplies.len())?;
-    for supply in &problem.supplies {
-        supplies.push(i128::from(*supply))?;
-    }
-    Ok(supplies)
+    problem.arcs.iter().map(|arc| arc.low).collect(alloc)
 }
 
 /// Returns each node's supply minus its net outflow; a negative excess is a deficit.
 fn excess_of(alloc: Global, problem: &Problem, flows: &Vec<i64>) -> Result<Vec<i128>, AllocError> {
-    let mut excess = supplies_of(alloc, problem)?;
+    let supplies = problem.supplies.iter();
+    let mut excess: Vec<i128> = supplies.map(|supply| i128::from(*supply)).collect(alloc)?;
     for (arc, flow) in problem.arcs.iter().zip(flows) {
         if *flow != 0 {
             let flow = i128::from(*flow);
-            add_excess(&mut excess, arc.src, flow.wrapping_neg());
-            add_excess(&mut excess, arc.dst, flow);
+            add_at(&mut excess, arc.src, flow.wrapping_neg());
+            add_at(&mut excess, arc.dst, flow);
         }
     }
     Ok(excess)
@@ -86,8 +68,8 @@ impl Start {
     fn fill(&mut self, number: u32, arc: &FlowArc) {
         let room = i128::from(arc.cap.wrapping_sub(arc.low));
         put(&mut self.flows, number, arc.cap);
-        add_excess(&mut self.excess, arc.src, room.wrapping_neg());
-        add_excess(&mut self.excess, arc.dst, room);
+        add_at(&mut self.excess, arc.src, room.wrapping_neg());
+        add_at(&mut self.excess, arc.dst, room);
     }
 
     /// Fills arcs out of nodes with large excess and into nodes with large deficits, as long as there are such nodes.
@@ -116,10 +98,8 @@ pub fn is_large(amount: i128) -> bool {
 /// The most that an arc of negative cost may carry above LOW to start full: what all nodes have too much of. More than that hardly flows
 /// over one arc.
 fn full_limit(excess: &[i128]) -> i64 {
-    let mut total = 0i128;
-    for amount in excess {
-        total = total.wrapping_add((*amount).max(0));
-    }
+    let amounts = excess.iter().map(|amount| (*amount).max(0));
+    let total = amounts.fold(0i128, |sum, amount| sum.wrapping_add(amount));
     if total == 0 {
         return FULL_ROOM;
     }

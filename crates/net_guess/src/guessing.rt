@@ -100,13 +100,10 @@ fn simple_cut(alloc: Global, problem: &Problem, excess: &[i128]) -> Result<Optio
 
 /// Returns the sum of all supplies.
 fn supplies_sum(problem: &Problem) -> Result<i128, Halt> {
-    let mut total = 0i128;
-    for supply in &problem.supplies {
-        total = total
-            .checked_add(i128::from(*supply))
-            .ok_or(Halt::OutOfRange)?;
-    }
-    Ok(total)
+    let mut supplies = problem.supplies.iter();
+    supplies
+        .try_fold(0i128, |sum, supply| sum.checked_add(i128::from(*supply)))
+        .ok_or(Halt::OutOfRange)
 }
 
 /// Returns the number of nodes and arcs together.

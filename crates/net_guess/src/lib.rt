@@ -6,22 +6,22 @@
 mod attaching;
 mod block;
 mod bottleneck;
+mod by_node;
 mod cheapest_paths;
 mod excess;
 mod guess;
 mod guessing;
 mod incidence;
-mod narrow_lists;
 mod node_queue;
 mod pivoting;
 mod preflow;
+mod price_lists;
 mod prices;
 mod simplex;
 mod simplex_arc;
 mod starting;
 mod tree;
 mod unchecked_lists;
-mod wide_lists;
 
 pub use guess::{Cut, Guess, Work};
 pub use guessing::{find_counted_guess, find_cut, find_guess};

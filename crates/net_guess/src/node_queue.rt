@@ -39,15 +39,6 @@ impl NodeQueue {
         }
     }
 
-    /// Removes all nodes.
-    pub fn clear(&mut self) {
-        for _ in 0..self.nodes.len() {
-            if self.pop().is_none() {
-                return;
-            }
-        }
-    }
-
     /// Removes and returns the first node.
     #[inline]
     pub fn pop(&mut self) -> Option<u32> {

@@ -4,7 +4,7 @@ use crate::excess::Start;
 use crate::guess::Halt;
 use crate::incidence::{Incidence, Incident, back_of};
 use crate::node_queue::NodeQueue;
-use crate::unchecked_lists::{at, fill, index, put};
+use crate::unchecked_lists::{at, index, put};
 use net_normal::Problem;
 use std::alloc::{AllocError, Global};
 
@@ -59,31 +59,21 @@ impl Preflow {
         limit: u64,
     ) -> Result<Preflow, Halt> {
         let incidence = Incidence::new(alloc, problem, &start.flows, is_by_cost)?;
-        let queue = NodeQueue::with_room(alloc, start.excess.len())?;
-        let mut preflow = Preflow {
+        let node_count = start.excess.len();
+        let queue = NodeQueue::with_room(alloc, node_count)?;
+        Ok(Preflow {
             incidence,
-            excess: Vec::new(alloc),
-            levels: Vec::new(alloc),
-            current: Vec::new(alloc),
-            firsts: Vec::new(alloc),
-            nexts: Vec::new(alloc),
+            excess: start.excess.iter().copied().collect(alloc)?,
+            levels: vec![in alloc; NO_LEVEL; node_count]?,
+            current: vec![in alloc; 0u32; node_count]?,
+            firsts: vec![in alloc; NO_NODE; node_count]?,
+            nexts: vec![in alloc; NO_NODE; node_count]?,
             highest: 0,
             queue,
             work: 0,
             limit,
             next_levels: 0,
-        };
-        preflow.make_room(alloc, &start.excess)?;
-        Ok(preflow)
-    }
-
-    /// Copies the excess of each node and allocates the other lists.
-    fn make_room(&mut self, alloc: Global, excess: &[i128]) -> Result<(), AllocError> {
-        self.excess.extend_from_slice(excess)?;
-        fill(alloc, &mut self.levels, NO_LEVEL, excess.len())?;
-        fill(alloc, &mut self.firsts, NO_NODE, excess.len())?;
-        fill(alloc, &mut self.nexts, NO_NODE, excess.len())?;
-        fill(alloc, &mut self.current, 0, excess.len())
+        })
     }
 
     /// Pushes excess towards deficits until none can reach one.
@@ -124,8 +114,7 @@ impl Preflow {
             let Some(node) = self.queue.pop() else {
                 break;
             };
-            let row = self.incidence.row(node);
-            for place in row.start..row.end {
+            for place in self.incidence.ends.row(node) {
                 let arc = self.incidence.end(place);
                 if self.incidence.room(arc.place) > 0 && !at(&flags, arc.head, true) {
                     put(&mut flags, arc.head, true);
@@ -194,7 +183,9 @@ impl Preflow {
                 self.wait(node);
             }
         }
-        let size = (self.levels.len() as u64).saturating_add(self.incidence.ends.len() as u64);
+        let size = (self.levels.len() as u64).saturating_add(
+            self.incidence.ends.items.len() as u64,
+        );
         self.work = self.work.saturating_add(size);
         self.next_levels = self.work.saturating_add(size.saturating_mul(LEVEL_LOOKS));
     }
@@ -202,8 +193,7 @@ impl Preflow {
     /// Gives a level to the nodes without one from which a residual arc leads to this node.
     fn reach_back(&mut self, node: u32) {
         let level = self.level(node).saturating_add(1);
-        let row = self.incidence.row(node);
-        for place in row.start..row.end {
+        for place in self.incidence.ends.row(node) {
             let arc = self.incidence.end(place);
             if self.level(arc.head) == NO_LEVEL && self.incidence.room(back_of(arc.place)) > 0 {
                 put(&mut self.levels, arc.head, level);
@@ -214,7 +204,7 @@ impl Preflow {
 
     /// Restarts the search for a push out of a node.
     fn rewind(&mut self, node: u32) {
-        put(&mut self.current, node, self.incidence.row(node).start);
+        put(&mut self.current, node, self.incidence.ends.row(node).start);
     }
 
     /// Pushes a node's excess to lower levels and raises the node, until it has none or reaches no deficit.
@@ -233,7 +223,7 @@ impl Preflow {
     /// The next residual arc from a node to one a level lower.
     fn next_push(&mut self, node: u32) -> Option<Incident> {
         let level = self.level(node);
-        let row = self.incidence.row(node);
+        let row = self.incidence.ends.row(node);
         let from = at(&self.current, node, 0);
         let mut next = row.end;
         let mut found = None;
@@ -273,7 +263,7 @@ impl Preflow {
     /// Raises a node to a level above the lowest one that a residual arc leads to.
     fn raise(&mut self, node: u32) {
         let mut lowest = NO_LEVEL;
-        let row = self.incidence.row(node);
+        let row = self.incidence.ends.row(node);
         for place in row.start..row.end {
             let arc = self.incidence.end(place);
             if self.incidence.room(arc.place) > 0 {

@@ -5,11 +5,9 @@
 //! are stored in 32 bits, which doubles the number of them in the cache.
 
 use crate::guess::Halt;
-use crate::narrow_lists::{NarrowArc, NarrowLists, narrow};
+use crate::price_lists::PriceLists;
 use crate::simplex_arc::PricedArc;
 use crate::tree::Thread;
-use crate::unchecked_lists::at;
-use crate::wide_lists::WideLists;
 use std::alloc::{AllocError, Global};
 
 /// The maximum cost of a unit from the root with which no potential and no reduced cost exceeds 32
@@ -29,12 +27,11 @@ pub struct Segment {
     pub count: u32,
 }
 
-/// The arcs and the potentials, either in the 32-bit or in the 64-bit lists; the others are empty.
+/// The arcs and the potentials.
 #[derive(Drop)]
-pub struct Prices {
-    is_narrow: bool,
-    narrow: NarrowLists,
-    wide: WideLists,
+pub enum Prices {
+    Narrow(PriceLists<i32>),
+    Wide(PriceLists<i64>),
 }
 
 impl Prices {
@@ -47,79 +44,64 @@ impl Prices {
         arc_count: usize,
     ) -> Result<Prices, AllocError> {
         if root_cost <= NARROW_LIMIT {
-            let narrow = NarrowLists::with_room(alloc, node_count, arc_count)?;
-            let wide = WideLists::with_room(alloc, 0, 0)?;
-            return Ok(Prices {
-                is_narrow: true,
-                narrow,
-                wide,
-            });
+            let lists = PriceLists::with_room(alloc, node_count, arc_count)?;
+            Ok(Prices::Narrow(lists))
+        } else {
+            let lists = PriceLists::with_room(alloc, node_count, arc_count)?;
+            Ok(Prices::Wide(lists))
         }
-        let narrow = NarrowLists::with_room(alloc, 0, 0)?;
-        let wide = WideLists::with_room(alloc, node_count, arc_count)?;
-        Ok(Prices {
-            is_narrow: false,
-            narrow,
-            wide,
-        })
     }
 
     /// Returns the arc at an index.
     #[inline]
     pub fn arc(&self, place: u32) -> PricedArc {
-        if self.is_narrow {
-            at(&self.narrow.arcs, place, NarrowArc::NONE).widened()
-        } else {
-            at(&self.wide.arcs, place, PricedArc::NONE)
+        match self {
+            Prices::Narrow(lists) => lists.arc(place),
+            Prices::Wide(lists) => lists.arc(place),
         }
     }
 
     /// Adds the next arc.
     #[inline]
     pub fn push_arc(&mut self, arc: PricedArc) -> Result<(), Halt> {
-        if self.is_narrow {
-            self.narrow.push(NarrowArc::of(arc))
-        } else {
-            self.wide.push(arc)
+        match self {
+            Prices::Narrow(lists) => lists.push(arc),
+            Prices::Wide(lists) => lists.push(arc),
         }
     }
 
     /// Stores an arc at an index.
     #[inline]
     pub fn put_arc(&mut self, place: u32, arc: PricedArc) {
-        if self.is_narrow {
-            self.narrow.put(place, NarrowArc::of(arc));
-        } else {
-            self.wide.put(place, arc);
+        match self {
+            Prices::Narrow(lists) => lists.put(place, arc),
+            Prices::Wide(lists) => lists.put(place, arc),
         }
     }
 
     /// Returns a node's potential.
     #[inline]
     pub fn potential(&self, node: u32) -> i64 {
-        if self.is_narrow {
-            i64::from(at(&self.narrow.potentials, node, 0))
-        } else {
-            at(&self.wide.potentials, node, 0)
+        match self {
+            Prices::Narrow(lists) => lists.potential(node),
+            Prices::Wide(lists) => lists.potential(node),
         }
     }
 
     /// Sets a node's potential.
     #[inline]
     pub fn put_potential(&mut self, node: u32, potential: i64) {
-        if self.is_narrow {
-            self.narrow.put_potential(node, narrow(potential));
-        } else {
-            self.wide.put_potential(node, potential);
+        match self {
+            Prices::Narrow(lists) => lists.put_potential(node, potential),
+            Prices::Wide(lists) => lists.put_potential(node, potential),
         }
     }
 
     /// Returns whether the root's potential is close enough to 0 to be changed.
     pub fn may_move(&self, root: u32) -> bool {
-        let drift = if self.is_narrow {
-            NARROW_DRIFT
-        } else {
-            WIDE_DRIFT
+        let drift = match self {
+            Prices::Narrow(_) => NARROW_DRIFT,
+            Prices::Wide(_) => WIDE_DRIFT,
         };
         self.potential(root).wrapping_abs() < drift
     }
@@ -140,19 +122,17 @@ impl Prices {
         segment: Segment,
         amount: i64,
     ) -> Result<(), Halt> {
-        if self.is_narrow {
-            self.narrow.raise(threads, segment, narrow(amount))
-        } else {
-            self.wide.raise(threads, segment, amount)
+        match self {
+            Prices::Narrow(lists) => lists.raise(threads, segment, amount),
+            Prices::Wide(lists) => lists.raise(threads, segment, amount),
         }
     }
 
     /// Returns the index of the arc with the most negative reduced cost in this range.
     pub fn cheapest_between(&self, from: usize, to: usize) -> Result<Option<u32>, Halt> {
-        if self.is_narrow {
-            self.narrow.cheapest(from, to)
-        } else {
-            self.wide.cheapest(from, to)
+        match self {
+            Prices::Narrow(lists) => lists.cheapest(from, to),
+            Prices::Wide(lists) => lists.cheapest(from, to),
         }
     }
 }

@@ -14,7 +14,7 @@ use crate::prices::Prices;
 use crate::simplex_arc::{PricedArc, put_priced_order};
 use crate::starting::{first_tree, root_cost};
 use crate::tree::Tree;
-use crate::unchecked_lists::{arc_at, at, fill, index, put};
+use crate::unchecked_lists::{arc_at, at, index, put};
 use net_normal::{FlowArc, Problem};
 use std::alloc::{AllocError, Global};
 
@@ -122,7 +122,7 @@ impl Simplex {
     /// since they are never eligible.
     fn take_arcs(&mut self, alloc: Global, problem: &Problem, start: &Start) -> Result<(), Halt> {
         let count = problem.arcs.len();
-        fill(alloc, &mut self.numbers, NO_PLACE, count)?;
+        self.numbers = vec![in alloc; NO_PLACE; count]?;
         self.rooms.reserve(count)?;
         put_priced_order(&mut self.numbers, problem.supplies.len());
         for number in &self.numbers {
@@ -152,11 +152,10 @@ impl Simplex {
         let mut best = vec![in alloc; NO_PLACE; excess.len()]?;
         for place in 0..index(self.numbers.len()) {
             let arc = self.prices.arc(place);
-            let wants = match excess.get(arc.dst as usize) {
-                Some(amount) => *amount < 0,
-                None => false,
-            };
-            if wants {
+            if excess
+                .get(arc.dst as usize)
+                .is_some_and(|amount| *amount < 0)
+            {
                 let other = at(&best, arc.dst, NO_PLACE);
                 if other == NO_PLACE || arc.cost < self.prices.arc(other).cost {
                     put(&mut best, arc.dst, place);
@@ -231,13 +230,11 @@ impl Simplex {
 
     /// Sets reversed arcs to CAP; arcs without capacity are there anyway.
     fn add_bounds(&self, problem: &Problem, flows: &mut Vec<i64>) {
-        let mut place = 0u32;
-        for number in &self.numbers {
+        for (place, number) in self.numbers.iter().enumerate() {
             let arc = arc_at(problem, *number);
-            if !self.prices.arc(place).is_ahead(&arc) {
+            if !self.prices.arc(index(place)).is_ahead(&arc) {
                 put(flows, *number, arc.cap);
             }
-            place = place.wrapping_add(1);
         }
     }
 
@@ -256,11 +253,8 @@ impl Simplex {
 
     /// Returns the potential of each node of the problem. Fails only if memory runs out.
     pub fn potentials(&self, alloc: Global, problem: &Problem) -> Result<Vec<i64>, AllocError> {
-        let mut potentials = Vec::with_capacity(alloc, problem.supplies.len())?;
-        for node in 0..index(problem.supplies.len()) {
-            potentials.push(self.prices.potential(node))?;
-        }
-        Ok(potentials)
+        let nodes = 0..index(problem.supplies.len());
+        nodes.map(|node| self.prices.potential(node)).collect(alloc)
     }
 }
 

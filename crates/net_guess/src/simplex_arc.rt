@@ -3,15 +3,18 @@
 use crate::unchecked_lists::{index, put};
 use net_normal::FlowArc;
 
-/// An arc for pricing, in the direction in which its flow can change. An arc at CAP is reversed, so
-/// every arc with a negative reduced cost is eligible; an arc of the tree has reduced cost 0 in
-/// both directions.
+/// An arc for pricing, in the direction in which its flow can change, with the cost of a unit. An
+/// arc at CAP is reversed, so every arc with a negative reduced cost is eligible; an arc of the tree
+/// has reduced cost 0 in both directions.
 #[derive(Clone, Copy)]
-pub struct PricedArc {
+pub struct ArcWithCost<N> {
     pub src: u32,
     pub dst: u32,
-    pub cost: i64,
+    pub cost: N,
 }
+
+/// An arc with its cost in 64 bits.
+pub type PricedArc = ArcWithCost<i64>;
 
 impl PricedArc {
     /// The value of a missing arc, which is never eligible.
@@ -43,18 +46,6 @@ impl PricedArc {
     pub fn is_ahead(&self, arc: &FlowArc) -> bool {
         self.src == arc.src && self.dst == arc.dst && self.cost == arc.cost
     }
-}
-
-/// Returns the integer part of the square root.
-pub fn root_of(number: usize) -> usize {
-    let mut root = 0usize;
-    for candidate in 1..1000usize {
-        if candidate * candidate > number {
-            break;
-        }
-        root = candidate;
-    }
-    root
 }
 
 /// Arranges the indices of a problem's arcs in pricing order: the list, from its end, is divided

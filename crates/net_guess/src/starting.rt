@@ -1,6 +1,7 @@
 //! The initial tree of a network simplex.
 
-use crate::cheapest_paths::{CheapestPaths, NO_PLACE};
+use crate::by_node::ByNode;
+use crate::cheapest_paths::{Arrival, CheapestPaths, NO_PLACE};
 use crate::excess::LARGE;
 use crate::guess::Halt;
 use crate::prices::{NARROW_LIMIT, Prices};
@@ -21,11 +22,8 @@ const LONG_WAY: i64 = 2000;
 
 /// Returns the maximum absolute value of a cost.
 pub fn greatest_cost(problem: &Problem) -> i64 {
-    let mut greatest = 0i64;
-    for arc in &problem.arcs {
-        greatest = greatest.max(arc.cost.wrapping_abs());
-    }
-    greatest
+    let costs = problem.arcs.iter().map(|arc| arc.cost.wrapping_abs());
+    costs.max().unwrap_or(0)
 }
 
 /// Returns the cost of a unit from the root: more than any path through the problem costs, unless
@@ -135,14 +133,21 @@ impl Simplex {
     /// Returns the shortest paths over arcs with residual capacity.
     fn ways(&self, alloc: Global, excess: &[i128]) -> Result<CheapestPaths, AllocError> {
         let count = self.numbers.len();
-        let mut ways = CheapestPaths::with_room(alloc, excess.len(), count)?;
+        let mut arrivals = ByNode::with_room(alloc, excess.len(), Arrival::NONE, count)?;
         for place in 0..index(count) {
-            ways.count_arrival(self.prices.arc(place).dst);
+            arrivals.count(self.prices.arc(place).dst);
         }
-        ways.end_count();
+        arrivals.end_count();
         for place in 0..index(count) {
-            ways.put_arrival(place, self.prices.arc(place));
+            let arc = self.prices.arc(place);
+            let arrival = Arrival {
+                tail: arc.src,
+                place,
+                cost: arc.cost.max(0),
+            };
+            arrivals.put(arc.dst, arrival);
         }
+        let mut ways = CheapestPaths::new(alloc, excess.len(), arrivals)?;
         ways.find(excess)?;
         Ok(ways)
     }

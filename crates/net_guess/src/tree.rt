@@ -107,10 +107,7 @@ impl Tree {
     /// Returns a node by its number, or `NONE` if it is out of range.
     #[inline]
     pub fn node(&self, node: u32) -> TreeNode {
-        match self.nodes.get(node as usize) {
-            Some(node) => *node,
-            None => TreeNode::NONE,
-        }
+        at(&self.nodes, node, TreeNode::NONE)
     }
 
     /// Returns the residual capacities of the arc above a node.
@@ -128,10 +125,7 @@ impl Tree {
     /// Returns a node's neighbors in the cyclic order.
     #[inline]
     pub fn thread(&self, node: u32) -> Thread {
-        match self.threads.get(node as usize) {
-            Some(thread) => *thread,
-            None => Thread::NONE,
-        }
+        at(&self.threads, node, Thread::NONE)
     }
 
     /// Sets the node with this number.

@@ -7,8 +7,6 @@
 
 use crate::guess::Halt;
 use net_normal::{FlowArc, Problem};
-use std::alloc::{AllocError, Global};
-use std::ops::Range;
 
 /// Returns the item at an index, or `nothing` if it is out of range.
 #[inline]
@@ -57,19 +55,8 @@ pub fn put<T: Copy>(items: &mut Vec<T>, place: u32, item: T) {
     }
 }
 
-/// Sets a list to `count` copies of an item. Fails only if memory runs out.
-pub fn fill<T: Copy>(
-    alloc: Global,
-    items: &mut Vec<T>,
-    item: T,
-    count: usize,
-) -> Result<(), AllocError> {
-    *items = vec![in alloc; item; count]?;
-    Ok(())
-}
-
-/// Returns the positions of a node's items, given the start of each node's and the end of the last.
-#[inline]
-pub fn row_at(starts: &Vec<u32>, node: u32) -> Range<u32> {
-    at(starts, node, 0)..at(starts, node.wrapping_add(1), 0)
+/// Adds to the number at an index, if it is in range.
+pub fn add_at(numbers: &mut Vec<i128>, place: u32, amount: i128) {
+    let sum = at(numbers, place, 0).wrapping_add(amount);
+    put(numbers, place, sum);
 }
