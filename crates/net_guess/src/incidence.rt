@@ -64,9 +64,10 @@ impl Incidence {
     /// Adds the arcs of a problem, the last of each node first: forwards from the most expensive
     /// one, then backwards from the cheapest.
     fn add_by_cost(&mut self, alloc: Global, problem: &Problem) -> Result<(), AllocError> {
-        let numbered = problem.arcs.iter().enumerate();
-        let costs = numbered.map(|(number, arc)| (arc.cost, index(number)));
-        let mut order: Vec<(i64, u32)> = costs.collect(alloc)?;
+        let mut order = Vec::with_capacity(alloc, problem.arcs.len())?;
+        for (number, arc) in problem.arcs.iter().enumerate() {
+            order.push((arc.cost, index(number)))?;
+        }
         order.sort()?;
         for (_, number) in order.iter().rev() {
             self.add_forwards(problem, *number);
@@ -107,9 +108,10 @@ impl Incidence {
 
     /// Sets the residual capacities.
     fn put_rooms(&mut self, problem: &Problem, flows: &Vec<i64>) {
-        for (number, (arc, flow)) in problem.arcs.iter().zip(flows).enumerate() {
+        for (number, arc) in problem.arcs.iter().enumerate() {
+            let flow = at(flows, index(number), arc.low);
             let place = index(number).wrapping_mul(2);
-            put(&mut self.rooms, place, arc.cap.wrapping_sub(*flow));
+            put(&mut self.rooms, place, arc.cap.wrapping_sub(flow));
             put(&mut self.rooms, back_of(place), flow.wrapping_sub(arc.low));
         }
     }
@@ -136,11 +138,11 @@ impl Incidence {
 
     /// Returns the flow on each arc of the problem. Fails only if memory runs out.
     pub fn flows(&self, alloc: Global, problem: &Problem) -> Result<Vec<i64>, AllocError> {
-        let places = (0..index(problem.arcs.len())).map(|number| number.wrapping_mul(2));
-        let sent = places.map(|place| self.room(back_of(place)));
-        let arcs = problem.arcs.iter();
-        arcs.zip(sent)
-            .map(|(arc, sent)| arc.low.wrapping_add(sent))
-            .collect(alloc)
+        let mut flows = Vec::with_capacity(alloc, problem.arcs.len())?;
+        for (number, arc) in problem.arcs.iter().enumerate() {
+            let back = back_of(index(number).wrapping_mul(2));
+            flows.push(arc.low.wrapping_add(self.room(back)))?;
+        }
+        Ok(flows)
     }
 }

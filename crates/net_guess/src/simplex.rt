@@ -15,7 +15,7 @@ use crate::simplex_arc::{PricedArc, put_priced_order};
 use crate::starting::{first_tree, root_cost};
 use crate::tree::Tree;
 use crate::unchecked_lists::{arc_at, at, index, put};
-use net_normal::{FlowArc, Problem};
+use net_normal::Problem;
 use std::alloc::{AllocError, Global};
 
 /// The state of a network simplex.
@@ -70,8 +70,8 @@ impl Simplex {
             simplex.prices.put_potential(index(node), *potential);
         }
         for place in 0..index(problem.arcs.len()) {
-            let arc = simplex.known(problem, place);
             let number = at(&simplex.numbers, place, NO_PLACE);
+            let arc = arc_at(problem, number);
             let flow = at(&start.flows, number, arc.low);
             if flow != arc.low && flow != arc.cap {
                 simplex.enter_between(place, flow.wrapping_sub(arc.low))?;
@@ -140,11 +140,6 @@ impl Simplex {
             self.rooms.push(room)?;
         }
         Ok(())
-    }
-
-    /// Returns the arc of the problem at an index in pricing order.
-    pub fn known(&self, problem: &Problem, place: u32) -> FlowArc {
-        arc_at(problem, at(&self.numbers, place, NO_PLACE))
     }
 
     /// Returns the cheapest arc into each node with a deficit.
