@@ -39,7 +39,7 @@ fn add_price(
     ensures { Updates (forms.priced (trees.span_of (tree whole.now)) form.old arc price.now) result form.new }
 {
     let before = mem::replace(form, Affine::zero(alloc));
-    *form = with_price(alloc, before, arc, whole, price)?;
+    *form = with_price(before, arc, whole, price)?;
     Ok(())
 }
 

@@ -150,7 +150,7 @@ stands_more (p ∷ ps) a b c h = step (nat_eq a p.0) (stands_more ps a b c h)
 flip : (a b : ℕ) → nat_eq a b ≡ false → nat_eq b a ≡ false
 flip a b h = grind (arith, h)
 
-apart_more : (ps : Products) (a : ℕ) (c : ℤ) → all_apart ps ≡ true → all_apart (more ps a c) ≡ true
+pub apart_more : (ps : Products) (a : ℕ) (c : ℤ) → all_apart ps ≡ true → all_apart (more ps a c) ≡ true
 apart_more [] a c h = refl
 apart_more (p ∷ ps) a c h = step (nat_eq a p.0) refl (apart_more ps a c (tail_apart (stands_in p.0 ps) (all_apart ps) h))
   where

@@ -2,13 +2,14 @@
 use Rattle.std.specs.Prelude.{◌≡◌, ℕ, ◌≤◌, ◌<◌, ◌+◌, ◌*◌, ◌^◌, Bool, true, false, ◌&&◌, [], ◌∷◌, if◌then◌else◌, ℤ, pos, negsuc, ◌+ℤ◌, ◌*ℤ◌, unsigned_abs}
 use Rattle.std.proofs.Common.{refl, ap, sym, ◌∙◌, subst, arith}
 use Rattle.std.proofs.lemmas.Int.{ints, unsigned_abs-mul}
+use lib.IntN.{*ℤ_comm}
 use Rattle.net_normal.specs.Limits.{IsSized, value_limit}
 use Rattle.net_expr.specs.Limits.{is_small}
-use Rattle.net_linear.specs.Forms.{Products, Linear, coefficient, with_times, all_small, all_apart, combined, is_sized, AreWithin, just, one_arc}
+use Rattle.net_linear.specs.Forms.{Products, Linear, coefficient, more, with_times, all_small, all_apart, combined, is_sized, AreWithin, just, one_arc}
 use Rattle.net_linear.proofs.Adding.{abs_product}
-use Rattle.net_linear.proofs.Coefficients.{each_small, apart_with, coefficient_with}
+use Rattle.net_linear.proofs.Coefficients.{each_small, step_test, apart_more, apart_with, coefficient_with}
 use Rattle.net_linear.proofs.Sizes.{small_abs}
-use Rattle.net_linear.proofs.Rings.{one-mul}
+use Rattle.net_linear.proofs.Rings.{mul-none, one-mul}
 
 pub constant_room : (m k n b : ℤ) → unsigned_abs m ≤ 2 ^ 125 → unsigned_abs k ≤ 2 ^ 40 → is_small n ≡ true → b ≡ k *ℤ n → unsigned_abs m + unsigned_abs b < 170141183460469231731687303715884105728
 constant_room m k n b h l s e = omega (arith, h, abs_product k n l s, ap unsigned_abs e)
@@ -40,6 +41,26 @@ fits_all here small m c ps qs h e k =
 pub arc_sized : (a : ℕ) → is_sized (one_arc a) ≡ true
 unfolding is_small
 arc_sized a = refl
+
+-- one arc more in a form
+pub combined_arc : (m k : ℤ) (ps : Products) (a : ℕ) → record { constant = m; products = more ps a k } ≡ combined (record { constant = m; products = ps }) k (one_arc a)
+combined_arc m k ps a = sym (ap (λ (i : ℤ). form i (k *ℤ pos 1)) none ∙ ap (form m) (*ℤ_comm k (pos 1) ∙ one-mul k))
+  where
+    form : ℤ → ℤ → Linear
+    form i j = record { constant = i; products = more ps a j }
+
+    none : m +ℤ k *ℤ pos 0 ≡ m
+    none = omega (arith, ints, mul-none k)
+
+pub fits_arc : (f : Linear) (k : ℤ) (a : ℕ) → is_sized f ≡ true → is_small (coefficient f.products a +ℤ k) ≡ is_sized (combined f k (one_arc a))
+fits_arc f k a h =
+    sym (step_test f.products a k (products_small f h)) ∙ sym (ap (λ b. b && all_small (more f.products a k)) (constant_small f h)) ∙ ap is_sized (combined_arc f.constant k f.products a)
+
+pub arc_room : (f : Linear) (k : ℤ) (a : ℕ) → is_sized f ≡ true → is_small k ≡ true → unsigned_abs (coefficient f.products a) + unsigned_abs k < 170141183460469231731687303715884105728
+arc_room f k a h s = omega (arith, small_abs k s, small_abs (coefficient f.products a) (each_small f.products a (products_small f h)))
+
+pub arc_apart : (ps : Products) (a : ℕ) (k : ℤ) (new : Products) → new ≡ more ps a k → all_apart ps ≡ true → all_apart new ≡ true
+arc_apart ps a k new e h = ap all_apart e ∙ apart_more ps a k h
 
 pub small_factor : (n : ℤ) → is_small n ≡ true → unsigned_abs n ≤ 2 ^ 40
 small_factor n h = omega (arith, small_abs n h)

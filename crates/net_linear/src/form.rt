@@ -1,6 +1,6 @@
 //! Sums of arcs with their coefficients.
 
-ghost use Rattle.std.specs.Prelude.{◌≡◌, [], ◌≤◌, ◌+◌, ◌^◌, ◌&&◌, ℕ, pos, true, OnOk, IfOk, unsigned_abs};
+ghost use Rattle.std.specs.Prelude.{◌≡◌, [], ◌≤◌, ◌<◌, ◌+◌, ◌^◌, ◌&&◌, ℕ, pos, true, OnOk, IfOk, unsigned_abs};
 ghost use Rattle.net_expr.specs.Limits.{is_small};
 ghost use Rattle.net_normal.specs.Limits.{IsSized, value_limit};
 ghost use Rattle.net_linear.specs.Forms as forms;
@@ -8,7 +8,7 @@ ghost use Rattle.net_linear.specs.Laws.{HaveValue};
 ghost use Rattle.net_linear.specs.Soundness.{ConditionsAreSound, ObjectivesAreSound};
 
 use crate::coefficient_list::Coefficients;
-use crate::products::{add_times, are_small, both, product_of, sum_of};
+use crate::products::{add_product, add_times, are_small, both, product_of, sum_of};
 use net_expr::is_small_wide;
 use std::alloc::{AllocError, Global};
 use std::marker::Model;
@@ -93,6 +93,21 @@ impl Sum {
         Ok((Sum { constant, products }, fits))
     }
 
+    /// Adds `factor` times an arc; also returns whether all numbers are within the limit, if they
+    /// were before. Fails only if memory runs out.
+    fn with_arc(self, factor: &i128, arc: usize) -> Result<(Sum, bool), AllocError>
+        requires { unsigned_abs (forms.coefficient self.products arc) + unsigned_abs factor.now < 2 ^ 127 }
+        ensures value { IfOk result (λ r. r.0 ≡ forms.combined self factor.now (forms.one_arc arc)) }
+        ensures fits { IfOk result (λ r. forms.is_sized self ≡ true → r.1 ≡ forms.is_sized (forms.combined self factor.now (forms.one_arc arc))) }
+    {
+        let Sum {
+            constant,
+            mut products,
+        } = self;
+        let fits = add_product(&mut products, arc, factor)?;
+        Ok((Sum { constant, products }, fits))
+    }
+
     /// Returns the coefficient of an arc.
     fn coefficient(&self, arc: usize) -> i128
         ensures { result ≡ forms.coefficient self.now.products arc }
@@ -158,11 +173,16 @@ impl Affine {
     pub(crate) fn of(sum: Sum) -> Option<Affine>
         ensures { result ≡ forms.if_sized sum }
     {
-        if sum.is_sized() {
-            Some(Affine { sum })
-        } else {
-            None
-        }
+        let fits = sum.is_sized();
+        Affine::if_fits(sum, fits)
+    }
+
+    /// Converts a sum to a form if all its numbers are within the limit.
+    fn if_fits(sum: Sum, fits: bool) -> Option<Affine>
+        requires { fits ≡ forms.is_sized sum }
+        ensures { result ≡ forms.if_sized sum }
+    {
+        if fits { Some(Affine { sum }) } else { None }
     }
 
     /// Adds `factor * other`. Returns `None` if a number exceeds the limit.
@@ -172,11 +192,17 @@ impl Affine {
     {
         let Affine { sum } = self;
         let (sum, fits) = sum.with(factor, other)?;
-        if fits {
-            Ok(Some(Affine { sum }))
-        } else {
-            Ok(None)
-        }
+        Ok(Affine::if_fits(sum, fits))
+    }
+
+    /// Adds `factor` times an arc. Returns `None` if the arc's coefficient exceeds the limit.
+    pub(crate) fn plus_arc(self, factor: &i128, arc: usize) -> Result<Option<Affine>, AllocError>
+        requires { is_small factor.now ≡ true }
+        ensures { IfOk result (λ r. r ≡ forms.if_sized (forms.combined self factor.now (forms.one_arc arc))) }
+    {
+        let Affine { sum } = self;
+        let (sum, fits) = sum.with_arc(factor, arc)?;
+        Ok(Affine::if_fits(sum, fits))
     }
 
     /// Returns whether the form contains no arc.

@@ -10,7 +10,6 @@ use crate::form::Affine;
 use net_base::{ErrorCode, Fault};
 use net_expr::{is_small_wide, reject_tree};
 use net_tree::Expr;
-use std::alloc::Global;
 
 fn or_too_large(whole: &Expr<'_>, form: Option<Affine>) -> Result<Affine, Fault>
     ensures { Refines (forms.or_too_large (trees.span_of (tree whole.now)) form) result }
@@ -21,48 +20,29 @@ fn or_too_large(whole: &Expr<'_>, form: Option<Affine>) -> Result<Affine, Fault>
     }
 }
 
-fn priced_wide(
-    alloc: Global,
-    form: Affine,
-    arc: usize,
-    whole: &Expr<'_>,
-    price: &i128,
-) -> Result<Affine, Fault>
+fn priced_wide(form: Affine, arc: usize, whole: &Expr<'_>, price: &i128) -> Result<Affine, Fault>
     ensures { Refines (forms.priced (trees.span_of (tree whole.now)) form arc price.now) result }
 {
     if is_small_wide(price) {
-        let one = Affine::arc(alloc, arc)?;
-        let sum = form.plus(price, &one)?;
+        let sum = form.plus_arc(price, arc)?;
         or_too_large(whole, sum)
     } else {
         Err(reject_tree(ErrorCode::ValueTooLarge, whole))
     }
 }
 
-fn priced(
-    alloc: Global,
-    form: Affine,
-    arc: usize,
-    whole: &Expr<'_>,
-    price: &i64,
-) -> Result<Affine, Fault>
+fn priced(form: Affine, arc: usize, whole: &Expr<'_>, price: &i64) -> Result<Affine, Fault>
     ensures { Refines (forms.priced (trees.span_of (tree whole.now)) form arc price.now) result }
 {
-    priced_wide(alloc, form, arc, whole, &i128::from(*price))
+    priced_wide(form, arc, whole, &i128::from(*price))
 }
 
 /// Adds a cost coefficient of an arc, as an `obj` phrase gives one; several coefficients of an arc
 /// are added. Returns `ValueTooLarge` at the phrase's expression if the absolute value of the arc's
 /// coefficient exceeds 1,000,000,000,000.
-pub fn with_price(
-    alloc: Global,
-    form: Affine,
-    arc: usize,
-    whole: &Expr<'_>,
-    price: &i64,
-) -> Result<Affine, Fault>
+pub fn with_price(form: Affine, arc: usize, whole: &Expr<'_>, price: &i64) -> Result<Affine, Fault>
     ensures value { Refines (forms.priced (trees.span_of (tree whole.now)) form arc price.now) result }
     ensures value_of_tree { IfOk result (λ r. (x : ℕ → ℤ) → forms.form_at x r ≡ (forms.form_at x form +ℤ price.now *ℤ x arc)) }
 {
-    priced(alloc, form, arc, whole, price)
+    priced(form, arc, whole, price)
 }

@@ -33,7 +33,11 @@ pub(crate) fn both(a: bool, b: bool) -> bool
 
 /// Adds to the coefficient of an arc; returns whether the result is within the limit. Fails only if
 /// memory runs out.
-fn add_product(products: &mut Coefficients, arc: usize, by: &i128) -> Result<bool, AllocError>
+pub(crate) fn add_product(
+    products: &mut Coefficients,
+    arc: usize,
+    by: &i128,
+) -> Result<bool, AllocError>
     requires { unsigned_abs (forms.coefficient products.now arc) + unsigned_abs by.now < 2 ^ 127 }
     ensures adds { OnOk result (products.new ≡ forms.more products.old arc by.now) }
     ensures fits { IfOk result (λ fits. fits ≡ is_small (forms.coefficient products.old arc +ℤ by.now)) }

@@ -1,5 +1,3 @@
-use Rattle.std.proofs.Common.{arith}
-use Rattle.std.proofs.lemmas.Grind.{common_steps}
 use Rattle.net_linear.proofs.FormSizes.{roomy, small_factor}
 use Rattle.net_linear.proofs.form.Affine.plus.Goals as goal
 
@@ -8,6 +6,3 @@ with-requires-clause-factor c = small_factor c.args.factor.now c.requires
 
 pub with-requires-clause-room : goal.with-requires-clause-room
 with-requires-clause-room c = roomy c.self.inside.sum c.self.invariant
-
-pub returns-else-fits : goal.returns-else-fits
-returns-else-fits c = grind (arith, common_steps)
