@@ -5,6 +5,7 @@ pub mod SizeLemmas
 pub mod NumeralLemmas
 pub mod NumeralSpelled
 pub mod NumeralSigned
+pub mod ShortNumerals
 pub mod GapLemmas
 pub mod StringLemmas
 pub mod WordLemmas

@@ -1,14 +1,16 @@
 //! Reading single tokens, for both languages.
-ghost use Rattle.std.specs.Prelude.{◌≡◌, ◌+◌, ◌<◌, ◌≤◌, ◌^◌, IfOk, IfSome, MatchResult, MatchOption, Ok, length};
+ghost use Rattle.std.specs.Prelude.{◌≡◌, ◌+◌, ◌<◌, ◌≤◌, ◌^◌, IfOk, IfSome, IsTrue, MatchResult, MatchOption, Ok, length};
 ghost use Rattle.net_lex.specs.Shapes.{front};
 ghost use Rattle.net_lex.specs.Tokens.{HasShape};
 ghost use Rattle.net_lex.specs.Gaps.{IsLastGap};
 ghost use Rattle.net_lex.specs.Faults.{IsFault};
 ghost use Rattle.net_lex.specs.Limits.{limits};
+ghost use Rattle.net_lex.specs.Numerals.{AreDigits};
 ghost use Rattle.net_lex.specs.Packed.{IsCodeOf};
 ghost use Rattle.net_lex.specs.Scanning.{BeginsNoGap, IsNumeralKind, IsKindOf, IsTokenAt, IsErrorCodeAt, IsStep, kind_in};
 ghost use Rattle.net_lex.specs.declared.shape.Shape.TheVariants.{Word};
 
+use crate::bytes::digits;
 use crate::data_text::data_front;
 use crate::gap::gap_len;
 use crate::model_text::model_front;
@@ -48,12 +50,28 @@ fn without_value(kind: Kind) -> WordKind
     }
 }
 
+/// Returns whether a word has 6 to 12 characters, all of them digits. Its value is within the limit, and has no code unless
+/// zeros precede it.
+fn is_plain(word: &str) -> bool
+    ensures { IsTrue result → (length word.now ≤ 12) × AreDigits word.now }
+{
+    let bytes = word.as_bytes();
+    if bytes.len() < 6 || bytes.len() > 12 {
+        return false;
+    }
+    let (_, after) = digits(bytes);
+    after.is_empty()
+}
+
 /// Returns the kind of a numeral and the code of its value, after checking the value, or `otherwise` for a word that is not a
-/// numeral.
+/// numeral. Reads no value that cannot exceed the limit and seldom has a code.
 fn numeral_kind(word: &str, otherwise: Kind) -> Result<WordKind, ErrorCode>
     ensures kind { IsNumeralKind word.now (Ok otherwise) (kind_in result) }
     ensures value { IfOk result (λ found. IsCodeOf word.now found.value_code) }
 {
+    if is_plain(word) {
+        return Ok(without_value(Kind::Num));
+    }
     match whole_of(word) {
         Ok(value) => Ok(WordKind {
             kind: Kind::Num,

@@ -130,11 +130,11 @@ fn with_sign(negative: bool, size: u64) -> i64
     }
 }
 
-/// Returns the number written by a text of digits alone, if it is at most 10^12.
+/// Returns the number written by a text of at most twelve digits alone.
 fn plain_value(text: &[u8]) -> Option<u64>
     ensures { IfSome result (λ value. AreDigits text.now × (value ≡ digits_value text.now) × (value ≤ limits.value)) }
 {
-    if text.is_empty() {
+    if text.is_empty() || text.len() > 12 {
         return None;
     }
     let mut value: u64 = 0;
@@ -143,9 +143,6 @@ fn plain_value(text: &[u8]) -> Option<u64>
             return None;
         }
         value = 10 * value + u64::from(byte.saturating_sub(b'0'));
-        if value > VALUE_LIMIT {
-            return None;
-        }
     }
     Some(value)
 }

@@ -1,11 +1,19 @@
-use Rattle.std.proofs.Common.{rules, arith, refl, inl, sym, subst, ◌∙◌}
+use Rattle.std.proofs.Common.{rules, arith, ap, Ok, refl, inl, sym, subst, ◌∙◌}
 use Rattle.std.proofs.lemmas.Grind.{common_steps}
 use Rattle.std.proofs.lemmas.Int.{to_z-of_z}
 use mir.Val.{SFits}
 use mir.Syntax.{w64}
 use Rattle.net_lex.specs.Limits.{limits}
 use Rattle.net_lex.specs.Numerals.{IsValue}
+use Rattle.net_lex.specs.declared.scan.WordKind.{WordKind}
+use Rattle.net_lex.proofs.ShortNumerals.{plain_numeral}
 use Rattle.net_lex.proofs.scan.numeral_kind.Goals as goal
+
+pub returns-then-is_plain : goal.returns-then-is_plain
+returns-then-is_plain c = record {
+  kind = inl (ap (λ (found : WordKind). Ok found.kind) c.without_value.ensures, plain_numeral c.args.word.now (c.is_plain.ensures c.if-is_plain.true));
+  value = λ n e. absurd (omega (arith, e, ap (λ (found : WordKind). found.value_code) c.without_value.ensures));
+}
 
 pub returns-in-Err-TooLarge : goal.returns-in-Err-TooLarge
 returns-in-Err-TooLarge c = grind (arith, common_steps)
