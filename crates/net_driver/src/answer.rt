@@ -87,7 +87,7 @@ pub fn solve_model_with<'s>(
     ensures means { IfOk result (IsSolution (option_copied options.now.objective) model.entry.now «data».entry.now) }
     ensures rejected { IfErr result (IsRejection (option_copied options.now.objective) model.entry.now «data».entry.now) }
 {
-    let read = read_network(alloc, model, data, options.objective);
+    let read = read_network(alloc, model, data, options.objective, options.key);
     let named = reported(alloc, model, data, read)?;
     let network = compile_network(alloc, options.lean, named)?;
     let outcome = solve_network(alloc, &network)?;
@@ -106,7 +106,7 @@ pub fn solve_outcome_with(
     ensures value { IfOk result (IsOutcomeFor options.now.lean (option_copied options.now.objective) model.now «data».now) }
     ensures rejected { IfErr result (IsRejection (option_copied options.now.objective) model.now «data».now) }
 {
-    let found = read_network(alloc, model, data, options.objective);
+    let found = read_network(alloc, model, data, options.objective, options.key);
     let named = reported(alloc, model, data, found)?;
     let network = compile_network(alloc, options.lean, named)?;
     let outcome = solve_network(alloc, &network)?;

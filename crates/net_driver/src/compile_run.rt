@@ -58,7 +58,13 @@ pub fn run_compile_with<M: Source, D: Source, W: Sink>(
 {
     let model_text = read_text(alloc, model, MODEL_LIMIT, TextName::Model)?;
     let data_text = read_text(alloc, data, DATA_LIMIT, TextName::Data)?;
-    let read = read_network(alloc, &model_text, &data_text, options.objective);
+    let read = read_network(
+        alloc,
+        &model_text,
+        &data_text,
+        options.objective,
+        options.key,
+    );
     let named = reported(alloc, &model_text, &data_text, read)?;
     let network = compile_network(alloc, options.lean, named)?;
     match write_text(output, &network) {

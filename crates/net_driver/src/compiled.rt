@@ -15,6 +15,7 @@ use crate::reporting::reported;
 use net_inst::Names;
 use net_io::GrowingSink;
 use net_normal::{Link, Problem};
+use net_sets::HashKey;
 use std::alloc::{AllocError, Global};
 use std::marker::Model;
 
@@ -26,6 +27,9 @@ pub struct Options<'s> {
     /// Whether the problem is the lean form of the network, without lower bounds and without arcs
     /// whose bounds are equal.
     pub lean: bool,
+    /// The key under which names and tuples are hashed; `None` for one that is derived from the
+    /// texts. No result depends on it. With a drawn key nobody can write inputs that collide.
+    pub key: Option<HashKey>,
 }
 
 impl<'s> Options<'s> {
@@ -37,6 +41,7 @@ impl<'s> Options<'s> {
         Options {
             objective: None,
             lean: false,
+            key: None,
         }
     }
 }
@@ -74,7 +79,7 @@ pub fn compile_with<'s>(
     ensures means { IfOk result (IsCompilation (option_copied options.now.objective) model.entry.now «data».entry.now) }
     ensures rejected { IfErr result (IsRejection (option_copied options.now.objective) model.entry.now «data».entry.now) }
 {
-    let read = read_network(alloc, model, data, options.objective);
+    let read = read_network(alloc, model, data, options.objective, options.key);
     let named = reported(alloc, model, data, read)?;
     let network = compile_network(alloc, options.lean, named)?;
     let compiled = with_text(alloc, network)?;

@@ -35,6 +35,7 @@ pub use net_dimacs::LineFault;
 pub use net_inst::{Named, Names};
 pub use net_io::{Failed, Sink, Source};
 pub use net_normal::{Link, Problem};
+pub use net_sets::HashKey;
 pub use net_solve::Settled;
 pub use network_reader::read_network;
 pub use priced_run::run_solve_with_prices;

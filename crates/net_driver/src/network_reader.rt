@@ -39,8 +39,16 @@ fn network_of<'s>(
     instantiate_for(alloc, model, &world, objective)
 }
 
+/// Returns the key of a run: the given one, or one that is derived from the texts.
+fn key_of(key: Option<HashKey>, model: &[u8], data: &[u8]) -> HashKey {
+    match key {
+        Some(key) => key,
+        None => HashKey::of_texts(model, data),
+    }
+}
+
 /// Returns the network of a model with its data, and its names, for the objective of the given name
-/// or the only one.
+/// or the only one. The key is that of the hashes (`Options`).
 ///
 /// Returns the first error in this order: tokens, grammar and names of the model; tokens and
 /// statements of the data; evaluation with the checks; the network.
@@ -49,6 +57,7 @@ pub fn read_network<'s>(
     model: &'s [u8],
     data: &'s [u8],
     objective: Option<&str>,
+    key: Option<HashKey>,
 ) -> Result<Named<'s>, Fault>
     ensures ok { IfOk result (λ n. IsNetworkOf (option_copied objective.entry) model.entry.now «data».entry.now (seen_as n)) }
     ensures rejected { IfErr result (IsStop (option_copied objective.entry) model.entry.now «data».entry.now) }
@@ -56,7 +65,7 @@ pub fn read_network<'s>(
     // The tokens of the model are freed before those of the data are made.
     let declared = {
         let tokens = lex_model(alloc, model)?;
-        parse_model(alloc, HashKey::of_texts(model, data), &tokens)?
+        parse_model(alloc, key_of(key, model, data), &tokens)?
     };
     let read = network_of(alloc, &declared, data, objective);
     free_model(declared.into_model());

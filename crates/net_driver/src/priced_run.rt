@@ -102,7 +102,13 @@ pub fn run_solve_with_prices<M: Source, D: Source, W: Sink>(
 {
     let model_text = read_text(alloc, model, MODEL_LIMIT, TextName::Model)?;
     let data_text = read_text(alloc, data, DATA_LIMIT, TextName::Data)?;
-    let read = read_network(alloc, &model_text, &data_text, options.objective);
+    let read = read_network(
+        alloc,
+        &model_text,
+        &data_text,
+        options.objective,
+        options.key,
+    );
     let named = reported(alloc, &model_text, &data_text, read)?;
     let (network, instance) = compile_with_instance(alloc, options.lean, named)?;
     let priced = solve_with_prices(alloc, &network, &instance)?;

@@ -67,26 +67,31 @@ fn solved(alloc: Global, options: &Options<'_>, model: &[u8]) -> Result<String, 
 const COST: Options<'static> = Options {
     objective: Some("Cost"),
     lean: false,
+    key: None,
 };
 
 const GAIN: Options<'static> = Options {
     objective: Some("Gain"),
     lean: false,
+    key: None,
 };
 
 const LOSS: Options<'static> = Options {
     objective: Some("Loss"),
     lean: false,
+    key: None,
 };
 
 const NONE: Options<'static> = Options {
     objective: None,
     lean: false,
+    key: None,
 };
 
 const LEAN: Options<'static> = Options {
     objective: None,
     lean: true,
+    key: None,
 };
 
 /// What is worth 3 to buy and 1 to sell.

@@ -103,7 +103,11 @@ fn solved(alloc: Global, objective: Option<&str>, lean: bool, model: &[u8], data
     ensures { IsReply (IsSolveText lean (option_copied objective.entry) model.now «data».now)
         (IsRejection (option_copied objective.entry) model.now «data».now) result.status result.text.items }
 {
-    let options = Options { objective, lean };
+    let options = Options {
+        objective,
+        lean,
+        key: None,
+    };
     match solve_outcome_with(alloc, &options, model, data) {
         Ok(outcome) => reply_of(outcome),
         Err(fault) => rejected(alloc, &fault),
@@ -115,7 +119,11 @@ fn compiled(alloc: Global, objective: Option<&str>, lean: bool, model: &[u8], da
     ensures { IsReply (IsCompileText lean (option_copied objective.entry) model.now «data».now)
         (IsRejection (option_copied objective.entry) model.now «data».now) result.status result.text.items }
 {
-    let options = Options { objective, lean };
+    let options = Options {
+        objective,
+        lean,
+        key: None,
+    };
     match compile_with(alloc, &options, model, data) {
         Ok(compiled) => Reply {
             status: DONE,

@@ -6,7 +6,7 @@ ghost use Rattle.std.specs.Prelude.{◌≡◌, string_bytes, option_map, ℕ, Li
 
 use crate::command_words::{Action, CommandWords};
 use either::{Either, Left, Right};
-use net_driver::Options;
+use net_driver::{HashKey, Options};
 use net_io::{OfRead, Source};
 use std::fs;
 use std::fs::Files;
@@ -46,25 +46,26 @@ fn objective_in(words: &CommandWords) -> Option<&str>
     }
 }
 
-/// Returns the options.
-fn options_in(words: &CommandWords) -> Options<'_>
+/// Returns the options, with this key of the hashes.
+fn options_in(words: &CommandWords, key: Option<HashKey>) -> Options<'_>
     ensures lean { result.lean ≡ words.now.lean }
     ensures objective { option_copied result.objective ≡ option_map string_bytes words.now.objective }
 {
     Options {
         objective: objective_in(words),
         lean: words.lean,
+        key,
     }
 }
 
 /// Returns the call of the subcommand `solve`.
-fn solve_call(words: &CommandWords) -> Call<'_>
+fn solve_call(words: &CommandWords, key: Option<HashKey>) -> Call<'_>
     requires { words.now.command ≡ Action.Solve }
     ensures { IsCallOf words.now result }
 {
     let model = path_at(words, 0);
     let data = path_at(words, 1);
-    let options = options_in(words);
+    let options = options_in(words, key);
     if words.prices {
         Call::SolveWithPrices(model, data, options)
     } else {
@@ -72,13 +73,16 @@ fn solve_call(words: &CommandWords) -> Call<'_>
     }
 }
 
-/// Returns the call that the arguments request.
-pub fn call_of(words: &CommandWords) -> Call<'_>
+/// Returns the call that the arguments request, with this key of the hashes.
+pub fn call_of(words: &CommandWords, key: Option<HashKey>) -> Call<'_>
     ensures value { IsCallOf words.now result }
 {
     match words.command {
-        Action::Compile => Call::Compile(path_at(words, 0), path_at(words, 1), options_in(words)),
-        Action::Solve => solve_call(words),
+        Action::Compile => {
+            let options = options_in(words, key);
+            Call::Compile(path_at(words, 0), path_at(words, 1), options)
+        }
+        Action::Solve => solve_call(words, key),
         Action::Min => Call::Min(path_at(words, 0)),
         Action::Check => Call::Check(path_at(words, 0), path_at(words, 1)),
     }

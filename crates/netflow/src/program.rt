@@ -9,11 +9,12 @@ use crate::command_words::{WordsFault, words_of};
 use crate::error_line::{ErrorStream, print_error};
 use crate::status::Status;
 use net_driver::{
-    ExitKind, Fault, Options, TextName, run_check, run_compile_with, run_min, run_solve_with,
-    run_solve_with_prices,
+    ExitKind, Fault, HashKey, Options, TextName, run_check, run_compile_with, run_min,
+    run_solve_with, run_solve_with_prices,
 };
 use net_io::Sink;
 use std::alloc::Global;
+use std::random::RandomSource;
 use std::rt::Runtime;
 use std::{env, io};
 
@@ -136,7 +137,7 @@ fn check_files<F: InputFiles, W: Sink>(
 
 /// Runs the program on its arguments: the call that they request, or none. The line of an error goes
 /// to `errors`; help and usage go to the streams of the runtime.
-pub fn run_program<R: Runtime + AllocGlobal, F: InputFiles, W: Sink, E: Sink>(
+pub fn run_program<R: Runtime + AllocGlobal + RandomSource, F: InputFiles, W: Sink, E: Sink>(
     rt: &R,
     files: &F,
     output: &mut W,
@@ -154,7 +155,8 @@ pub fn run_program<R: Runtime + AllocGlobal, F: InputFiles, W: Sink, E: Sink>(
         Ok(words) => words,
         Err(fault) => return print_usage(rt, errors, fault),
     };
-    let ran = match call_of(&words) {
+    let key = HashKey::drawn(rt);
+    let ran = match call_of(&words, key) {
         Call::Compile(model, data, options) => {
             compile_files(rt.alloc(), files, output, model, data, &options)
         }
