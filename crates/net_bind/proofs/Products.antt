@@ -40,9 +40,9 @@ use Rattle.net_expr.specs.Worlds.{World}
 use Rattle.net_expr.proofs.KeysOnce.{union_distinct}
 use Rattle.net_expr.proofs.ValueFaults.{whole_stands, finds_value}
 use Rattle.net_expr.proofs.Walked.{none_there, all_join}
-use Rattle.net_meaning.specs.OfTrees.{begins_range, IsValue, AreOperandValues, IsChain}
+use Rattle.net_meaning.specs.OfTrees.{env_of, begins_range, IsValue, AreOperandValues, IsChain}
 use Rattle.net_meaning.specs.Operators as meant
-use Rattle.net_meaning.specs.Values.{Env, env_of, Whether, HasRange}
+use Rattle.net_meaning.specs.Values.{Env, Whether, HasRange}
 use Rattle.net_meaning.proofs.Erased.{begins_range_is}
 use Rattle.net_meaning.proofs.Giving.{gives_then, gives_any, gives_if, gives_as}
 use Rattle.net_meaning.proofs.Meaning.{evaluation_is_sound}

@@ -17,10 +17,10 @@ use Rattle.net_expr.specs.Worlds.{World}
 use Rattle.net_bind.specs.Binding.{judged, hold}
 use Rattle.net_bind.specs.Soundness.{ChecksAreSound}
 use Rattle.net_bind.proofs.RowsTaken.{then_ok, is_ok}
-use Rattle.net_meaning.specs.OfTrees.{IsValue, AreIndexed}
+use Rattle.net_meaning.specs.OfTrees.{env_of, IsValue, AreIndexed}
 use Rattle.net_meaning.specs.Laws.{meaning_of}
 use Rattle.net_meaning.specs.Operators.{Truth}
-use Rattle.net_meaning.specs.Values.{Key, env_of}
+use Rattle.net_meaning.specs.Values.{Key}
 use Rattle.net_meaning.proofs.Meaning.{evaluation_is_sound, keys_are_sound}
 use Rattle.net_expr.specs.Indexings.{alone, by_keys, indexing_in}
 

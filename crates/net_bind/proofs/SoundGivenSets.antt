@@ -200,7 +200,7 @@ single_dimension w (p ∷ ps) c e h = cc
 -- a set that the code binds, with the data of well-formed statements, is the one that AMPL defines
 pub set_is : (w : World) (widths : List ℕ) (name : Token) (ps : List Phrase) (ds : Declared) (i : ℕ) (ss : List Statement) (x : Entry) → HasSets w → AreSetPhrases ps
     → AllByRecursion IsStatement ss → all_judged ss ≡ Ok tt → AllByRecursion HaveValues ss → AllByRecursion (NamesNoParameter name.text) ss → bound_set w widths name ps (data_for ds i name.text ss) ≡ Ok x
-    → (d : ℕ) × (ts : List Tuple) × (x ≡ Set d ts) × IsSet w ss name.text ps d ts
+    → (d : ℕ) × (ts : List Tuple) × (x ≡ Set d ts) × IsSet w ss name.text ps ts
 set_is w widths name ps ds i ss x sets (well, dimens, once) are whole valued none e =
     then_ok (set_phrases w ps) (set_of widths name (data_for ds i name.text ss)) x e (λ c f g.
     then_ok (given_set widths (unwrap_or c.dimension 1) (is_some (assigned c.phrases)) (data_for ds i name.text ss)) _ x g (λ found h k.
@@ -216,9 +216,10 @@ set_is w widths name ps ds i ss x sets (well, dimens, once) are whole valued non
       ts,
       same,
       record {
+        dimension = d;
         distinct = entry.0;
         lengths = entry.1;
-        dimension = single_dimension w ps c f;
+        single = single_dimension w ps c f;
         phrases = all_satisfied w sets c.dimension d ts (one_dimension c.dimension) ps c.phrases claimed (inside_all name ts c.phrases u a) own;
         members =
             subst (AreGivenMembers ss name.text d ts) (sym (phrase_value_is is_becomes ps))

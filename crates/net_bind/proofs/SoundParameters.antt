@@ -1,7 +1,8 @@
 -- A parameter that is bound with the data of the statements is the one that AMPL defines.
-use Rattle.std.specs.Prelude.{◌≡◌, ◌⊎◌, ◌+◌, ◌≤◌, ◌||◌, ℕ, Bool, true, false, List, [], ◌∷◌, length, map, nat_le, is_some, Option, None, Some, if◌then◌else◌, Ok, Err}
+use Rattle.std.specs.Prelude.{◌≡◌, ◌⊎◌, ◌+◌, ◌≤◌, ◌||◌, ℕ, Bool, true, false, cond, List, [], ◌∷◌, length, map, nat_le, is_some, Option, None, Some, if◌then◌else◌, Ok, Err}
 use Rattle.std.specs.List.{AllByRecursion, AllZip, IsDistinct}
 use Rattle.std.proofs.Common.{refl, ap, sym, ◌∙◌, subst, arith, inl, inr}
+use Rattle.std.proofs.lemmas.Bool.{true≢false}
 use Rattle.net_base.specs.declared.diagnostic.Diagnostic.{Diagnostic}
 use Rattle.net_base.specs.declared.diagnostic.Span.{Span}
 use Rattle.net_base.specs.Outcomes.{Outcome, each}
@@ -46,7 +47,7 @@ use Rattle.net_bind.proofs.SoundRows.{IsMember, rows_are, defaults_of, defaults_
 use Rattle.net_bind.proofs.SoundTaken.{IsWhole, data_members, default_members, AreAccepted, are_accepted}
 use Rattle.net_bind.proofs.SoundValues.{IsRead, row_read, first_of, default_is, value_is_meant, rows_fit}
 use Rattle.net_bind.proofs.ValuesAt.{keys_once, table_valued, statements_add}
-use Rattle.net_meaning.specs.OfTrees.{IsParameterValue}
+use Rattle.net_meaning.specs.OfTrees.{meant_entry, IsParameterValue}
 use Rattle.net_tree.specs.PhraseValues.{phrase_value}
 use Rattle.net_meaning.specs.Values.{Key}
 use Rattle.net_meaning.specs.World as world
@@ -80,12 +81,6 @@ lengths_are w (Some b) i e =
     go : (d : Option ℕ) (rows : List Row) → AreKeys d rows → AreLong (counted d) (keys_of rows)
     go None rows h = subst (λ (z : List Row). AreLong 1 (keys_of z)) (sym h) tt
     go (Some n) rows h = h
-
-size_is : (w : World) (b : Option Braces) (i : Indexing) → indexing_in w b ≡ Ok i → i.count ≡ world.key_count (indexing b) (key_count i.count)
-size_is w None i e = subst (λ (z : Indexing). z.count ≡ world.key_count (indexing None) (key_count z.count)) (is_ok alone i e) refl
-size_is w (Some b) i e =
-    then_ok (index w [] b) (λ k. Ok (by_keys k)) i e (λ k j l.
-    subst (λ (z : Indexing). z.count ≡ world.key_count (indexing (Some b)) (key_count z.count)) (is_ok (by_keys k) i l) refl)
 
 -- what holds of each tuple holds of one that is there
 has_all : (P : Tuple → Type 0) (ts : List Tuple) (t : Tuple) → AllByRecursion P ts → has ts t ≡ true → P t
@@ -178,6 +173,15 @@ unassigned ps ds i n ss (inr e) = inr (sym (mentions_are ds i n ss) ∙ ap lengt
 one_at_most : (ts : List Token) → length ts + 0 ≤ 1 → length ts ≤ 1
 one_at_most ts h = omega (arith, h)
 
+-- a table whose keys are all among these has no value elsewhere
+none_elsewhere : (keys : List Tuple) (t : Table) (key : Tuple) → AllByRecursion (λ (e : Tuple × Member). has keys e.0 ≡ true) t → has keys key ≡ false → at_key t key ≡ None
+none_elsewhere keys [] key h out = refl
+none_elsewhere keys (e ∷ t) key h out = go (same_tuple key e.0) refl (none_elsewhere keys t key h.1 out)
+  where
+    go : (b : Bool) → same_tuple key e.0 ≡ b → at_key t key ≡ None → cond b (Some e.1) (at_key t key) ≡ None
+    go true same more = absurd (true≢false (sym h.0 ∙ ap (has keys) (sym ((tuple_decides key e.0).0 same)) ∙ out))
+    go false same more = more
+
 -- what holds of a key of the index list holds of the keys
 in_keys : (keys : List Tuple) (t : Table) → AllByRecursion (λ (e : Tuple × Member). has (union [] keys) e.0 ≡ true) t → AllByRecursion (λ (e : Tuple × Member). has keys e.0 ≡ true) t
 in_keys keys t h = all_as (λ (e : Tuple × Member). has (union [] keys) e.0 ≡ true) (λ (e : Tuple × Member). has keys e.0 ≡ true) t (λ e k. sym (has_union [] keys e.0) ∙ k) h
@@ -187,7 +191,6 @@ parameters_are_sound w ws name b ps ds i ss x sets forms numerals no_sets h =
     let n : Name = name.text in
     let ms : List NamedData = data_for ds i n ss in
     let y : IsBound w ws name b ps ms x = binds w ws name b ps ms x h in
-    let count : Option ℕ = y.keys.count in
     let p : KeyedParameter = keyed name ps y.keys y.listed in
     let size : ℕ = key_count y.keys.count in
     let rows : List DataRow = data_rows size n ss in
@@ -209,22 +212,23 @@ parameters_are_sound w ws name b ps ds i ss x sets forms numerals no_sets h =
     let reads : AllByRecursion IsRead rows =
     rows_read size keys rows (subst (AreLong size) (sym same) long) (subst (AllByRecursion (IsWhole size)) (rows_are ds i size n ss no_sets) accepted.rows) within in
     let tokens : AllByRecursion IsMember (data_defaults n ss) = subst (AllByRecursion IsMember) (defaults_are ds i n ss) (default_members ms members) in
-    let valued = table_valued w ws p ms y.keys.rows y.table (keys_once w b y.keys sets y.indexed) y.fill in
-    record {
-      keys = map (as_key w) y.keys.rows;
-      size = size;
-      table = y.table;
-      indexed = keys_are_indexed w b y.keys sets y.indexed;
-      lengths = all_keys w (λ (k : Key). length k.key ≡ size) y.keys.rows (rows_long size y.keys.rows long);
-      entry = y.entry ∙ ap (λ l. Parameter count l y.table) list ∙ ap (λ c. Parameter c (union [] keys) y.table) (size_is w b y.keys y.indexed);
-      values = all_valued w sets ss n ps size ms y.table reads tokens given (default_is ms ∙ ap first_of (defaults_are ds i n ss)) y.keys.rows valued;
-      only = in_keys keys y.table held.inside;
-      fits = rows_fit w sets p (placed p s y.all.0 y.table) y.keys.rows tt (table_fits w p s y.keys.rows y.all y.table y.holds);
-      whole = parameter_rows_whole ds i size n ss no_sets accepted.whole;
-      subscripts = subscripts_of rows;
-      read = all_read rows reads;
-      inside = within;
-      once = subst (IsDistinct same_tuple) (keys_given rows) reported.once;
-      assigned = unassigned ps ds i n ss accepted.assigned;
-      defaults = subst (λ (ts : List Token). length ts ≤ 1) (defaults_are ds i n ss) (one_at_most (defaults_of ms) accepted.defaults);
-    }
+    let valued = table_valued w ws p ms y.keys.rows y.table (keys_once w b y.keys sets y.indexed) y.fill in (
+      at_key y.table,
+      ap meant_entry y.entry,
+      record {
+        keys = map (as_key w) y.keys.rows;
+        size = size;
+        indexed = keys_are_indexed w b y.keys sets y.indexed;
+        lengths = all_keys w (λ (k : Key). length k.key ≡ size) y.keys.rows (rows_long size y.keys.rows long);
+        values = all_valued w sets ss n ps size ms y.table reads tokens given (default_is ms ∙ ap first_of (defaults_are ds i n ss)) y.keys.rows valued;
+        elsewhere = λ key. none_elsewhere keys y.table key (in_keys keys y.table held.inside);
+        fits = rows_fit w sets p (placed p s y.all.0 y.table) y.keys.rows tt (table_fits w p s y.keys.rows y.all y.table y.holds);
+        whole = parameter_rows_whole ds i size n ss no_sets accepted.whole;
+        subscripts = subscripts_of rows;
+        read = all_read rows reads;
+        inside = within;
+        once = subst (IsDistinct same_tuple) (keys_given rows) reported.once;
+        assigned = unassigned ps ds i n ss accepted.assigned;
+        defaults = subst (λ (ts : List Token). length ts ≤ 1) (defaults_are ds i n ss) (one_at_most (defaults_of ms) accepted.defaults);
+      },
+    )

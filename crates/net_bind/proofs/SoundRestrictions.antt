@@ -29,7 +29,7 @@ use Rattle.net_bind.specs.Restrictions.{relation_as, related, holding, restricte
 use Rattle.net_expr.proofs.SetsGiven.{IsSetValue, Gives, gives}
 use Rattle.net_meaning.specs.Laws.{meaning_of}
 use Rattle.net_meaning.specs.Operators.{One, Truth, IsResult}
-use Rattle.net_meaning.specs.Values.{env_of}
+use Rattle.net_meaning.specs.OfTrees.{env_of}
 use Rattle.net_meaning.specs.World as world
 use Rattle.net_meaning.specs.World.{Fits, FitsBy}
 use Rattle.net_meaning.proofs.Giving.{gives_ok}

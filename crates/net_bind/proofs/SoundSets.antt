@@ -26,10 +26,9 @@ use Rattle.net_expr.specs.SetValues.{IsSetOf, HasSets}
 use Rattle.net_expr.specs.Values.{value}
 use Rattle.net_expr.specs.Worlds.{World}
 use Rattle.net_expr.proofs.SetsGiven.{keeps_sets}
-use Rattle.net_meaning.specs.OfTrees.{IsValue, SatisfiesRole}
+use Rattle.net_meaning.specs.OfTrees.{meant_world, env_of, IsValue, SatisfiesRole}
 use Rattle.net_tree.specs.PhraseValues.{expression_of, phrase_value}
 use Rattle.net_meaning.specs.Operators as meant
-use Rattle.net_meaning.specs.Values.{env_of}
 use Rattle.net_meaning.specs.World as world
 use Rattle.net_meaning.specs.World.{Satisfies}
 use Rattle.net_meaning.proofs.Meaning.{evaluation_is_sound}
@@ -278,19 +277,19 @@ satisfied_by w sets o d ts k r x c (by_product p f e g) a i own = subst (λ (z :
   subst (λ z. is_allowed ts z ≡ true) (sym g) i,
 )
 
-satisfied_in : (w : World) → HasSets w → (o : Option ℕ) (d : ℕ) (ts : List Tuple) → ((n : ℕ) → o ≡ Some n → n ≡ d) → (p : Phrase) (q : SetPhrase) → IsClaimedIn w o (role_of p.word) p.body q.claim → is_allowed ts q.claim ≡ true → IsOwn ts q → Satisfies w d ts (erased.phrase p)
+satisfied_in : (w : World) → HasSets w → (o : Option ℕ) (d : ℕ) (ts : List Tuple) → ((n : ℕ) → o ≡ Some n → n ≡ d) → (p : Phrase) (q : SetPhrase) → IsClaimedIn w o (role_of p.word) p.body q.claim → is_allowed ts q.claim ≡ true → IsOwn ts q → Satisfies (meant_world w) d ts (erased.phrase p)
 satisfied_in w sets o d ts k p q h i own = λ x e. go x p.body e h
   where
-    go : (x : Expression) (b : Body) → world.expression_of (erased.body b) ≡ Some x → IsClaimedIn w o (role_of p.word) b q.claim → world.SatisfiesRole w d ts (role_of p.word) x
+    go : (x : Expression) (b : Body) → world.expression_of (erased.body b) ≡ Some x → IsClaimedIn w o (role_of p.word) b q.claim → world.SatisfiesRole (meant_world w) d ts (role_of p.word) x
     go x plain e h = absurd h
     go x (priced n y) e h = absurd h
-    go x (valued y) e h = subst (world.SatisfiesRole w d ts (role_of p.word)) (same (expression y) x e) (satisfied_by w sets o d ts k (role_of p.word) y q.claim (is_said w (role_of p.word) y q.claim h.claim) h.agrees i own)
+    go x (valued y) e h = subst (world.SatisfiesRole (meant_world w) d ts (role_of p.word)) (same (expression y) x e) (satisfied_by w sets o d ts k (role_of p.word) y q.claim (is_said w (role_of p.word) y q.claim h.claim) h.agrees i own)
       where
         same : (y x : Expression) → Some y ≡ Some x → y ≡ x
         same y x e = cc
 
 pub all_satisfied : (w : World) → HasSets w → (o : Option ℕ) (d : ℕ) (ts : List Tuple) → ((n : ℕ) → o ≡ Some n → n ≡ d) → (ps : List Phrase) (qs : List SetPhrase) → AreClaimed w o ps qs → AllByRecursion (λ (q : SetPhrase). is_allowed ts q.claim ≡ true) qs
-    → AllByRecursion (IsOwn ts) qs → AllByRecursion (Satisfies w d ts) (map erased.phrase ps)
+    → AllByRecursion (IsOwn ts) qs → AllByRecursion (Satisfies (meant_world w) d ts) (map erased.phrase ps)
 all_satisfied w sets o d ts k [] [] h i own = tt
 all_satisfied w sets o d ts k [] (q ∷ qs) h i own = absurd h
 all_satisfied w sets o d ts k (p ∷ ps) [] h i own = absurd h

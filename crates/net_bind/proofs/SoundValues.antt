@@ -45,10 +45,10 @@ use Rattle.net_bind.proofs.SoundChecks.{as_key}
 use Rattle.net_bind.proofs.SoundRestrictions.{restrictions_are_sound}
 use Rattle.net_bind.proofs.SoundRows.{IsMember, value_in, values_in, values_are_in, defaults_of}
 use Rattle.net_bind.proofs.SoundTaken.{IsWhole}
-use Rattle.net_meaning.specs.OfTrees.{IsParameterValue, IsOfKind}
+use Rattle.net_meaning.specs.OfTrees.{env_of, IsParameterValue, IsOfKind}
 use Rattle.net_meaning.specs.Laws.{meaning_of}
 use Rattle.net_meaning.specs.Operators.{One}
-use Rattle.net_meaning.specs.Values.{Key, env_of}
+use Rattle.net_meaning.specs.Values.{Key}
 use Rattle.net_meaning.specs.OfTrees as trees
 use Rattle.net_meaning.specs.World as world
 use Rattle.net_meaning.specs.World.{IsDataValue, AreDataValues, data_rows, data_defaults, HasNoRow, row, assigned, data_default, default, nothing, Fits}

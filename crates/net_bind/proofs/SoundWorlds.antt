@@ -8,15 +8,18 @@ use Rattle.net_lex.specs.declared.token.Token.{Token}
 use Rattle.net_data.specs.declared.statement.Statement.{Statement}
 use Rattle.net_data.specs.Meaning.{IsStatement, all_judged}
 use Rattle.net_tree.specs.Declarations.{AreDeclarations}
+use Rattle.net_tree.specs.Erasure.{declarations}
 use Rattle.net_tree.specs.Phrases.{AreSetPhrases}
 use Rattle.net_tree.specs.Tree.{Tree, Braces, Phrase, Declaration, set, param, check, node, arc, objective}
 use Rattle.net_expr.specs.declared.world.Entry.{Entry}
 use Rattle.net_expr.specs.declared.world.Entry.TheVariants.{Set}
 use Rattle.net_expr.specs.SetValues.{HasSets}
 use Rattle.net_expr.specs.Worlds.{Name, World}
-use Rattle.net_meaning.specs.OfTrees.{IsValue, AreIndexed, IsSet, IsParameter, Binds}
+use Rattle.net_meaning.specs.OfTrees.{meant_world, IsValue, AreIndexed, IsSet, IsParameter, Binds}
 use Rattle.net_meaning.specs.Operators.{Truth}
 use Rattle.net_meaning.specs.Values.{Key}
+use Rattle.net_meaning.specs.World as world
+use Rattle.net_meaning.proofs.Meant.{meant_with}
 use Rattle.net_bind.specs.Binding as binding
 use Rattle.net_bind.specs.Binding.{widths, next_data, with_entry, declare, checked, check_one, after_checks, with_given, AreNew}
 use Rattle.net_bind.specs.BoundParameters.{bound_parameter}
@@ -94,7 +97,7 @@ module _ (all : List Declaration) (ss : List Statement) (given : Sorted) (new : 
 
   set_next : (front ds : Declared) (before next : World) (n : Token) (ps : List Phrase) → declared all ≡ front ++ (n.text, true) ∷ ds → length front ≡ length before → AreEntries before → AreSetPhrases ps
       → and_then (bound_set before (widths before) n ps (next_data given before)) (with_entry before n) ≡ Ok next
-      → (d : ℕ) × (ts : _) × IsSet before ss n.text ps d ts × (next ≡ before ++ (n.text, Set d ts) ∷ [])
+      → (d : ℕ) × (ts : _) × IsSet before ss n.text ps ts × (next ≡ before ++ (n.text, Set d ts) ∷ [])
   set_next front ds before next n ps e size entries well i =
       let (there, said) = said_is front ds before n.text true e size in
       let place = place_is all new (length before) n.text true there in
@@ -127,25 +130,26 @@ module _ (all : List Declaration) (ss : List Statement) (given : Sorted) (new : 
 
   binds : (w : World) (front : Declared) (ds : List Declaration) (before : World) (known last : ℕ) → declared all ≡ front ++ declared ds → length front ≡ length before → known ≡ length before → AreEntries before
       → AreDeclarations ds → each (declare given) ds before ≡ Ok w → each (check_one w) ds known ≡ Ok last → Binds ss before ds w
-  binds w front [] before known last e size count entries well i j = sym (is_ok before w i)
+  binds w front [] before known last e size count entries well i j = ap meant_world (sym (is_ok before w i))
   binds w front (set k n ps z ∷ ds) before known last e size count entries well i j =
       then_ok (declare given (set k n ps z) before) (each (declare given) ds) w i (λ next f g.
       let (d, ts, is, grown) = set_next front (declared ds) before next n ps e size entries well.0.2 f in
       let later = declared_entries given (set k n ps z) before next entries f in (
-        d,
         ts,
         is,
-        binds w (front ++ (n.text, true) ∷ []) ds (before ++ (n.text, Set d ts) ∷ []) (known + 1) last (e ∙ next_front front (declared ds) (n.text, true)) (size_more front before (n.text, true) (n.text, Set d ts) size)
-            (known_more before (n.text, Set d ts) known count) (subst AreEntries grown later) well.1 (subst (λ v. each (declare given) ds v ≡ Ok w) grown g) j,
+        subst (λ v. world.Binds ss v (declarations ds) (meant_world w)) (meant_with before n.text (Set d ts))
+            (binds w (front ++ (n.text, true) ∷ []) ds (before ++ (n.text, Set d ts) ∷ []) (known + 1) last (e ∙ next_front front (declared ds) (n.text, true)) (size_more front before (n.text, true) (n.text, Set d ts) size)
+            (known_more before (n.text, Set d ts) known count) (subst AreEntries grown later) well.1 (subst (λ v. each (declare given) ds v ≡ Ok w) grown g) j),
       ))
   binds w front (param k n b ps z ∷ ds) before known last e size count entries well i j =
       then_ok (declare given (param k n b ps z) before) (each (declare given) ds) w i (λ next f g.
-      let (x, is, grown) = param_next front (declared ds) before next n b ps e size entries f in
+      let (x, (o, same, is), grown) = param_next front (declared ds) before next n b ps e size entries f in
       let later = declared_entries given (param k n b ps z) before next entries f in (
-        x,
+        o,
         is,
-        binds w (front ++ (n.text, false) ∷ []) ds (before ++ (n.text, x) ∷ []) (known + 1) last (e ∙ next_front front (declared ds) (n.text, false)) (size_more front before (n.text, false) (n.text, x) size)
-            (known_more before (n.text, x) known count) (subst AreEntries grown later) well.1 (subst (λ v. each (declare given) ds v ≡ Ok w) grown g) j,
+        subst (λ v. world.Binds ss v (declarations ds) (meant_world w)) (meant_with before n.text x ∙ ap (λ y. meant_world before ++ (n.text, y) ∷ []) same)
+            (binds w (front ++ (n.text, false) ∷ []) ds (before ++ (n.text, x) ∷ []) (known + 1) last (e ∙ next_front front (declared ds) (n.text, false)) (size_more front before (n.text, false) (n.text, x) size)
+            (known_more before (n.text, x) known count) (subst AreEntries grown later) well.1 (subst (λ v. each (declare given) ds v ≡ Ok w) grown g) j),
       ))
   binds w front (check k b m x z ∷ ds) before known last e size count entries well i j =
       then_ok (check_one w (check k b m x z) known) (each (check_one w) ds) last j (λ next f g.

@@ -12,9 +12,9 @@ use Rattle.net_tree.specs.Tree.{Tree, Braces, Phrase, Declaration}
 use Rattle.net_expr.specs.declared.world.Entry.{Entry}
 use Rattle.net_expr.specs.SetValues.{HasSets}
 use Rattle.net_expr.specs.Worlds.{World, Scope}
-use Rattle.net_meaning.specs.OfTrees.{IsValue, AreIndexed, IsParameter, IsWorld}
+use Rattle.net_meaning.specs.OfTrees.{env_of, IsValue, AreIndexed, IsParameter, IsWorld}
 use Rattle.net_meaning.specs.Operators.{Truth}
-use Rattle.net_meaning.specs.Values.{Key, env_of}
+use Rattle.net_meaning.specs.Values.{Key}
 use Rattle.net_meaning.specs.World.{Fits}
 use Rattle.net_bind.specs.Binding as binding
 use Rattle.net_bind.specs.Binding.{checked, AreNew}

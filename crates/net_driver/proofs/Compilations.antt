@@ -12,6 +12,7 @@ use Rattle.net_expr.specs.Worlds.{Name}
 use Rattle.net_bind.specs.Soundness.{WorldsAreSound}
 use Rattle.net_meaning.specs.Network as meaning
 use Rattle.net_meaning.specs.Network.{IsNetwork, IsEvaluated}
+use Rattle.net_meaning.specs.OfTrees.{meant_world}
 use Rattle.net_meaning.specs.Represents.{Represents}
 use Rattle.net_meaning.specs.World.{names_in}
 use Rattle.net_inst.specs.AsWritten as written
@@ -59,7 +60,7 @@ names_are (objective t n p e ∷ ds) = ap (λ ns. n.text ∷ ns) (names_are ds)
 module _ (represent : ProblemsRepresent) (worlds : WorldsAreSound) (models : model_laws.IsComplete) (data_files : data_laws.IsComplete) where
   -- the compiled model, whose network is one of the declarations in the computed world
   compilation_of : (lean : Bool) (wanted : Option Name) (m d : List ℕ) (c : Compiled) (h : IsBuilt lean wanted m d c)
-      → (x : IsCompilation wanted m d c) × IsNetwork wanted h.world (declarations h.declarations) x.network
+      → (x : IsCompilation wanted m d c) × IsNetwork wanted (meant_world h.world) (declarations h.declarations) x.network
   compilation_of lean wanted m d c h = (
     record {
       network = has.network;
@@ -77,7 +78,7 @@ module _ (represent : ProblemsRepresent) (worlds : WorldsAreSound) (models : mod
           read = h.accepts.statements.read;
           derived = data_files h.accepts.statements.tokens h.accepts.tables h.accepts.statements.written h.accepts.statements.full;
         };
-        world = h.world;
+        world = meant_world h.world;
         is_world = is_world worlds m d h.declarations h.accepts.tables h.world h.accepts.model h.accepts.statements h.accepts.world;
         is_network = has.is_network;
         evaluated = found.1;
@@ -110,14 +111,14 @@ module _ (represent : ProblemsRepresent) (worlds : WorldsAreSound) (models : mod
 
   -- the solved model, whose network is one of the declarations in the computed world
   pub solution_of : AssignmentsAreSound → HaveFeasible → HaveObjective → (lean : Bool) (wanted : Option Name) (m d : List ℕ) (a : Answer) (h : IsSolved lean wanted m d a)
-      → (x : IsSolution wanted m d a) × IsNetwork wanted h.compiled.world (declarations h.compiled.declarations) x.compilation.network
+      → (x : IsSolution wanted m d a) × IsNetwork wanted (meant_world h.compiled.world) (declarations h.compiled.declarations) x.compilation.network
   solution_of sound fits aims lean wanted m d a h =
       let own = compilation_of lean wanted m d a.compiled h.compiled in
       let solved = answers_solve represent sound fits aims lean wanted m d a h in
       let text = printed a.compiled (nodes h.compiled.world h.compiled.declarations) (arcs h.compiled.world h.compiled.declarations) h.compiled.objective a.outcome h.outcome in (
         record {
           compilation = own.0;
-          holds = holds_moved wanted h.compiled.world (declarations h.compiled.declarations) _ own.0.network a.outcome solved.represented.is_network own.1 solved.holds;
+          holds = holds_moved wanted (meant_world h.compiled.world) (declarations h.compiled.declarations) _ own.0.network a.outcome solved.represented.is_network own.1 solved.holds;
           printed = text;
           explained = explained own.0.network a.compiled a.outcome own.0.represents own.0.mean.is_network.arcs_apart text;
         },
@@ -134,5 +135,5 @@ pub solutions_are_sound : SolutionsAreSound
 solutions_are_sound = solutions_sound problems_represent worlds_are_sound model-complete complete assignments_are_sound have_feasible have_objective
 
 pub solution_with_network : (lean : Bool) (wanted : Option Name) (m d : List ℕ) (a : Answer) (h : IsSolved lean wanted m d a)
-    → (x : IsSolution wanted m d a) × IsNetwork wanted h.compiled.world (declarations h.compiled.declarations) x.compilation.network
+    → (x : IsSolution wanted m d a) × IsNetwork wanted (meant_world h.compiled.world) (declarations h.compiled.declarations) x.compilation.network
 solution_with_network = solution_of problems_represent worlds_are_sound model-complete complete assignments_are_sound have_feasible have_objective

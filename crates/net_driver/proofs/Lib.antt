@@ -23,6 +23,7 @@ mod Networks
 pub mod NoMemory
 mod NamedOnce
 mod OneNetwork
+mod OneMeaning
 mod ModelWorld
 mod CutSums
 mod ExactCuts

@@ -8,11 +8,13 @@ use Rattle.net_tree.specs.Erasure.{declarations}
 use Rattle.net_tree.specs.Syntax.{Declaration}
 use Rattle.net_normal.specs.Assignments.{IsFeasibleAssignment, value_of}
 use Rattle.net_expr.specs.SetValues.{HasSets}
-use Rattle.net_expr.specs.Worlds.{Name, World}
+use Rattle.net_expr.specs.Worlds.{Name}
 use Rattle.net_bind.proofs.HeldEntries.{have_sets}
 use Rattle.net_meaning.specs.Network as meaning
 use Rattle.net_meaning.specs.Network.{flow_on}
+use Rattle.net_meaning.specs.OfTrees.{meant_world}
 use Rattle.net_meaning.specs.Represents.{by_label}
+use Rattle.net_meaning.specs.Values.{World}
 use Rattle.net_inst.specs.AsWritten as written
 use Rattle.net_inst.specs.Instances.{seen_as}
 use Rattle.net_inst.specs.Laws.{HaveFeasible, HaveObjective, IsObjectiveOf}
@@ -125,8 +127,8 @@ answers_solve represent sound fits aims lean wanted m d a h = record { represent
         }
     go (Infeasible text flags side) k = λ x f. k.none x ((feasible x).0 f)
 
-    represented : RepresentsModel wanted p.world (declarations p.declarations) a.compiled.problem a.compiled.link
+    represented : RepresentsModel wanted (meant_world p.world) (declarations p.declarations) a.compiled.problem a.compiled.link
     represented = compiled_represent represent lean wanted m d a.compiled p
 
     moved : HoldsIn represented.network a.outcome
-    moved = holds_moved wanted p.world (declarations p.declarations) s.has.network represented.network a.outcome s.has.is_network represented.is_network (go a.outcome h.outcome)
+    moved = holds_moved wanted (meant_world p.world) (declarations p.declarations) s.has.network represented.network a.outcome s.has.is_network represented.is_network (go a.outcome h.outcome)

@@ -6,34 +6,20 @@ use Rattle.std.proofs.Common.{refl, ap, sym, ◌∙◌, subst}
 use Rattle.net_sets.specs.Sets.{Tuple}
 use Rattle.net_tree.specs.Phrases.{is_at_least, is_at_most, is_from, is_to}
 use Rattle.net_tree.specs.Syntax.{Expression, Expressions, tuple, Braces, Body, plain, valued, priced, Phrase, Declaration, set, param, check, node, arc, objective}
-use Rattle.net_expr.specs.Worlds.{Name, World}
+use Rattle.net_expr.specs.Worlds.{Name}
 use Rattle.net_meaning.specs.Network.{Node, Arc, Objective, IsEnd, absent_end, name, name_and_key, IsCoefficientFor, IsCoefficientIn, IsCoefficient, HasNumber, IsArc, IsNode, AreNodesOf, AreArcsOf, entries_after, InOrder}
 use Rattle.net_meaning.specs.Operators.{Several, number}
-use Rattle.net_meaning.specs.Values.{Env, Key, env_of, IsValue, AreValues, AreMembers}
+use Rattle.net_meaning.specs.Values.{World, Env, Key, env_of, IsValue, AreValues, AreMembers}
 use Rattle.net_meaning.specs.World.{AreIndexed, phrase_value}
-use Rattle.net_meaning.proofs.Unique.{values_are_unique, keys_are_unique, number_same}
+use Rattle.net_meaning.proofs.Unique.{values_are_unique, number_same, zip_unique}
+use Rattle.net_meaning.proofs.UniqueWorlds.{indexed_unique}
 use Rattle.net_driver.specs.MeaningLaws.{NetworksAreUnique}
-
-zip_unique : {A B : Type 0} (R : A → B → Type 0) → ((x : A) (y z : B) → R x y → R x z → y ≡ z) → (xs : List A) (ys zs : List B) → AllZip R xs ys → AllZip R xs zs → ys ≡ zs
-zip_unique R one [] [] [] h j = refl
-zip_unique R one [] [] (z ∷ zs) h j = absurd j
-zip_unique R one [] (y ∷ ys) zs h j = absurd h
-zip_unique R one (x ∷ xs) [] zs h j = absurd h
-zip_unique R one (x ∷ xs) (y ∷ ys) [] h j = absurd j
-zip_unique R one (x ∷ xs) (y ∷ ys) (z ∷ zs) h j =
-    let first = one x y z h.0 j.0 in
-    let rest = zip_unique R one xs ys zs h.1 j.1 in
-    λ t. first t ∷ rest t
 
 in_order_unique : {A : Type 0} (P : World → Declaration → List A → Type 0) → ((w : World) (d : Declaration) (xs ys : List A) → P w d xs → P w d ys → xs ≡ ys)
     → (w : World) (k : ℕ) (ds : List Declaration) (xs ys : List A) → InOrder P w k ds xs → InOrder P w k ds ys → xs ≡ ys
 in_order_unique P one w k [] xs ys h j = h ∙ sym j
 in_order_unique P one w k (d ∷ ds) xs ys (x, us, a, b, e) (y, vs, c, f, g) =
     e ∙ ap (λ l. l ++ us) (one (take k w) d x y a c) ∙ ap (λ l. y ++ l) (in_order_unique P one w (entries_after k d) ds us vs b f) ∙ sym g
-
-indexed_unique : (w : World) (b : Option Braces) (ks js : List Key) → AreIndexed w b ks → AreIndexed w b js → ks ≡ js
-indexed_unique w None ks js h j = h ∙ sym j
-indexed_unique w (Some b) ks js h j = keys_are_unique (env_of w []) b ks js h j
 
 -- ---- nodes
 

@@ -3,7 +3,7 @@ use Rattle.std.specs.Prelude.{◌≡◌, ◌+◌, ℕ, Bool, List, length, map, 
 use Rattle.std.specs.List.{AllZip}
 use Rattle.std.proofs.Common.{sym, subst, ◌∙◌}
 use Rattle.std.proofs.lemmas.List.{length-map}
-use Rattle.net_expr.specs.Worlds.{Name, World}
+use Rattle.net_expr.specs.Worlds.{Name}
 use Rattle.net_tree.specs.Erasure.{declarations}
 use Rattle.net_tree.specs.Syntax.{Declaration}
 use Rattle.net_normal.specs.Assignments.{net_inflow}
@@ -12,7 +12,9 @@ use Rattle.net_normal.specs.NormalForm.{flow_arc_of}
 use Rattle.net_normal.specs.declared.instance.Instance.{Instance}
 use Rattle.net_normal.specs.declared.instance.NodeRange.{NodeRange}
 use Rattle.net_meaning.specs.Network.{Network, IsNetwork}
+use Rattle.net_meaning.specs.OfTrees.{meant_world}
 use Rattle.net_meaning.specs.Represents.{by_label}
+use Rattle.net_meaning.specs.Values.{World}
 use Rattle.net_inst.specs.AsWritten as written
 use Rattle.net_inst.specs.Instances.{seen_as}
 use Rattle.net_inst.specs.Laws.{IsRangeOf}
@@ -91,10 +93,10 @@ priced_plans_are_proved lean wanted m d a text h = record { solution = own.0; pr
     go (Displayed shown numbers value) f k = (node_prices n k.potentials, reduced_costs n k.potentials, k.displayed, plan numbers.items shown.items f.best.each k)
     go (Infeasible shown flags side) f k = k
 
-    own : (x : IsSolution wanted m d a) × IsNetwork wanted p.world (declarations p.declarations) x.compilation.network
+    own : (x : IsSolution wanted m d a) × IsNetwork wanted (meant_world p.world) (declarations p.declarations) x.compilation.network
     own = solution_with_network lean wanted m d a h.0
 
     moved : ProvesIn own.0.compilation.network a.compiled a.outcome text
     moved =
-        proves_moved wanted p.world (declarations p.declarations) s.has.network own.0.compilation.network a.compiled a.outcome text
+        proves_moved wanted (meant_world p.world) (declarations p.declarations) s.has.network own.0.compilation.network a.compiled a.outcome text
         s.has.is_network own.1 (go a.outcome h.0.outcome h.1)

@@ -16,7 +16,7 @@ use Rattle.net_check.specs.declared.certificate.Side.{Side}
 use Rattle.net_check.specs.declared.certificate.Side.TheVariants.{Over, Under}
 use Rattle.net_dimacs.specs.Problems.{IsProblemText, IsOnlyProblem}
 use Rattle.net_dimacs.specs.Written.{problem_text}
-use Rattle.net_expr.specs.Worlds.{Name, World}
+use Rattle.net_expr.specs.Worlds.{Name}
 use Rattle.net_inst.specs.declared.network_names.Declared.{Declared}
 use Rattle.net_inst.specs.declared.network_names.Names.{Names}
 use Rattle.net_inst.specs.Lists.{Key, Listed}
@@ -24,6 +24,7 @@ use Rattle.net_meaning.specs.Network.{Label, Node, Arc, Network, Assignment, IsN
 use Rattle.net_normal.specs.declared.problem.Problem.{Problem}
 use Rattle.net_normal.specs.Sums.{sum_of}
 use Rattle.net_meaning.specs.Represents.{magnitude, Represents, by_label}
+use Rattle.net_meaning.specs.Values.{World}
 use Rattle.net_meaning.specs.World.{names_in, IsWorld}
 use Rattle.net_report.specs.Cuts.{need, room, cut_text}
 use Rattle.net_report.specs.Displays.{display_of_all}

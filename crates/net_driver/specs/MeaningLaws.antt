@@ -7,14 +7,16 @@ use Rattle.net_tree.specs.Erasure.{declarations}
 use Rattle.net_tree.specs.Syntax.{Declaration}
 use Rattle.net_normal.specs.declared.problem.Link.{Link}
 use Rattle.net_normal.specs.declared.problem.Problem.{Problem}
-use Rattle.net_expr.specs.Worlds.{Name, World}
+use Rattle.net_expr.specs.Worlds.{Name}
 use Rattle.net_meaning.specs.Network.{Arc, Network, same_label, IsNetwork}
+use Rattle.net_meaning.specs.OfTrees.{meant_world}
 use Rattle.net_meaning.specs.Represents.{Represents}
+use Rattle.net_meaning.specs.Values.{World}
 use Rattle.net_driver.specs.declared.answer.Answer.{Answer}
 use Rattle.net_driver.specs.declared.compiled.Compiled.{Compiled}
 use Rattle.net_driver.specs.IsSolved.{IsSolved}
 use Rattle.net_driver.specs.IsBuilt.{IsBuilt}
-use Rattle.net_driver.specs.Meaning.{IsCompilation, HoldsIn, nodes_of_cut, shortage, AreMissed, IsSolution}
+use Rattle.net_driver.specs.Meaning.{MeanNetwork, IsCompilation, HoldsIn, nodes_of_cut, shortage, AreMissed, IsSolution}
 
 -- a compiled model that satisfies the main theorem by the stages is one by the meaning of the inputs
 abbrev pub CompilationsAreSound : Type 0
@@ -30,6 +32,11 @@ SolutionsAreSound = (lean : Bool) (wanted : Option Name) (model_text data_text :
 abbrev pub NetworksAreUnique : Type 0
 NetworksAreUnique = (wanted : Option Name) (w : World) (ds : List Declaration) (network other : Network) → IsNetwork wanted w ds network → IsNetwork wanted w ds other → network ≡ other
 
+-- the two inputs mean at most one network, and have it in one world
+abbrev pub MeantNetworksAreUnique : Type 0
+MeantNetworksAreUnique = (wanted : Option Name) (model_text data_text : List ℕ) (network other : Network)
+    → (h : MeanNetwork wanted model_text data_text network) (j : MeanNetwork wanted model_text data_text other) → (h.world ≡ j.world) × (network ≡ other)
+
 -- the declarations have a network in the world, and the problem represents it
 pub record RepresentsModel (wanted : Option Name) (w : World) (ds : List Declaration) (problem : Problem) (link : Link) : Type 0 where
   pub network : Network
@@ -39,7 +46,7 @@ pub record RepresentsModel (wanted : Option Name) (w : World) (ds : List Declara
 -- the problem of a compiled model represents the network of the model's declarations, in the world of the model and its data
 abbrev pub CompiledProblemsRepresent : Type 0
 CompiledProblemsRepresent = (lean : Bool) (wanted : Option Name) (model_text data_text : List ℕ) (c : Compiled) (h : IsBuilt lean wanted model_text data_text c)
-    → RepresentsModel wanted h.world (declarations h.declarations) c.problem c.link
+    → RepresentsModel wanted (meant_world h.world) (declarations h.declarations) c.problem c.link
 
 -- the compiled problem represents the network of the declarations in the world, and the outcome holds in this network
 pub record SolvesModel (wanted : Option Name) (w : World) (ds : List Declaration) (a : Answer) : Type 0 where
@@ -49,7 +56,7 @@ pub record SolvesModel (wanted : Option Name) (w : World) (ds : List Declaration
 -- the outcome of a solved model holds in the network of the model's declarations, in the world of the model and its data
 abbrev pub AnswersSolveModels : Type 0
 AnswersSolveModels = (lean : Bool) (wanted : Option Name) (model_text data_text : List ℕ) (a : Answer) (h : IsSolved lean wanted model_text data_text a)
-    → SolvesModel wanted h.compiled.world (declarations h.compiled.declarations) a
+    → SolvesModel wanted (meant_world h.compiled.world) (declarations h.compiled.declarations) a
 
 -- every assignment within the bounds misses the conditions of the nodes of a violated cut, by at least the difference of the cut's two numbers;
 -- this holds of every problem that represents a network in which no two arcs have the same label

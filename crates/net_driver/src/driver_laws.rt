@@ -25,7 +25,7 @@ ghost use Rattle.net_bind.specs.Binding as binding;
 ghost use Rattle.net_base.specs.declared.diagnostic.Language.TheVariants as languages;
 ghost use Rattle.net_driver.specs.PlanProofs.{PricedPlansAreProved, PricesProve};
 ghost use Rattle.net_driver.specs.MeaningLaws.{CompilationsAreSound, SolutionsAreSound, AnswersSolveModels, CompiledProblemsRepresent};
-ghost use Rattle.net_driver.specs.MeaningLaws.{NetworksAreUnique, CutsAreMissed};
+ghost use Rattle.net_driver.specs.MeaningLaws.{NetworksAreUnique, MeantNetworksAreUnique, CutsAreMissed};
 ghost use Rattle.net_driver.specs.OwnRules.{TextFaultsAreFirst, TextFaultsAreSound};
 
 /// Theorem: a model without name errors declares no name of nodes twice, and no name of arcs.
@@ -109,6 +109,12 @@ pub fn line_names_are_exact()
 /// Theorem: the declarations of a model have at most one network in a world.
 pub fn models_have_one_network()
     ensures value { NetworksAreUnique }
+{}
+
+/// Theorem: a model with its data means at most one network, and has it in one world: each set has
+/// one list of members, and each parameter one value at each key.
+pub fn inputs_mean_one_network()
+    ensures value { MeantNetworksAreUnique }
 {}
 
 /// Theorem: the problem of a compiled model represents the network that the model means in the

@@ -24,11 +24,11 @@ use Rattle.net_linear.specs.Forms as forms
 use Rattle.net_linear.specs.Forms.{Linear}
 use Rattle.net_linear.specs.Objectives.{key_of}
 use Rattle.net_tree.specs.PhraseValues.{phrase_value}
-use Rattle.net_meaning.specs.OfTrees.{IsEnd, HasNumber, IsArc, IsCoefficient, IsCoefficientIn, IsCoefficientFor, IsValue, AreKeys, AreValues, AreIndexed}
+use Rattle.net_meaning.specs.OfTrees.{env_of, IsEnd, HasNumber, IsArc, IsCoefficient, IsCoefficientIn, IsCoefficientFor, IsValue, AreKeys, AreValues, AreIndexed}
 use Rattle.net_meaning.specs.Network as meaning
 use Rattle.net_meaning.specs.Network.{absent_end, name, name_and_key}
 use Rattle.net_meaning.specs.Operators as values
-use Rattle.net_meaning.specs.Values.{Env, Key, env_of, AreMembers}
+use Rattle.net_meaning.specs.Values.{Env, Key, AreMembers}
 use Rattle.net_meaning.proofs.Erased.{phrase_value_is, indexed_is, some_kept}
 use Rattle.net_meaning.proofs.Meaning.{evaluation_is_sound, keys_are_sound, key_is_sound, netless, all_netless}
 use Rattle.net_inst.specs.declared.arc.Built.{Built}

@@ -20,8 +20,9 @@ use Rattle.net_linear.specs.Conditions.{Holds, sides_in, uncrossed}
 use Rattle.net_linear.proofs.ConditionsSound.{conditions_are_sound, sides_have_numbers}
 use Rattle.net_meaning.specs.Network as meaning
 use Rattle.net_meaning.specs.Network.{is_at, with_inflow, HasSides, IsSatisfied, IsExpressionValue}
+use Rattle.net_meaning.specs.OfTrees.{env_of}
 use Rattle.net_meaning.specs.Operators as values
-use Rattle.net_meaning.specs.Values.{Env, env_of}
+use Rattle.net_meaning.specs.Values.{Env}
 use Rattle.net_meaning.proofs.Unique.{values_are_unique, number_same}
 use Rattle.net_inst.specs.AsWritten as written
 use Rattle.net_inst.specs.AsWritten.{is_named, from_end, to_end, number_on, IsWithin, IsMet, in_order, nodes_of, rows_of, node_at_row}

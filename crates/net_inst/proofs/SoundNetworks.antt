@@ -4,17 +4,17 @@ use Rattle.std.specs.List.{AllByRecursion, AllZip}
 use Rattle.std.proofs.Common.{refl, ap, sym, ◌∙◌, subst, append_assoc, append-nil}
 use Rattle.net_base.specs.Outcomes.{Outcome}
 use Rattle.net_lex.specs.declared.token.Token.{Token}
-use Rattle.net_tree.specs.Erasure.{indexing, condition, declarations}
+use Rattle.net_tree.specs.Erasure.{indexing, condition, declaration, declarations}
 use Rattle.net_tree.specs.Tree.{Braces, Condition, Declaration, set, param, check, node, arc, objective}
 use Rattle.net_expr.specs.declared.row.Row.{Row}
 use Rattle.net_expr.specs.SetValues.{HasSets}
 use Rattle.net_expr.specs.Worlds.{Name, World}
 use Rattle.net_linear.specs.Forms.{Products}
-use Rattle.net_meaning.specs.OfTrees.{IsNode, AreNodesOf, AreArcsOf, entries_after}
+use Rattle.net_meaning.specs.OfTrees.{meant_world, env_of, IsNode, AreNodesOf, AreArcsOf, entries_after}
 use Rattle.net_meaning.specs.Network as meaning
 use Rattle.net_meaning.specs.Network.{InOrder}
-use Rattle.net_meaning.specs.Values.{env_of}
 use Rattle.net_meaning.proofs.Erased.{indexed_is}
+use Rattle.net_meaning.proofs.Meant.{meant_taken}
 use Rattle.net_inst.specs.declared.arc.Built.{Built}
 use Rattle.net_inst.specs.declared.draft.ChosenObjective.{ChosenObjective}
 use Rattle.net_expr.specs.declared.indexing.Indexing.{Indexing}
@@ -143,8 +143,8 @@ step wanted goal w sets (arc t n b ps z) d new h e =
 record IsWalk (goal : Name) (w : World) (k : ℕ) (ds : List Declaration) (d new : Drawing) : Type 0 where
   nodes : List meaning.Node
   arcs : List meaning.Arc
-  are_nodes : InOrder meaning.AreNodesOf w k (declarations ds) nodes
-  are_arcs : InOrder (meaning.AreArcsOf goal) w k (declarations ds) arcs
+  are_nodes : InOrder meaning.AreNodesOf (meant_world w) k (declarations ds) nodes
+  are_arcs : InOrder (meaning.AreArcsOf goal) (meant_world w) k (declarations ds) arcs
   same_nodes : AllZip IsSameNode (in_order nodes_of w k ds) nodes
   same_arcs : AllZip IsSameArc (in_order arcs_of w k ds) arcs
   prices : AllZip (HasPrice goal) (in_order arcs_of w k ds) arcs
@@ -165,8 +165,8 @@ joined : (goal : Name) (w : World) (x : Declaration) (xs : List Declaration) (d 
 joined goal w x xs d next new one rest = record {
   nodes = one.nodes ++ rest.nodes;
   arcs = one.arcs ++ rest.arcs;
-  are_nodes = (one.nodes, rest.nodes, one.are_nodes, rest.are_nodes, refl);
-  are_arcs = (one.arcs, rest.arcs, one.are_arcs, rest.are_arcs, refl);
+  are_nodes = (one.nodes, rest.nodes, subst (λ v. meaning.AreNodesOf v (declaration x) one.nodes) (sym (meant_taken d.known w)) one.are_nodes, rest.are_nodes, refl);
+  are_arcs = (one.arcs, rest.arcs, subst (λ v. meaning.AreArcsOf goal v (declaration x) one.arcs) (sym (meant_taken d.known w)) one.are_arcs, rest.are_arcs, refl);
   same_nodes =
       subst (λ (k : ℕ). AllZip IsSameNode (nodes_of (env w d) x ++ in_order nodes_of w k xs) (one.nodes ++ rest.nodes)) (sym (same_after d.known x))
       (zip_join IsSameNode (nodes_of (env w d) x) (in_order nodes_of w (entries_after d.known x) xs) one.nodes rest.nodes one.same_nodes rest.same_nodes);
@@ -277,9 +277,9 @@ network_found requested w ds n sets names e =
       network = record { nodes = found.nodes; arcs = found.arcs; objective = as_objective aims.0 };
       is_network = record {
         objective = objective_is requested w ds f.drawing aims.0 names.once f.is_built aims.1;
-        priced = all_priced w ds names.priced;
+        priced = all_priced (meant_world w) ds names.priced;
         nodes = found.are_nodes;
-        arcs = subst (λ (g : Name). InOrder (meaning.AreArcsOf g) w 0 (declarations ds) found.arcs) goal found.are_arcs;
+        arcs = subst (λ (g : Name). InOrder (meaning.AreArcsOf g) (meant_world w) 0 (declarations ds) found.arcs) goal found.are_arcs;
         ends = ends_are_nodes (written.nodes w ds) found.nodes (written.arcs w ds) found.arcs n.arcs found.same_nodes found.same_arcs (have_ends requested w ds n e apart) found.ended;
         nodes_apart = nodes_apart (written.nodes w ds) found.nodes found.same_nodes apart.nodes;
         arcs_apart = arcs_apart (written.arcs w ds) found.arcs found.same_arcs apart.arcs;

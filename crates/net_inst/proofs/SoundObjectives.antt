@@ -7,9 +7,11 @@ use Rattle.net_tree.specs.Erasure.{clause}
 use Rattle.net_tree.specs.Operations.{is_minimize}
 use Rattle.net_tree.specs.Tree.{Declaration, set, param, check, node, arc, objective}
 use Rattle.net_expr.specs.Worlds.{Name, World}
-use Rattle.net_meaning.specs.OfTrees.{objectives as objectives_in, IsObjective}
+use Rattle.net_meaning.specs.OfTrees.{meant_world, objectives as objectives_in, IsObjective}
 use Rattle.net_meaning.specs.Network as meaning
 use Rattle.net_meaning.specs.Network.{is_eligible}
+use Rattle.net_meaning.specs.Values as values
+use Rattle.net_meaning.proofs.Meant.{meant_taken}
 use Rattle.net_inst.specs.declared.draft.ChosenObjective.{ChosenObjective}
 use Rattle.net_inst.specs.declared.network_names.Declared.{Declared}
 use Rattle.net_inst.specs.AsWritten.{WrittenArc, in_order, arcs_of, known_after, arc_declared}
@@ -30,7 +32,7 @@ names_back (d ∷ ds) ns = names_back ds (d.name ∷ ns)
 
 -- an objective as written, in the words of the meaning
 abbrev pub as_objective : Objective → meaning.Objective
-as_objective o = record { sense = o.sense; name = o.name; env = o.env; arcs = names_back o.before []; expression = clause o.expression }
+as_objective o = record { sense = o.sense; name = o.name; env = meant_world o.env; arcs = names_back o.before []; expression = clause o.expression }
 
 back_last : (ds : List Declared) (d : Declared) (ns : List Name) → names_back (ds ++ d ∷ []) ns ≡ d.name ∷ names_back ds ns
 back_last [] d ns = refl
@@ -48,7 +50,8 @@ same_objectives before w k (arc t n b ps e ∷ ds) = ap (λ (ns : List Name). ob
     one : Declared
     one = record { name = n.text; indexed = is_some b }
 same_objectives before w k (objective t n p e ∷ ds) =
-    ap (λ (os : List meaning.Objective). as_objective here ∷ os) (same_objectives before w k ds ∙ ap (λ (b : List Declared). map as_objective (objectives_from b w k ds)) (sym (append-nil before)))
+    ap (λ (v : values.World). (record { sense = sense_of t; name = n.text; env = v; arcs = names_back before []; expression = clause p }) ∷ objectives_in w k (names_back before []) ds) (meant_taken k w)
+    ∙ ap (λ (os : List meaning.Objective). as_objective here ∷ os) (same_objectives before w k ds ∙ ap (λ (b : List Declared). map as_objective (objectives_from b w k ds)) (sym (append-nil before)))
   where
     here : Objective
     here = record { sense = sense_of t; name = n.text; env = take k w; expression = p; before = before; behind = in_order arcs_of w k ds }

@@ -9,8 +9,9 @@ use Rattle.net_tree.specs.Erasure.{body, clause, phrase, declarations}
 use Rattle.net_tree.specs.Operations.{is_minimize}
 use Rattle.net_tree.specs.Syntax as forms
 use Rattle.net_tree.specs.Tree.{Body, plain, valued, priced, Phrase, Declaration, set, param, check, node, arc, objective}
-use Rattle.net_expr.specs.Worlds.{Name, World}
+use Rattle.net_expr.specs.Worlds.{Name}
 use Rattle.net_meaning.specs.Network.{Objective, objectives, IsPriced, ArePriced}
+use Rattle.net_meaning.specs.Values.{World}
 use Rattle.net_inst.specs.Soundness.{IsListed, NamesObjective, NameObjectives}
 
 -- one of the objectives has this name

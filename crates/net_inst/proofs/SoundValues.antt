@@ -13,10 +13,9 @@ use Rattle.net_linear.specs.Arcs.{declared, is_arc, arc_at}
 use Rattle.net_linear.specs.Forms.{Linear}
 use Rattle.net_linear.specs.Soundness.{ReadsArcs}
 use Rattle.net_linear.proofs.ObjectivesSound.{objectives_are_sound}
-use Rattle.net_meaning.specs.OfTrees.{IsExpressionValue, IsValue}
+use Rattle.net_meaning.specs.OfTrees.{env_of, env_with, IsExpressionValue, IsValue}
 use Rattle.net_meaning.specs.Network.{with_arcs}
 use Rattle.net_meaning.specs.Operators as values
-use Rattle.net_meaning.specs.Values.{env_of, env_with}
 use Rattle.net_inst.specs.declared.network_names.Declared.{Declared}
 use Rattle.net_inst.specs.AsWritten.{WrittenArc, same_label, Assignment}
 use Rattle.net_inst.specs.Drafts.{part_form}

@@ -11,10 +11,9 @@ use Rattle.net_normal.specs.declared.instance.Instance.{Instance}
 use Rattle.net_normal.specs.declared.instance.NodeRange.{NodeRange}
 use Rattle.net_expr.specs.SetValues.{HasSets}
 use Rattle.net_expr.specs.Worlds.{Name, World}
-use Rattle.net_meaning.specs.OfTrees.{IsNetwork}
+use Rattle.net_meaning.specs.OfTrees.{env_of, IsNetwork}
 use Rattle.net_meaning.specs.Network as meaning
 use Rattle.net_meaning.specs.Network.{flow_on, HasValue}
-use Rattle.net_meaning.specs.Values.{env_of}
 use Rattle.net_inst.specs.declared.network.Named.{Named}
 use Rattle.net_inst.specs.AsWritten as written
 use Rattle.net_inst.specs.Instances.{Network, network, seen_as}

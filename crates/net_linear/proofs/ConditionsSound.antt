@@ -43,12 +43,12 @@ use Rattle.net_expr.specs.Worlds.{Name, World, Scope}
 use Rattle.net_expr.proofs.Parting.{then_ok, is_ok}
 use Rattle.net_meaning.specs.Network.{IsNumeric, HasSides}
 use Rattle.net_meaning.specs.OfTrees as meant
-use Rattle.net_meaning.specs.OfTrees.{AreOperandValues, IsValue, IsChain}
+use Rattle.net_meaning.specs.OfTrees.{env_with, AreOperandValues, IsValue, IsChain}
 use Rattle.net_meaning.specs.Laws.{meaning_of, IsArcFree, AreArcFree}
 use Rattle.net_linear.specs.Soundness.{IsTermArcFree, AreTermsArcFree, IsSideArcFree, IsConditionArcFree, ConditionsAreSound}
 use Rattle.net_meaning.specs.Operators.{Truth, number, IsResult}
 use Rattle.net_meaning.specs.Operators as make
-use Rattle.net_meaning.specs.Values.{env_with, Env, Whether, HasRange}
+use Rattle.net_meaning.specs.Values.{Env, Whether, HasRange}
 use Rattle.net_meaning.proofs.Erased.{begins_range_is}
 use Rattle.net_meaning.proofs.Giving.{gives_ok}
 use Rattle.net_meaning.proofs.Meaning.{value_is_sound}

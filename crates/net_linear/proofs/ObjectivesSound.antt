@@ -34,13 +34,13 @@ use Rattle.net_expr.specs.Numbers.{divides}
 use Rattle.net_expr.specs.Values.{value, index}
 use Rattle.net_expr.specs.SetValues.{HasSets}
 use Rattle.net_expr.specs.Worlds.{Name, World, Scope}
-use Rattle.net_meaning.specs.OfTrees.{AreOperandValues, IsValue, IsElse, AreValues, IsChain, AreKeys}
+use Rattle.net_meaning.specs.OfTrees.{env_with, AreOperandValues, IsValue, IsElse, AreValues, IsChain, AreKeys}
 use Rattle.net_meaning.specs.Laws.{meaning_of, IsArcFree, AreArcFree, IsPartArcFree, AreBracesArcFree}
 use Rattle.net_linear.specs.Soundness.{ReadsArcs, ObjectivesAreSound}
 use Rattle.net_normal.specs.Sums.{sum_of}
 use Rattle.net_meaning.specs.Operators.{Value, One, Truth, number, IsResult, Combines, Reduces}
 use Rattle.net_meaning.specs.Operators as make
-use Rattle.net_meaning.specs.Values.{Env, Key, env_with, Whether, IsArcOr, Denotes, IsLeaf, AreMembers, HasRange}
+use Rattle.net_meaning.specs.Values.{Env, Key, Whether, IsArcOr, Denotes, IsLeaf, AreMembers, HasRange}
 use Rattle.net_meaning.proofs.Erased.{begins_range_is}
 use Rattle.net_meaning.proofs.Giving.{gives_then, gives_any, gives_as}
 use Rattle.net_meaning.proofs.Meaning.{key_is_sound, braces_are_sound, truth_is_sound, value_is_sound}

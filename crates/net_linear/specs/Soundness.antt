@@ -5,10 +5,10 @@ use Rattle.net_sets.specs.Sets.{Tuple}
 use Rattle.net_tree.specs.Tree.{Tree, Links, chain, net, none, link, Condition, unsaid, one, between}
 use Rattle.net_expr.specs.SetValues.{HasSets}
 use Rattle.net_expr.specs.Worlds.{Name, World, Scope}
-use Rattle.net_meaning.specs.OfTrees.{IsSatisfied, IsValue}
+use Rattle.net_meaning.specs.OfTrees.{env_with, IsSatisfied, IsValue}
 use Rattle.net_meaning.specs.Laws.{IsArcFree, AreArcFree}
 use Rattle.net_meaning.specs.Operators.{number}
-use Rattle.net_meaning.specs.Values.{Whether, env_with}
+use Rattle.net_meaning.specs.Values.{Whether}
 use Rattle.net_linear.specs.declared.condition.Sides.{Sides}
 use Rattle.net_linear.specs.Arcs.{Arcs, declared, is_arc, arc_at}
 use Rattle.net_linear.specs.Conditions.{Holds, sides_in}

@@ -20,14 +20,14 @@
 --         PITT NE 25 250    PITT SE 35 250
 --         NE BOS 17 100     NE EWR 7 100      NE BWI 13 100
 --         SE EWR 13 100     SE BWI 8 100      SE ATL 2 100      SE MCO 21 100;
-use Rattle.std.specs.Prelude.{ℕ, true, false, List, [], ◌∷◌, ◌++◌, map, None, Some, unwrap_or, codes, ℤ, pos}
+use Rattle.std.specs.Prelude.{ℕ, true, false, List, [], ◌∷◌, ◌++◌, map, Option, None, Some, unwrap_or, codes, ℤ, pos}
 use Rattle.std.specs.Map.{lookup}
 use Rattle.net_lex.specs.declared.token.Kind.{Kind}
 use Rattle.net_lex.specs.declared.token.Kind.TheVariants as kinds
 use Rattle.net_lex.specs.declared.token.Token.{Token}
 use Rattle.net_data.specs.declared.statement.Statement.{Statement}
 use Rattle.net_data.specs.declared.statement.Statement.TheVariants as statements
-use Rattle.net_sets.specs.Sets.{Tuple, same_tuple}
+use Rattle.net_sets.specs.Sets.{Tuple, same_tuple, at_key}
 use Rattle.net_sets.specs.declared.member.Member.{Member}
 use Rattle.net_sets.specs.declared.member.Member.TheVariants.{Number, Name}
 use Rattle.net_normal.specs.declared.instance.Sense.TheVariants.{Minimise}
@@ -39,10 +39,7 @@ use Rattle.net_tree.specs.declared.role.Role.{Role}
 use Rattle.net_tree.specs.declared.role.Role.TheVariants as roles
 use Rattle.net_tree.specs.Syntax.{Expression, leaf, indexed, tuple, parens, reduced, chain, net, no_more, more, none, apply, absent, Braces, filled, Phrase, valued, priced, Condition, Declaration, set, param, check, node, arc, objective}
 use Rattle.net_tree.specs.Syntax as conditions
-use Rattle.net_expr.specs.Worlds.{World}
-use Rattle.net_expr.specs.declared.world.Entry.{Entry}
-use Rattle.net_expr.specs.declared.world.Entry.TheVariants.{Set, Parameter}
-use Rattle.net_meaning.specs.Values.{Key, env_of, start, bind}
+use Rattle.net_meaning.specs.Values.{SetOf, ParameterOf, World, Key, env_of, start, bind}
 use Rattle.net_meaning.specs.Network.{Node, Arc, Objective, Assignment}
 
 -- ---- tokens and expressions; positions in the file do not matter here
@@ -280,21 +277,21 @@ city c = c.name ∷ []
 abbrev pub ends : Link → Tuple
 ends l = l.start ∷ l.end ∷ []
 
--- a parameter over the cities, or over the links
-abbrev pub of_cities : (City → ℤ) → Entry
-of_cities value = Parameter (Some 1) (map city cities) (map (λ (c : City). (city c, Number (value c))) cities)
+-- the values of a parameter over the cities, or over the links
+abbrev pub of_cities : (City → ℤ) → Tuple → Option Member
+of_cities value = at_key (map (λ (c : City). (city c, Number (value c))) cities)
 
-abbrev pub of_links : (Link → ℤ) → Entry
-of_links value = Parameter (Some 2) (map ends links) (map (λ (l : Link). (ends l, Number (value l))) links)
+abbrev pub of_links : (Link → ℤ) → Tuple → Option Member
+of_links value = at_key (map (λ (l : Link). (ends l, Number (value l))) links)
 
 abbrev pub world_of_sets : World
-world_of_sets = (codes "CITIES", Set 1 (map city cities)) ∷ (codes "LINKS", Set 2 (map ends links)) ∷ []
+world_of_sets = (codes "CITIES", SetOf (map city cities)) ∷ (codes "LINKS", SetOf (map ends links)) ∷ []
 
 abbrev pub world_of_demand : World
-world_of_demand = world_of_sets ++ (codes "supply", of_cities (λ c. c.supply)) ∷ (codes "demand", of_cities (λ c. c.demand)) ∷ []
+world_of_demand = world_of_sets ++ (codes "supply", ParameterOf (of_cities (λ c. c.supply))) ∷ (codes "demand", ParameterOf (of_cities (λ c. c.demand))) ∷ []
 
 abbrev pub world : World
-world = world_of_demand ++ (codes "cost", of_links (λ l. l.cost)) ∷ (codes "capacity", of_links (λ l. l.capacity)) ∷ []
+world = world_of_demand ++ (codes "cost", ParameterOf (of_links (λ l. l.cost))) ∷ (codes "capacity", ParameterOf (of_links (λ l. l.capacity))) ∷ []
 
 -- ---- the network
 

@@ -1,5 +1,5 @@
 -- For the worked example of the eight cities: the numerals of its files, and lemmas that compute lists and keys.
-use Rattle.std.specs.Prelude.{◌≡◌, ◌||◌, ◌&&◌, if◌then◌else◌, ℕ, Bool, true, false, List, [], ◌∷◌, map, length, Option, Some, codes, pos, IsTrue}
+use Rattle.std.specs.Prelude.{◌≡◌, ◌||◌, ◌&&◌, if◌then◌else◌, ℕ, Bool, true, false, cond, List, [], ◌∷◌, map, length, Option, None, Some, codes, pos, IsTrue}
 use Rattle.std.specs.List.{AllByRecursion, IsDistinct, list_any, list_all}
 use Rattle.std.specs.Option.{ForSome}
 use Rattle.std.proofs.Common.{refl, subst, inl}
@@ -9,13 +9,14 @@ use Rattle.net_lex.specs.Limits.{limits}
 use Rattle.net_lex.specs.NumeralFront.{mantissa_at, power_at, numeral_at}
 use Rattle.net_lex.specs.Numerals.{IsValue as IsNumeral}
 use Rattle.net_lex.specs.Significands.{whole_value}
-use Rattle.net_sets.specs.Sets.{Tuple}
+use Rattle.net_sets.specs.declared.member.Member.{Member}
+use Rattle.net_sets.specs.Names as names
+use Rattle.net_sets.specs.Sets.{Tuple, same_tuple, has, at_key}
 use Rattle.net_tree.specs.Role.{role_of, marks, keys}
 use Rattle.net_tree.specs.Syntax.{absent}
 use Rattle.net_tree.specs.Numerals.{number_in}
-use Rattle.net_expr.specs.Worlds.{World, entry_of}
-use Rattle.net_expr.specs.declared.world.Entry.TheVariants.{Set}
-use Rattle.net_meaning.specs.Values.{Key, env_of, start, extended, a_set, FromEach, AreKeys, HasTruth, Filters}
+use Rattle.net_meaning.specs.Values.{SetOf, World, Key, env_of, start, extended, a_set, FromEach, AreKeys, HasTruth, Filters}
+use Rattle.net_meaning.specs.World.{keys_of}
 use Rattle.net_meaning.proofs.Naming.{numeral_is}
 use Rattle.net_meaning.proofs.Cities.{over}
 
@@ -106,15 +107,25 @@ have_lengths d k h (a ∷ all) = (h a, have_lengths d k h all)
 abbrev pub key_over : {A : Type 0} → World → (A → Tuple) → A → Key
 key_over w t a = extended (start (env_of w [])) (t a)
 
-pub keys_over : {A : Type 0} (w : World) (s : List ℕ) (d : ℕ) (t : A → Tuple) → ((a : A) → length (t a) ≡ d) → (all : List A) → entry_of w s ≡ Some (Set d (map t all))
+pub keys_over : {A : Type 0} (w : World) (s : List ℕ) (d : ℕ) (t : A → Tuple) → ((a : A) → length (t a) ≡ d) → (all : List A) → names.named w s ≡ Some (SetOf (map t all))
     → AreKeys (env_of w []) (over s) (map (key_over w t) all)
 unfolding role_of marks keys
 keys_over w s d t long all h = inl (
   map (key_over w t) all,
-  (map t all, a_set d (map t all) refl h, each (λ u r. r ≡ Some (extended (start (env_of w [])) u)) t (key_over w t) (λ a. refl) all),
+  (map t all, a_set (map t all) refl h, each (λ u r. r ≡ Some (extended (start (env_of w [])) u)) t (key_over w t) (λ a. refl) all),
   (d, have_lengths d (key_over w t) long all),
   all_left (map (key_over w t) all),
 )
+
+-- a table with these keys has no other
+pub none_elsewhere : {A : Type 0} (w : World) (t : A → Tuple) (m : A → Member) (all : List A) (key : Tuple) → has (keys_of (map (key_over w t) all)) key ≡ false → at_key (map (λ a. (t a, m a)) all) key ≡ None
+none_elsewhere w t m [] key h = refl
+none_elsewhere w t m (a ∷ all) key h = go (same_tuple key (t a)) h (none_elsewhere w t m all key)
+  where
+    go : (b : Bool) → (b || has (keys_of (map (key_over w t) all)) key) ≡ false → (has (keys_of (map (key_over w t) all)) key ≡ false → at_key (map (λ z. (t z, m z)) all) key ≡ None)
+        → cond b (Some (m a)) (at_key (map (λ z. (t z, m z)) all) key) ≡ None
+    go true i more = cc
+    go false i more = more i
 
 -- ---- lists
 

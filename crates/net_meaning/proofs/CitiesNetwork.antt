@@ -4,17 +4,17 @@ use Rattle.std.specs.List.{AllZip}
 use Rattle.std.proofs.Common.{refl, ap, ◌∙◌, sym, subst, inl, inr, arith}
 use Rattle.std.proofs.lemmas.Cmp.{int_eq_equiv}
 use Rattle.std.proofs.lemmas.Int.{ints}
-use Rattle.net_sets.specs.Sets.{at_key}
+use Rattle.net_sets.specs.Names as names
 use Rattle.net_sets.specs.declared.member.Member.TheVariants.{Number}
 use Rattle.net_tree.specs.declared.operator.BinOp.TheVariants as op
 use Rattle.net_tree.specs.Syntax.{chain, none, apply}
 use Rattle.net_tree.specs.Role.{role_of, marks, keys}
-use Rattle.net_expr.specs.Worlds.{bound, entry_of}
+use Rattle.net_expr.specs.Worlds.{bound}
 use Rattle.net_meaning.specs.Operators as results
 use Rattle.net_meaning.specs.Operators.{One, Truth, number, IsResult}
-use Rattle.net_meaning.specs.Values.{env_of, start, a_set, parameter, dummy, Extends, IsValue, AreKeys}
+use Rattle.net_meaning.specs.Values.{ParameterOf, env_of, start, a_set, parameter, dummy, Extends, IsValue, AreKeys}
 use Rattle.net_meaning.specs.Network.{Node, Arc, IsArc, IsNode, name_and_key, Network, IsNetwork, Assignment, same_label, flow_on, net_inflow, coefficient_terms, HasSides, IsEvaluated, with_inflow, IsSatisfied, IsSatisfiedBy, IsFeasible, HasValue}
-use Rattle.net_meaning.proofs.Cities.{at, at_both, in_cities, link_item, in_links, balance, ship, declarations, City, cities, pitt, ne, se, bos, ewr, bwi, atl, mco, Link, links, pitt_ne, pitt_se, ne_bos, ne_ewr, ne_bwi, se_ewr, se_bwi, se_atl, se_mco, city, ends, of_links, world, key_of, key_of_link, node_of, arc_of, total_cost, plan}
+use Rattle.net_meaning.proofs.Cities.{at, at_both, in_cities, link_item, in_links, balance, ship, declarations, City, cities, pitt, ne, se, bos, ewr, bwi, atl, mco, Link, links, pitt_ne, pitt_se, ne_bos, ne_ewr, ne_bwi, se_ewr, se_bwi, se_atl, se_mco, city, ends, of_cities, of_links, world, key_of, key_of_link, node_of, arc_of, total_cost, plan}
 use Rattle.net_meaning.proofs.CitiesLemmas.{n0, each, all_left, have_lengths, are_distinct}
 use Rattle.net_meaning.proofs.CitiesWorld.{keys_in_cities, value_at}
 
@@ -25,24 +25,24 @@ keys_in_links : AreKeys (env_of world []) in_links (map key_of_link links)
 unfolding role_of marks keys
 keys_in_links = inl (
   map key_of_link links,
-  (map ends links, a_set 2 (map ends links) refl refl, each (Extends (start (env_of world [])) link_item) ends key_of_link (λ l. (refl, refl)) links),
+  (map ends links, a_set (map ends links) refl refl, each (Extends (start (env_of world [])) link_item) ends key_of_link (λ l. (refl, refl)) links),
   (2, have_lengths 2 key_of_link (λ l. refl) links),
   all_left (map key_of_link links),
 )
 
 -- p[i, j] at the key of a link
-value_at_link : (p : List ℕ) (value : Link → ℤ) (l : Link) → bound (key_of_link l).env.dummies p ≡ None → entry_of world p ≡ Some (of_links value)
-    → at_key (map (λ (x : Link). (ends x, Number (value x))) links) (ends l) ≡ Some (Number (value l)) → IsValue (key_of_link l).env (at_both p) (number (value l))
+value_at_link : (p : List ℕ) (value : Link → ℤ) (l : Link) → bound (key_of_link l).env.dummies p ≡ None → names.named world p ≡ Some (ParameterOf (of_links value))
+    → of_links value (ends l) ≡ Some (Number (value l)) → IsValue (key_of_link l).env (at_both p) (number (value l))
 unfolding role_of marks keys
 value_at_link p value l other h k = (
   ends l,
   (One l.start, One l.end ∷ [], dummy l.start refl, (One l.end, [], dummy l.end refl, refl, refl), refl),
-  parameter (Some 2) (map ends links) (map (λ (x : Link). (ends x, Number (value x))) links) (ends l) (Number (value l)) other h k,
+  parameter (of_links value) (ends l) (Number (value l)) other h k,
 )
 
 -- a link's arc, given that the tables have its capacity and its cost
-is_ship : (l : Link) → at_key (map (λ (x : Link). (ends x, Number x.capacity)) links) (ends l) ≡ Some (Number l.capacity)
-    → at_key (map (λ (x : Link). (ends x, Number x.cost)) links) (ends l) ≡ Some (Number l.cost) → pos 0 ≤ℤ l.capacity → IsArc (codes "Total_Cost") (codes "Ship") (Some in_links) ship (key_of_link l) (arc_of l)
+is_ship : (l : Link) → of_links (λ x. x.capacity) (ends l) ≡ Some (Number l.capacity)
+    → of_links (λ x. x.cost) (ends l) ≡ Some (Number l.cost) → pos 0 ≤ℤ l.capacity → IsArc (codes "Total_Cost") (codes "Ship") (Some in_links) ship (key_of_link l) (arc_of l)
 unfolding role_of marks keys
 is_ship l capacity cost h = record {
   label = refl;
@@ -108,7 +108,7 @@ is_within : (l : Link) → flow_on plan (arc_of l) ≡ l.flow → pos 0 ≤ℤ l
 is_within l h low high = (subst (λ n. pos 0 ≤ℤ n) (sym h) low, subst (λ n. n ≤ℤ l.capacity) (sym h) high)
 
 -- demand[k] - supply[k] at the key of a city, given that the tables have them
-needed : (y : ℤ) (c : City) → at_key (map (λ (x : City). (city x, Number x.demand)) cities) (city c) ≡ Some (Number c.demand) → at_key (map (λ (x : City). (city x, Number x.supply)) cities) (city c) ≡ Some (Number c.supply)
+needed : (y : ℤ) (c : City) → of_cities (λ x. x.demand) (city c) ≡ Some (Number c.demand) → of_cities (λ x. x.supply) (city c) ≡ Some (Number c.supply)
     → IsValue (with_inflow (key_of world (codes "k") c).env y) (chain (at (codes "demand") (codes "k")) (apply op.Minus (at (codes "supply") (codes "k")) none)) (number (c.demand -ℤ c.supply))
 unfolding role_of marks keys
 needed y c demand supply = (
@@ -117,7 +117,7 @@ needed y c demand supply = (
   (number (c.demand -ℤ c.supply), inr (number c.supply, value_at world (codes "supply") (codes "k") (λ x. x.supply) y c refl refl refl supply, results.minus c.demand c.supply), refl),
 )
 
-is_balanced : (c : City) → at_key (map (λ (x : City). (city x, Number x.demand)) cities) (city c) ≡ Some (Number c.demand) → at_key (map (λ (x : City). (city x, Number x.supply)) cities) (city c) ≡ Some (Number c.supply)
+is_balanced : (c : City) → of_cities (λ x. x.demand) (city c) ≡ Some (Number c.demand) → of_cities (λ x. x.supply) (city c) ≡ Some (Number c.supply)
     → net_inflow (map arc_of links) plan (node_of c).label ≡ c.demand -ℤ c.supply → IsSatisfiedBy (map arc_of links) plan (node_of c)
 is_balanced c demand supply h = subst (IsSatisfied (node_of c).env balance) (sym h) (
   number (c.demand -ℤ c.supply),
@@ -172,7 +172,7 @@ terms_agree (a ∷ all) x y h = ap (λ n. (a.coefficient *ℤ n) +ℤ coefficien
     tails_agree : (m n : ℤ) (ms ns : List ℤ) → m ∷ ms ≡ n ∷ ns → ms ≡ ns
     tails_agree m n ms ns e = cc
 
-has_sides : (y : ℤ) (c : City) → at_key (map (λ (x : City). (city x, Number x.demand)) cities) (city c) ≡ Some (Number c.demand) → at_key (map (λ (x : City). (city x, Number x.supply)) cities) (city c) ≡ Some (Number c.supply)
+has_sides : (y : ℤ) (c : City) → of_cities (λ x. x.demand) (city c) ≡ Some (Number c.demand) → of_cities (λ x. x.supply) (city c) ≡ Some (Number c.supply)
     → HasSides (with_inflow (node_of c).env y) balance
 has_sides y c demand supply = ((y, refl), (c.demand -ℤ c.supply, needed y c demand supply))
 

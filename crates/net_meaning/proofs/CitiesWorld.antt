@@ -8,8 +8,9 @@ use Rattle.std.proofs.lemmas.Cmp.{nat_list_eq_equiv}
 use Rattle.net_data.specs.declared.statement.Given.{Given}
 use Rattle.net_data.specs.declared.statement.NamedSet.{NamedSet}
 use Rattle.net_data.specs.Rows.{DataRow}
+use Rattle.net_sets.specs.Names as names
 use Rattle.net_sets.specs.Operations.{union, product}
-use Rattle.net_sets.specs.Sets.{Tuple, same_member, same_tuple, has, at_key}
+use Rattle.net_sets.specs.Sets.{Tuple, same_member, same_tuple}
 use Rattle.net_sets.specs.Texts.{same_text}
 use Rattle.net_sets.specs.declared.member.Member.{Member}
 use Rattle.net_sets.specs.declared.member.Member.TheVariants.{Number, Name}
@@ -18,26 +19,26 @@ use Rattle.net_tree.specs.declared.operator.BinOp.TheVariants as op
 use Rattle.net_tree.specs.declared.role.Relation.TheVariants as relations
 use Rattle.net_tree.specs.declared.role.Role.TheVariants as roles
 use Rattle.net_tree.specs.Syntax.{parens, chain, none, apply}
-use Rattle.net_expr.specs.Worlds.{World, bound, entry_of}
-use Rattle.net_expr.specs.declared.world.Entry.TheVariants.{Set}
+use Rattle.net_expr.specs.Worlds.{bound}
 use Rattle.net_meaning.specs.Operators as results
 use Rattle.net_meaning.specs.Operators.{One, Many, Truth, number, IsResult}
-use Rattle.net_meaning.specs.Values.{Key, env_of, start, a_set, parameter, dummy, MatchesWhole, new_dummy, IsValue, AreKeys}
-use Rattle.net_meaning.specs.World.{SatisfiesRole, Satisfies, IsSet, IsParameter, Fits, IsOfKind, row, data_default, AreWhole, AreNamesIn, sets_in, IsWorld, keys_of}
+use Rattle.net_meaning.specs.Values.{SetOf, ParameterOf, World, Key, env_of, start, a_set, parameter, dummy, MatchesWhole, new_dummy, IsValue, AreKeys}
+use Rattle.net_meaning.specs.World.{SatisfiesRole, Satisfies, IsSet, IsParameter, Fits, IsOfKind, row, data_default, AreWhole, AreNamesIn, sets_in, IsWorld}
 use Rattle.net_meaning.specs.Network.{with_inflow}
 use Rattle.net_meaning.proofs.Cities.{word, numeral, named, at, over, in_cities, total, at_least_0, within_cities, as_much, declarations, data_statements, City, cities, pitt, ne, se, bos, ewr, bwi, atl, mco, Link, links, city, ends, key_of, of_cities, of_links, world_of_sets, world_of_demand, world}
-use Rattle.net_meaning.proofs.CitiesLemmas.{n0, n450, n90, n120, n70, n50, n25, n35, n17, n7, n13, n8, n2, n21, n250, n100, each, all_left, have_lengths, key_over, keys_over, for_some, are_distinct, all_pass, have_length, all_keys}
+use Rattle.net_meaning.proofs.CitiesLemmas.{n0, n450, n90, n120, n70, n50, n25, n35, n17, n7, n13, n8, n2, n21, n250, n100, each, all_left, have_lengths, key_over, keys_over, for_some, are_distinct, have_length, all_keys, none_elsewhere}
 
 -- ---- sets
 
 abbrev world_of_cities : World
-world_of_cities = (codes "CITIES", Set 1 (map city cities)) ∷ []
+world_of_cities = (codes "CITIES", SetOf (map city cities)) ∷ []
 
-are_cities : IsSet [] data_statements (codes "CITIES") [] 1 (map city cities)
+are_cities : IsSet [] data_statements (codes "CITIES") [] (map city cities)
 are_cities = record {
+  dimension = 1;
   distinct = are_distinct same_tuple (map city cities) refl;
   lengths = have_length 1 (map city cities) refl;
-  dimension = λ h. refl;
+  single = λ h. refl;
   phrases = tt;
   members = (refl, (tt, (tt, (tt, (tt, tt)))), ((refl, tt), ((refl, tt), ((refl, tt), ((refl, tt), ((refl, tt), ((refl, tt), ((refl, tt), ((refl, tt), tt)))))))));
 }
@@ -47,16 +48,17 @@ abbrev pairs : List Tuple
 pairs = union [] (product (map city cities) (map city cities))
 
 are_pairs : IsValue (env_of world_of_cities []) (parens (chain (named (codes "CITIES")) (apply op.Cross (named (codes "CITIES")) none))) (Many pairs)
-are_pairs = (Many (map city cities), a_set 1 (map city cities) refl refl, (Many pairs, inr (Many (map city cities), a_set 1 (map city cities) refl refl, results.cross (map city cities) (map city cities)), refl))
+are_pairs = (Many (map city cities), a_set (map city cities) refl refl, (Many pairs, inr (Many (map city cities), a_set (map city cities) refl refl, results.cross (map city cities) (map city cities)), refl))
 
 are_within : Satisfies world_of_cities 2 (map ends links) within_cities
 are_within = for_some (SatisfiesRole world_of_cities 2 (map ends links) (roles.Relation relations.Within)) _ (pairs, are_pairs, have_length 2 pairs refl, refl)
 
-are_links : IsSet world_of_cities data_statements (codes "LINKS") (within_cities ∷ []) 2 (map ends links)
+are_links : IsSet world_of_cities data_statements (codes "LINKS") (within_cities ∷ []) (map ends links)
 are_links = record {
+  dimension = 2;
   distinct = are_distinct same_tuple (map ends links) refl;
   lengths = have_length 2 (map ends links) refl;
-  dimension = λ h. cc;
+  single = λ h. cc;
   phrases = (are_within, tt);
   members = (refl, (tt, (tt, (tt, ((refl, (refl, (refl, (refl, (refl, (refl, (refl, (refl, (refl, tt))))))))), tt)))), ((refl, (refl, tt)), ((refl, (refl, tt)), ((refl, (refl, tt)), ((refl, (refl, tt)), ((refl, (refl, tt)), ((refl, (refl, tt)), ((refl, (refl, tt)), ((refl, (refl, tt)), ((refl, (refl, tt)), tt))))))))));
 }
@@ -79,19 +81,17 @@ abbrev entry_at : (t u v : List ℕ) → DataRow
 entry_at t u v = record { keys = word t ∷ word u ∷ []; value = numeral v }
 
 abbrev world_of_supply : World
-world_of_supply = world_of_sets ++ (codes "supply", of_cities (λ c. c.supply)) ∷ []
+world_of_supply = world_of_sets ++ (codes "supply", ParameterOf (of_cities (λ c. c.supply))) ∷ []
 
 abbrev world_of_cost : World
-world_of_cost = world_of_demand ++ (codes "cost", of_links (λ l. l.cost)) ∷ []
+world_of_cost = world_of_demand ++ (codes "cost", ParameterOf (of_links (λ l. l.cost))) ∷ []
 
 are_supply : IsParameter world_of_sets data_statements (codes "supply") (Some (over (codes "CITIES"))) (at_least_0 ∷ []) (of_cities (λ c. c.supply))
 are_supply = record {
   keys = map (key_over world_of_sets city) cities;
   size = 1;
-  table = map (λ (c : City). (city c, Number c.supply)) cities;
   indexed = keys_over world_of_sets (codes "CITIES") 1 city (λ c. refl) cities refl;
   lengths = all_keys (λ (k : Key). length k.key ≡ 1) (key_over world_of_sets city) (λ c. refl) cities;
-  entry = refl;
   values = (
     row (entry (codes "PITT") (codes "450")) (Number (pos 450)) (0, omega arith, refl) (refl, tt) (pos 450, n450, refl),
     (
@@ -114,7 +114,7 @@ are_supply = record {
       ),
     ),
   );
-  only = all_pass (λ (r : Tuple × Member). has (keys_of (map (key_over world_of_sets city) cities)) r.0) (map (λ (c : City). (city c, Number c.supply)) cities) refl;
+  elsewhere = none_elsewhere world_of_sets city (λ (c : City). Number c.supply) cities;
   fits = (fits world_of_sets (pos 450) refl, (fits world_of_sets (pos 0) refl, (fits world_of_sets (pos 0) refl, (fits world_of_sets (pos 0) refl, (fits world_of_sets (pos 0) refl, (fits world_of_sets (pos 0) refl, (fits world_of_sets (pos 0) refl, (fits world_of_sets (pos 0) refl, tt))))))));
   whole = (tt, (for_some (λ (g : Given). AreWhole 2 g.cells) _ (refl, tt), (tt, (tt, tt))));
   subscripts = (Name (codes "PITT") ∷ []) ∷ [];
@@ -129,10 +129,8 @@ are_demand : IsParameter world_of_supply data_statements (codes "demand") (Some 
 are_demand = record {
   keys = map (key_over world_of_supply city) cities;
   size = 1;
-  table = map (λ (c : City). (city c, Number c.demand)) cities;
   indexed = keys_over world_of_supply (codes "CITIES") 1 city (λ c. refl) cities refl;
   lengths = all_keys (λ (k : Key). length k.key ≡ 1) (key_over world_of_supply city) (λ c. refl) cities;
-  entry = refl;
   values = (
     data_default (numeral (codes "0")) (Number (pos 0)) ((λ h. names_differ (codes "PITT") (codes "BOS") refl h.0), ((λ h. names_differ (codes "PITT") (codes "EWR") refl h.0), ((λ h. names_differ (codes "PITT") (codes "BWI") refl h.0), ((λ h. names_differ (codes "PITT") (codes "ATL") refl h.0), ((λ h. names_differ (codes "PITT") (codes "MCO") refl h.0), tt))))) refl (0, omega arith, refl) (pos 0, n0, refl),
     (
@@ -155,7 +153,7 @@ are_demand = record {
       ),
     ),
   );
-  only = all_pass (λ (r : Tuple × Member). has (keys_of (map (key_over world_of_supply city) cities)) r.0) (map (λ (c : City). (city c, Number c.demand)) cities) refl;
+  elsewhere = none_elsewhere world_of_supply city (λ (c : City). Number c.demand) cities;
   fits = (fits world_of_supply (pos 0) refl, (fits world_of_supply (pos 0) refl, (fits world_of_supply (pos 0) refl, (fits world_of_supply (pos 90) refl, (fits world_of_supply (pos 120) refl, (fits world_of_supply (pos 120) refl, (fits world_of_supply (pos 70) refl, (fits world_of_supply (pos 50) refl, tt))))))));
   whole = (tt, (tt, (for_some (λ (g : Given). AreWhole 2 g.cells) _ (refl, (refl, (refl, (refl, (refl, tt))))), (tt, tt))));
   subscripts = (Name (codes "BOS") ∷ []) ∷ (Name (codes "EWR") ∷ []) ∷ (Name (codes "BWI") ∷ []) ∷ (Name (codes "ATL") ∷ []) ∷ (Name (codes "MCO") ∷ []) ∷ [];
@@ -170,10 +168,8 @@ are_cost : IsParameter world_of_demand data_statements (codes "cost") (Some (ove
 are_cost = record {
   keys = map (key_over world_of_demand ends) links;
   size = 2;
-  table = map (λ (l : Link). (ends l, Number l.cost)) links;
   indexed = keys_over world_of_demand (codes "LINKS") 2 ends (λ l. refl) links refl;
   lengths = all_keys (λ (k : Key). length k.key ≡ 2) (key_over world_of_demand ends) (λ l. refl) links;
-  entry = refl;
   values = (
     row (entry_at (codes "PITT") (codes "NE") (codes "25")) (Number (pos 25)) (0, omega arith, refl) (refl, (refl, tt)) (pos 25, n25, refl),
     (
@@ -199,7 +195,7 @@ are_cost = record {
       ),
     ),
   );
-  only = all_pass (λ (r : Tuple × Member). has (keys_of (map (key_over world_of_demand ends) links)) r.0) (map (λ (l : Link). (ends l, Number l.cost)) links) refl;
+  elsewhere = none_elsewhere world_of_demand ends (λ (l : Link). Number l.cost) links;
   fits = (fits world_of_demand (pos 25) refl, (fits world_of_demand (pos 35) refl, (fits world_of_demand (pos 17) refl, (fits world_of_demand (pos 7) refl, (fits world_of_demand (pos 13) refl, (fits world_of_demand (pos 13) refl, (fits world_of_demand (pos 8) refl, (fits world_of_demand (pos 2) refl, (fits world_of_demand (pos 21) refl, tt)))))))));
   whole = (tt, (tt, (tt, ((refl, (refl, (refl, (refl, (refl, (refl, (refl, (refl, (refl, tt))))))))), tt))));
   subscripts = map ends links;
@@ -214,10 +210,8 @@ are_capacity : IsParameter world_of_cost data_statements (codes "capacity") (Som
 are_capacity = record {
   keys = map (key_over world_of_cost ends) links;
   size = 2;
-  table = map (λ (l : Link). (ends l, Number l.capacity)) links;
   indexed = keys_over world_of_cost (codes "LINKS") 2 ends (λ l. refl) links refl;
   lengths = all_keys (λ (k : Key). length k.key ≡ 2) (key_over world_of_cost ends) (λ l. refl) links;
-  entry = refl;
   values = (
     row (entry_at (codes "PITT") (codes "NE") (codes "250")) (Number (pos 250)) (0, omega arith, refl) (refl, (refl, tt)) (pos 250, n250, refl),
     (
@@ -243,7 +237,7 @@ are_capacity = record {
       ),
     ),
   );
-  only = all_pass (λ (r : Tuple × Member). has (keys_of (map (key_over world_of_cost ends) links)) r.0) (map (λ (l : Link). (ends l, Number l.capacity)) links) refl;
+  elsewhere = none_elsewhere world_of_cost ends (λ (l : Link). Number l.capacity) links;
   fits = (fits world_of_cost (pos 250) refl, (fits world_of_cost (pos 250) refl, (fits world_of_cost (pos 100) refl, (fits world_of_cost (pos 100) refl, (fits world_of_cost (pos 100) refl, (fits world_of_cost (pos 100) refl, (fits world_of_cost (pos 100) refl, (fits world_of_cost (pos 100) refl, (fits world_of_cost (pos 100) refl, tt)))))))));
   whole = (tt, (tt, (tt, ((refl, (refl, (refl, (refl, (refl, (refl, (refl, (refl, (refl, tt))))))))), tt))));
   subscripts = map ends links;
@@ -257,10 +251,10 @@ are_capacity = record {
 -- ---- the check
 
 -- the keys of {i in CITIES}
-pub keys_in_cities : (w : World) (i : List ℕ) → new_dummy (env_of w []) (named i) ≡ Some i → entry_of w (codes "CITIES") ≡ Some (Set 1 (map city cities)) → AreKeys (env_of w []) (in_cities i) (map (key_of w i) cities)
+pub keys_in_cities : (w : World) (i : List ℕ) → new_dummy (env_of w []) (named i) ≡ Some i → names.named w (codes "CITIES") ≡ Some (SetOf (map city cities)) → AreKeys (env_of w []) (in_cities i) (map (key_of w i) cities)
 keys_in_cities w i new h = inl (
   map (key_of w i) cities,
-  (map city cities, a_set 1 (map city cities) refl h, each place city (key_of w i) taken cities),
+  (map city cities, a_set (map city cities) refl h, each place city (key_of w i) taken cities),
   (1, have_lengths 1 (key_of w i) (λ c. refl) cities),
   all_left (map (key_of w i) cities),
 )
@@ -272,12 +266,12 @@ keys_in_cities w i new h = inl (
     taken c = subst (λ o. MatchesWhole (start (env_of w [])) o (IsValue (env_of w []) (named i)) (city c) (Some (key_of w i c))) (sym new) refl
 
 -- p[i] at the key of a city, and at each net inflow
-pub value_at : (w : World) (p i : List ℕ) (value : City → ℤ) (y : ℤ) (c : City) → bound (key_of w i c).env.dummies i ≡ Some c.name → bound (key_of w i c).env.dummies p ≡ None → entry_of w p ≡ Some (of_cities value)
-    → at_key (map (λ (x : City). (city x, Number (value x))) cities) (city c) ≡ Some (Number (value c)) → IsValue (with_inflow (key_of w i c).env y) (at p i) (number (value c))
+pub value_at : (w : World) (p i : List ℕ) (value : City → ℤ) (y : ℤ) (c : City) → bound (key_of w i c).env.dummies i ≡ Some c.name → bound (key_of w i c).env.dummies p ≡ None → names.named w p ≡ Some (ParameterOf (of_cities value))
+    → of_cities value (city c) ≡ Some (Number (value c)) → IsValue (with_inflow (key_of w i c).env y) (at p i) (number (value c))
 value_at w p i value y c own other h k = (
   city c,
   (One c.name, [], dummy c.name own, refl, refl),
-  parameter (Some 1) (map city cities) (map (λ (x : City). (city x, Number (value x))) cities) (city c) (Number (value c)) other h k,
+  parameter (of_cities value) (city c) (Number (value c)) other h k,
 )
 
 supplied : IsValue (env_of world_of_demand []) (total (codes "supply") (codes "i")) (number (pos 450))
@@ -312,11 +306,9 @@ is_as_much = (number (pos 450), supplied, (Truth true, inr (number (pos 450), de
 pub is_world : IsWorld declarations data_statements world
 is_world = record {
   bound = (
-    1,
     map city cities,
     are_cities,
     (
-      2,
       map ends links,
       are_links,
       (

@@ -1,6 +1,6 @@
 -- What the code asks of a tree, its abstract syntax says as well.
-use Rattle.std.specs.Prelude.{◌≡◌, ◌+◌, ◌&&◌, Bool, true, false, not, List, [], ◌∷◌, map, Option, None, Some, is_some, if◌then◌else◌, option_map}
-use Rattle.std.proofs.Common.{refl, ap, ◌∙◌, subst}
+use Rattle.std.specs.Prelude.{◌≡◌, ◌+◌, ◌&&◌, ◌||◌, ℤ, Bool, true, false, not, List, [], ◌∷◌, map, Option, None, Some, is_some, if◌then◌else◌, option_map}
+use Rattle.std.proofs.Common.{refl, ap, sym, ◌∙◌, subst}
 use Rattle.net_sets.specs.Sets.{Tuple}
 use Rattle.net_tree.specs.declared.role.Role.{Role}
 use Rattle.net_tree.specs.Erasure as erased
@@ -11,13 +11,15 @@ use Rattle.net_tree.specs.Role.{role_of, is_name}
 use Rattle.net_tree.specs.Tree.{Tree, Links, Braces, leaf, chain, none, link, Body, plain, valued, priced, Phrase}
 use Rattle.net_expr.specs.Items as items
 use Rattle.net_expr.specs.Items.{text_of, unless_known}
-use Rattle.net_expr.specs.Worlds.{is_known}
+use Rattle.net_expr.specs.Worlds as code
+use Rattle.net_expr.specs.Worlds.{Name, World, Scope, bound, entry_of}
 use Rattle.net_meaning.specs.Operators.{Value, Many}
-use Rattle.net_meaning.specs.OfTrees.{begins_range, has_in, new_dummy, AreValues, AreOperandValues, IsItemSet}
+use Rattle.net_meaning.specs.OfTrees.{meant_entry, env_with, begins_range, has_in, new_dummy, AreValues, AreOperandValues, IsItemSet}
 use Rattle.net_tree.specs.PhraseValues.{expression_of, phrase_value}
-use Rattle.net_meaning.specs.Values.{Env, Whether, size}
+use Rattle.net_meaning.specs.Values.{Env, Whether, is_known, size}
 use Rattle.net_meaning.specs.World as world
 use Rattle.net_meaning.proofs.Leaves.{name_is as kind_is}
+use Rattle.net_meaning.proofs.Meant.{named_is}
 
 -- ---- items
 
@@ -33,17 +35,28 @@ has_in_is (chain n x (link o y none)) = go (is_in (operation o))
     go false = refl
 has_in_is _ = refl
 
-pub new_dummy_is : (e : Env) (x : Tree) → items.new_dummy e.world e.dummies x ≡ new_dummy e x
-new_dummy_is e (leaf t) = subst (λ b. unless_known e.world e.dummies (text_of (if is_name (role_of t) then Some t else None)) ≡ (if b && not (is_known e.world e.dummies t.text) then Some t.text else None)) (kind_is t) (go (is_name (role_of t)) (is_known e.world e.dummies t.text))
-  where
-    known : (b : Bool) → (if b then None else Some t.text) ≡ (if not b then Some t.text else None)
-    known true = refl
-    known false = refl
+pub some_kept : {A B : Type 0} (f : A → B) (o : Option A) → is_some (option_map f o) ≡ is_some o
+some_kept f None = refl
+some_kept f (Some x) = refl
 
-    go : (a b : Bool) → unless_known e.world e.dummies (text_of (if a then Some t else None)) ≡ (if a && not (is_known e.world e.dummies t.text) then Some t.text else None)
-    go true b = known (is_known e.world e.dummies t.text)
-    go false b = refl
-new_dummy_is e _ = refl
+module _ (arcs : Name → Option (Tuple → ℤ)) (y : ℤ) (w : World) (s : Scope) where
+  known_is : (n : Name) → code.is_known w s n ≡ is_known (env_with arcs y w s) n
+  known_is n = ap (λ b. is_some (bound s n) || b) (sym (ap is_some (named_is w n) ∙ some_kept meant_entry (entry_of w n)))
+
+  pub new_dummy_is : (x : Tree) → items.new_dummy w s x ≡ new_dummy (env_with arcs y w s) x
+  new_dummy_is (leaf t) =
+      subst (λ b. unless_known w s (text_of (if is_name (role_of t) then Some t else None)) ≡ (if b && not (is_known (env_with arcs y w s) t.text) then Some t.text else None)) (kind_is t)
+      (go (is_name (role_of t)) (known_is t.text))
+    where
+      known : (b c : Bool) → b ≡ c → (if b then None else Some t.text) ≡ (if not c then Some t.text else None)
+      known true c e = subst (λ d. None ≡ (if not d then Some t.text else None)) e refl
+      known false c e = subst (λ d. Some t.text ≡ (if not d then Some t.text else None)) e refl
+
+      go : (a : Bool) → code.is_known w s t.text ≡ is_known (env_with arcs y w s) t.text
+          → unless_known w s (text_of (if a then Some t else None)) ≡ (if a && not (is_known (env_with arcs y w s) t.text) then Some t.text else None)
+      go true e = known (code.is_known w s t.text) (is_known (env_with arcs y w s) t.text) e
+      go false e = refl
+  new_dummy_is _ = refl
 
 -- the set of an item, as the code finds it
 pub item_set : (i : Tree) (After : List Tuple → Type 0) (Own : Value → Type 0) (ts : List Tuple) → Whether (items.has_in i) (After ts) (Own (Many ts)) → IsItemSet i After Own ts
@@ -86,7 +99,3 @@ phrase_none test ps e = phrase_value_is test ps ∙ ap (option_map expression) e
 pub indexed_is : (b : Option Braces) → is_some (indexing b) ≡ is_some b
 indexed_is None = refl
 indexed_is (Some b) = refl
-
-pub some_kept : {A B : Type 0} (f : A → B) (o : Option A) → is_some (option_map f o) ≡ is_some o
-some_kept f None = refl
-some_kept f (Some x) = refl

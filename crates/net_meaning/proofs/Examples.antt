@@ -23,11 +23,9 @@ use Rattle.net_tree.specs.declared.role.Role.TheVariants as roles
 use Rattle.net_tree.specs.Role.{role_of, marks, keys}
 use Rattle.net_tree.specs.Syntax.{Expression, leaf, tuple, signed, reduced, chain, net, no_more, more, none, apply, absent, present, filled, Phrase, valued, Condition, between}
 use Rattle.net_tree.specs.Numerals.{number_in}
-use Rattle.net_expr.specs.Worlds.{World}
-use Rattle.net_expr.specs.declared.world.Entry.TheVariants.{Set}
 use Rattle.net_meaning.specs.Operators as results
 use Rattle.net_meaning.specs.Operators.{Value, One, Several, Many, Truth, number, IsTuple, IsResult, HaveOneDimension, at_most}
-use Rattle.net_meaning.specs.Values.{Env, Key, env_of, start, bind, a_set, dummy, AreListed, IsValue, AreKeys, Extends}
+use Rattle.net_meaning.specs.Values.{SetOf, World, Env, Key, env_of, start, bind, a_set, dummy, AreListed, IsValue, AreKeys, Extends}
 use Rattle.net_meaning.specs.Network.{Arc, IsArc, name, IsSatisfied, with_inflow, Objective, Assignment, HasValue}
 use Rattle.net_meaning.specs.World.{AreWhole}
 use Rattle.net_meaning.proofs.Naming.{numeral_is}
@@ -62,7 +60,7 @@ five_is = numeral_is (codes "5") (pos 5) refl
 -- ---- an indexing expression that selects: {(i, 2) in LINKS}, where LINKS is {(1, 2), (3, 2), (1, 3)}, has the keys 1 and 3
 
 abbrev links : World
-links = (codes "LINKS", Set 2 ((Number (pos 1) ∷ Number (pos 2) ∷ []) ∷ (Number (pos 3) ∷ Number (pos 2) ∷ []) ∷ (Number (pos 1) ∷ Number (pos 3) ∷ []) ∷ [])) ∷ []
+links = (codes "LINKS", SetOf ((Number (pos 1) ∷ Number (pos 2) ∷ []) ∷ (Number (pos 3) ∷ Number (pos 2) ∷ []) ∷ (Number (pos 1) ∷ Number (pos 3) ∷ []) ∷ [])) ∷ []
 
 abbrev to_two : Expression
 to_two = chain (tuple (named (codes "i")) (more (numeral (codes "2")) no_more)) (apply op.In (named (codes "LINKS")) none)
@@ -87,7 +85,7 @@ selects = inl (
   key_of (pos 1) ∷ key_of (pos 3) ∷ [],
   (
     _,
-    a_set 2 _ refl refl,
+    a_set _ refl refl,
     (
       Some (key_of (pos 1)),
       key_of (pos 1) ∷ [],
@@ -216,7 +214,7 @@ not_true_of_three (low, (u, v, a, b, c)) = three_at_most_two (subst (λ (z : Val
 -- ---- a dummy index may have the name of a later arc: minimize Total: sum {i in S} i; arc i ..; where S is {2}. The value is 2 at every flow
 
 abbrev just_two : World
-just_two = (codes "S", Set 1 ((Number (pos 2) ∷ []) ∷ [])) ∷ []
+just_two = (codes "S", SetOf ((Number (pos 2) ∷ []) ∷ [])) ∷ []
 
 abbrev total : Expression
 total = reduced Sum (filled (chain (named (codes "i")) (apply op.In (named (codes "S")) none)) no_more absent) (named (codes "i"))
@@ -237,7 +235,7 @@ later_arc_is_no_flow x = (
     pos 2,
     inl (
       _,
-      (_, a_set 1 _ refl refl, (Some (bind (codes "i") (Number (pos 2)) (start (env_of just_two []))), _, [], refl, refl, refl, refl)),
+      (_, a_set _ refl refl, (Some (bind (codes "i") (Number (pos 2)) (start (env_of just_two []))), _, [], refl, refl, refl, refl)),
       (1, (refl, tt)),
       ([], refl, inl (refl, refl)),
     ),

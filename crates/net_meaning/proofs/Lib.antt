@@ -1,6 +1,7 @@
 pub mod Giving
 mod Leaves
 pub mod Erased
+pub mod Meant
 pub mod Operating
 mod Naming
 mod Reducing
@@ -14,6 +15,7 @@ mod TextRows
 pub mod TextWorlds
 pub mod TextNetworks
 pub mod TextTokens
+pub mod UniqueWorlds
 mod Examples
 mod WrongProblems
 mod WrongWorlds

@@ -33,12 +33,12 @@ use Rattle.net_expr.proofs.KeysOnce.{opened_set}
 use Rattle.net_expr.proofs.SetsGiven.{IsSetValue, gives, keeps_sets}
 use Rattle.net_expr.proofs.Walked.{item_set as found_set}
 use Rattle.net_expr.proofs.Walking.{chained-step}
-use Rattle.net_meaning.specs.OfTrees.{new_dummy, AreOperandValues, IsItemSet, IsAbsent, IsValue, IsElse, AreValues, IsChain, AreKeys, HasTruth, Iterates, IsSetAfterIn, Extends, Agrees, AllAgree}
+use Rattle.net_meaning.specs.OfTrees.{env_with, env_of, new_dummy, AreOperandValues, IsItemSet, IsAbsent, IsValue, IsElse, AreValues, IsChain, AreKeys, HasTruth, Iterates, IsSetAfterIn, Extends, Agrees, AllAgree}
 use Rattle.net_meaning.specs.Laws.{meaning_of, IsArcFree, AreArcFree, IsPartArcFree, AreBracesArcFree, EvaluationIsSoundWith, EvaluationIsSound, KeysAreSound}
 use Rattle.net_meaning.specs.OfTrees as meant
 use Rattle.net_meaning.specs.Operators.{Value, Many, Truth, number, Combines, IsTuple, IsRangeOf, HaveOneDimension}
 use Rattle.net_meaning.specs.Values as meaning
-use Rattle.net_meaning.specs.Values.{Matches, MatchesWhole, env_with, env_of, Env, Key, Whether, IsArcOr, Denotes, IsLeaf, AreMembers}
+use Rattle.net_meaning.specs.Values.{Matches, MatchesWhole, Env, Key, Whether, IsArcOr, Denotes, IsLeaf, AreMembers}
 use Rattle.net_meaning.proofs.Erased.{begins_range_is, new_dummy_is, item_set, operand_values, size_is}
 use Rattle.net_meaning.proofs.Giving.{gives_then, gives_with, gives_if, gives_as, gives_both, gives_ok}
 use Rattle.net_meaning.proofs.Naming.{leaf_is, name_is, tuple_is}
@@ -200,7 +200,7 @@ module _ (af : Name → Option (Tuple → ℤ)) (yf : ℤ) where
 
   -- what holds of the dummy index that the code finds holds of the one that is meant
   as_dummy : (w : World) (s : Scope) (x : Tree) (R : Option Name → Type 0) → R (items.new_dummy w s x) → R (new_dummy (env_with af yf w s) x)
-  as_dummy w s x R h = subst R (new_dummy_is (env_with af yf w s) x) h
+  as_dummy w s x R h = subst R (new_dummy_is af yf w s x) h
 
   -- the value of an expression; if it is a set, its tuples are distinct and have its dimension
   with_set : (w : World) → HasSets w → (s : Scope) (x : Tree) → IfOk (value w s x) (λ v. IsValue (env_with af yf w s) x (meaning_of v)) → IfOk (value w s x) (λ v. IsValue (env_with af yf w s) x (meaning_of v) × IsSetValue v)

@@ -31,10 +31,12 @@ use Rattle.net_expr.specs.Values.{number_value, token_value}
 use Rattle.net_expr.specs.Worlds.{Name, World, Scope, key_count, bound, entry_of, value_at, entry_at, name_at}
 use Rattle.net_meaning.specs.Laws.{meaning_of}
 use Rattle.net_meaning.specs.Operators.{Value, One}
-use Rattle.net_meaning.specs.Values.{env_with, Denotes, IsLeaf, dummy, a_set, parameter}
+use Rattle.net_meaning.specs.OfTrees.{env_with}
+use Rattle.net_meaning.specs.Values.{Denotes, IsLeaf, dummy, a_set, parameter}
 use Rattle.net_tree.specs.Role.{role_of, role_as, is_leaf}
 use Rattle.net_meaning.proofs.Leaves.{mark_no_leaf, key_no_leaf}
 use Rattle.net_meaning.proofs.Giving.{gives_then, gives_if, gives_as}
+use Rattle.net_meaning.proofs.Meant.{entry_named}
 
 -- ---- numerals
 
@@ -74,13 +76,13 @@ module _ (af : Name → Option (Tuple → ℤ)) (yf : ℤ) where
     where
       by_value : (d : Detail) (c : Option ℕ) (keys : List Tuple) (rows : List (Tuple × Member)) (key : Tuple) → bound s n ≡ None → entry_of w n ≡ Some (Parameter c keys rows)
           → (o : Option Member) → at_key rows key ≡ o → (listed : Bool) → IfOk (value_at at d o listed) (λ v. Denotes (env_with af yf w s) n key (meaning_of v))
-      by_value d c keys rows key h e (Some m) f listed = parameter c keys rows key m h e f
+      by_value d c keys rows key h e (Some m) f listed = parameter (at_key rows) key m h (entry_named w n (Parameter c keys rows) e) f
       by_value d c keys rows key h e None f true = tt
       by_value d c keys rows key h e None f false = tt
 
       by_entry : bound s n ≡ None → (x : Option Entry) → entry_of w n ≡ x → (key : Tuple) → IfOk (entry_at at n x key) (λ v. Denotes (env_with af yf w s) n key (meaning_of v))
       by_entry h None e key = tt
-      by_entry h (Some (Set d ts)) e [] = a_set d ts h e
+      by_entry h (Some (Set d ts)) e [] = a_set ts h (entry_named w n (Set d ts) e)
       by_entry h (Some (Set d ts)) e (m ∷ ms) = tt
       by_entry h (Some (Parameter c keys rows)) e key = gives_if _ (nat_eq (length key) (key_count c)) _ _ (λ i. by_value _ c keys rows key h e (at_key rows key) refl _) (λ i. tt)
 

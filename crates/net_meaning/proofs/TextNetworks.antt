@@ -5,11 +5,10 @@ use Rattle.std.proofs.Common.{refl, ap, sym, subst, arith}
 use Rattle.std.proofs.lemmas.List.Elements.{Contains-append_right}
 use Rattle.net_base.proofs.Elements.{all_append, all_take}
 use Rattle.net_tree.specs.Syntax.{Braces, Condition, Declaration, set, param, check, node, arc, objective}
-use Rattle.net_expr.specs.declared.world.Entry.{Entry}
-use Rattle.net_expr.specs.Worlds.{Name, World}
+use Rattle.net_expr.specs.Worlds.{Name}
 use Rattle.net_meaning.specs.Network.{IsArc, IsNode, AreNodesOf, AreArcsOf, IsNetwork, Label, label_at, Node, Arc, InOrder, Network}
-use Rattle.net_meaning.specs.Texts.{EntryHolds, WorldHolds, KeysHold, DeclarationsHold, nodes_in, arcs_in, LabelHolds}
-use Rattle.net_meaning.specs.Values.{Key}
+use Rattle.net_meaning.specs.Texts.{MeaningHolds, WorldHolds, KeysHold, DeclarationsHold, nodes_in, arcs_in, LabelHolds}
+use Rattle.net_meaning.specs.Values.{Meaning, World, Key}
 use Rattle.net_meaning.proofs.TextWorlds.{indexed_hold}
 
 module _ (P : List ℕ → Type 0) where
@@ -44,7 +43,7 @@ module _ (P : List ℕ → Type 0) where
         subst (LabelsHold (name ∷ names)) (sym e) (all_append (λ x. LabelHolds P (name ∷ names) (label x)) these others h (other_labels name names others k))
 
   taken_holds : (k : ℕ) (w : World) → WorldHolds P w → WorldHolds P (take k w)
-  taken_holds k w h = all_take (λ (x : Name × Entry). EntryHolds P x.1) k w h
+  taken_holds k w h = all_take (λ (x : Name × Meaning). MeaningHolds P x.1) k w h
 
   abbrev node_label : Node → Label
   node_label v = v.label

@@ -8,15 +8,15 @@ use Rattle.net_lex.specs.declared.token.Kind.{Kind}
 use Rattle.net_lex.specs.declared.token.Kind.TheVariants as kinds
 use Rattle.net_lex.specs.declared.token.Token.{Token}
 use Rattle.net_sets.specs.declared.member.Member.{Member}
+use Rattle.net_sets.specs.Names.{named}
 use Rattle.net_sets.specs.Operations.{union}
 use Rattle.net_sets.specs.Sets.{Tuple, same_member, same_tuple}
 use Rattle.net_tree.specs.Items.{is_in}
 use Rattle.net_tree.specs.Syntax.{Expression, Expressions, Operands, Clause, Braces, leaf, indexed, parens, tuple, negated, braced, signed, reduced, chain, conditional, net, no_more, more, none, apply, absent, present, empty, filled}
-use Rattle.net_expr.specs.declared.world.Entry.TheVariants.{Set, Parameter}
-use Rattle.net_expr.specs.Worlds.{Name, World, Scope, entry_of, bound}
+use Rattle.net_expr.specs.Worlds.{Name, Scope, bound}
 use Rattle.net_meaning.specs.Operators.{Value, Many}
-use Rattle.net_meaning.specs.Texts.{MemberHolds, TupleHolds, TuplesHold, ValueHolds, EntryHolds, WorldHolds, ScopeHolds, EnvHolds, KeyHolds, KeysHold, TokenHolds, ExpressionHolds, ExpressionsHold, OperandsHold, ClauseHolds, BracesHold}
-use Rattle.net_meaning.specs.Values.{begins_range, has_in, new_dummy, AreOperandValues, IsItemSet, IsValue, IsElse, AreValues, IsChain, AreKeys, HasTruth, Iterates, IsSetAfterIn, Extends, Agrees, AllAgree, Env, Key, Whether, Denotes, dummy, a_set, parameter, IsArcOr, bind, Filters, Continues, FromEach, FromItem, AreMembers, HasRange, start, extended, AreListed, IsLeaf, Matches, MatchesWhole}
+use Rattle.net_meaning.specs.Texts.{MemberHolds, TupleHolds, TuplesHold, ValueHolds, MeaningHolds, WorldHolds, ScopeHolds, EnvHolds, KeyHolds, KeysHold, TokenHolds, ExpressionHolds, ExpressionsHold, OperandsHold, ClauseHolds, BracesHold}
+use Rattle.net_meaning.specs.Values.{begins_range, has_in, new_dummy, AreOperandValues, IsItemSet, IsValue, IsElse, AreValues, IsChain, AreKeys, HasTruth, Iterates, IsSetAfterIn, Extends, Agrees, AllAgree, SetOf, ParameterOf, World, Env, Key, Whether, Denotes, dummy, a_set, parameter, IsArcOr, bind, Filters, Continues, FromEach, FromItem, AreMembers, HasRange, start, extended, AreListed, IsLeaf, Matches, MatchesWhole}
 use Rattle.net_meaning.proofs.TextOperators.{combined_holds, ValuesHold, tuples_hold, members_hold, range_holds, union_holds}
 
 pub none_is : {A : Type 0} (a : A) → None ≡ Some a → ⊥
@@ -36,18 +36,18 @@ module _ (P : List ℕ → Type 0) where
       go true k m' f = subst (MemberHolds P) (some_is b.member m' f) h.0
       go false k m' f = k m' f
 
-  entry_holds : (w : World) (n : Name) → WorldHolds P w → ForSome (entry_of w n) (EntryHolds P)
-  entry_holds [] n h x e = absurd (none_is x e)
-  entry_holds (y ∷ w) n h x e = go (bytes_eq y.0 n) (entry_holds w n h.1) x e
+  meaning_holds : (w : World) (n : Name) → WorldHolds P w → ForSome (named w n) (MeaningHolds P)
+  meaning_holds [] n h x e = absurd (none_is x e)
+  meaning_holds (y ∷ w) n h x e = go (bytes_eq y.0 n) (meaning_holds w n h.1) x e
     where
-      go : (c : Bool) → ForSome (entry_of w n) (EntryHolds P) → ForSome (if c then Some y.1 else entry_of w n) (EntryHolds P)
-      go true k x' f = subst (EntryHolds P) (some_is y.1 x' f) h.0
+      go : (c : Bool) → ForSome (named w n) (MeaningHolds P) → ForSome (if c then Some y.1 else named w n) (MeaningHolds P)
+      go true k x' f = subst (MeaningHolds P) (some_is y.1 x' f) h.0
       go false k x' f = k x' f
 
   denoted_holds : (e : Env) (n : Name) (key : Tuple) (v : Value) → EnvHolds P e → Denotes e n key v → ValueHolds P v
   denoted_holds e n key v h (dummy m b) = bound_holds e.dummies n h.1 m b
-  denoted_holds e n key v h (a_set d ts b i) = entry_holds e.world n h.0 (Set d ts) i
-  denoted_holds e n key v h (parameter k keys rows key' m b i at) = (entry_holds e.world n h.0 (Parameter k keys rows) i).1 key' m at
+  denoted_holds e n key v h (a_set ts b i) = meaning_holds e.world n h.0 (SetOf ts) i
+  denoted_holds e n key v h (parameter f key' m b i at) = (meaning_holds e.world n h.0 (ParameterOf f) i key' m at).1
 
   arc_or_holds : (o : Option (Tuple → ℤ)) (key : Tuple) (v : Value) (Else : Type 0) → (Else → ValueHolds P v) → IsArcOr o key v Else → ValueHolds P v
   arc_or_holds None key v Else k h = k h

@@ -1,29 +1,38 @@
 -- The texts of a world come from the names and strings of the declarations and the data statements.
-use Rattle.std.specs.Prelude.{◌≡◌, ℕ, Bool, true, false, ◌||◌, List, [], ◌∷◌, ◌++◌, Option, None, Some, if◌then◌else◌, IsTrue}
-use Rattle.std.specs.List.{AllByRecursion, Contains}
+use Rattle.std.specs.Prelude.{◌≡◌, ℕ, Bool, true, false, ◌||◌, List, [], ◌∷◌, ◌++◌, Option, None, Some, if◌then◌else◌}
+use Rattle.std.specs.List.{AllByRecursion}
 use Rattle.std.specs.Option.{ForSome}
 use Rattle.std.proofs.Common.{refl, sym, subst}
 use Rattle.std.proofs.lemmas.List.Elements.{All-from_recursion, All-contains}
-use Rattle.std.proofs.lemmas.Map.Views.{Contains-from_lookup}
 use Rattle.net_base.proofs.Elements.{OfSome, all_append}
 use Rattle.net_data.specs.declared.statement.Statement.{Statement}
 use Rattle.net_sets.specs.declared.member.Member.{Member}
-use Rattle.net_sets.specs.Sets.{Tuple, same_tuple, has, at_key}
+use Rattle.net_sets.specs.Sets.{Tuple, same_tuple, has}
 use Rattle.net_sets.proofs.Sames.{tuple_decides}
 use Rattle.net_tree.specs.declared.role.Role.{Role}
 use Rattle.net_tree.specs.declared.role.Role.TheVariants as roles
 use Rattle.net_tree.specs.Phrases.{is_becomes, is_default}
 use Rattle.net_tree.specs.Syntax.{Expression, Braces, Body, plain, valued, priced, Phrase, Declaration, set, param, check, node, arc, objective}
-use Rattle.net_expr.specs.declared.world.Entry.{Entry}
-use Rattle.net_expr.specs.declared.world.Entry.TheVariants.{Set}
-use Rattle.net_expr.specs.Worlds.{Name, World}
+use Rattle.net_expr.specs.Worlds.{Name}
 use Rattle.net_meaning.specs.Operators.{One, Many}
-use Rattle.net_meaning.specs.Texts.{MemberHolds, TuplesHold, EntryHolds, WorldHolds, EnvHolds, KeyHolds, KeysHold, TokenHolds, ExpressionHolds, BracesHold, BodyHolds, PhrasesHold, DeclarationsHold, StatementsHold}
-use Rattle.net_meaning.specs.Values.{IsValue, Key, env_of}
+use Rattle.net_meaning.specs.Texts.{MemberHolds, TupleHolds, TuplesHold, MeaningHolds, WorldHolds, EnvHolds, KeyHolds, KeysHold, TokenHolds, ExpressionHolds, BracesHold, BodyHolds, PhrasesHold, DeclarationsHold, StatementsHold}
+use Rattle.net_meaning.specs.Values.{Meaning, SetOf, ParameterOf, World, IsValue, Key, env_of}
 use Rattle.net_meaning.specs.World.{expression_of, phrase_value, AreIndexed, SatisfiesRole, Satisfies, IsSet, IsParameterValue, IsParameter, Binds, IsWorld, AreGivenMembers, data_rows, data_defaults, row, assigned, data_default, default, nothing, keys_of}
-use Rattle.net_meaning.proofs.TextOperators.{union_holds}
 use Rattle.net_meaning.proofs.TextRows.{data_value_holds, RowHolds, lines_hold, data_rows_hold, all_set_rows_hold, data_defaults_hold}
-use Rattle.net_meaning.proofs.TextValues.{none_is, some_is, value_holds, keys_hold, of_keys}
+use Rattle.net_meaning.proofs.TextValues.{none_is, some_is, value_holds, keys_hold}
+
+-- the value of the expression is the set with these members
+abbrev pub AreMembersOf : World → List Tuple → Option Expression → Type 0
+AreMembersOf w ts o = ForSome o (λ x. IsValue (env_of w []) x (Many ts))
+
+-- the members of a set are the value of the expression after `:=`
+pub becomes_members : (w : World) (d : ℕ) (ts : List Tuple) (ps : List Phrase) → AllByRecursion (Satisfies w d ts) ps → AreMembersOf w ts (phrase_value is_becomes ps)
+becomes_members w d ts [] h x e = absurd (none_is x e)
+becomes_members w d ts (p ∷ ps) h x e = go p.word h.0 (becomes_members w d ts ps h.1) x e
+  where
+    go : (r : Role) → ForSome (expression_of p.body) (SatisfiesRole w d ts r) → AreMembersOf w ts (phrase_value is_becomes ps) → AreMembersOf w ts (if is_becomes r then expression_of p.body else phrase_value is_becomes ps)
+    go roles.Becomes s more = s
+    go _ s more = more
 
 module _ (P : List ℕ → Type 0) where
   pub env_holds : (w : World) → WorldHolds P w → EnvHolds P (env_of w [])
@@ -50,27 +59,14 @@ module _ (P : List ℕ → Type 0) where
 
   -- ---- sets
 
-  -- the value of the expression is the set with these members
-  abbrev AreMembersOf : World → List Tuple → Option Expression → Type 0
-  AreMembersOf w ts o = ForSome o (λ x. IsValue (env_of w []) x (Many ts))
-
-  -- the members of a set are the value of the expression after `:=`
-  becomes_members : (w : World) (d : ℕ) (ts : List Tuple) (ps : List Phrase) → AllByRecursion (Satisfies w d ts) ps → AreMembersOf w ts (phrase_value is_becomes ps)
-  becomes_members w d ts [] h x e = absurd (none_is x e)
-  becomes_members w d ts (p ∷ ps) h x e = go p.word h.0 (becomes_members w d ts ps h.1) x e
-    where
-      go : (r : Role) → ForSome (expression_of p.body) (SatisfiesRole w d ts r) → AreMembersOf w ts (phrase_value is_becomes ps) → AreMembersOf w ts (if is_becomes r then expression_of p.body else phrase_value is_becomes ps)
-      go roles.Becomes s more = s
-      go _ s more = more
-
   given_members_hold : (w : World) (ss : List Statement) (n : Name) (d : ℕ) (ts : List Tuple) (o : Option Expression) → WorldHolds P w → StatementsHold P ss → ForSome o (ExpressionHolds P)
       → AreMembersOf w ts o → AreGivenMembers ss n d ts o → TuplesHold P ts
   given_members_hold w ss n d ts (Some x) h k t is m = value_holds P (env_of w []) x (Many ts) (env_holds w h) (t x refl) (is x refl)
   given_members_hold w ss n d ts None h k t is (once, whole, z) = lines_hold P _ ts (all_set_rows_hold P d n ss k) z
 
-  set_holds : (w : World) (ss : List Statement) (n : Name) (ps : List Phrase) (d : ℕ) (ts : List Tuple) → WorldHolds P w → StatementsHold P ss → PhrasesHold P ps → IsSet w ss n ps d ts → TuplesHold P ts
-  set_holds w ss n ps d ts h k p is =
-      given_members_hold w ss n d ts (phrase_value is_becomes ps) h k (phrase_holds is_becomes ps p) (becomes_members w d ts ps is.phrases) is.members
+  set_holds : (w : World) (ss : List Statement) (n : Name) (ps : List Phrase) (ts : List Tuple) → WorldHolds P w → StatementsHold P ss → PhrasesHold P ps → IsSet w ss n ps ts → TuplesHold P ts
+  set_holds w ss n ps ts h k p is =
+      given_members_hold w ss n is.dimension ts (phrase_value is_becomes ps) h k (phrase_holds is_becomes ps p) (becomes_members w is.dimension ts ps is.phrases) is.members
 
   -- ---- parameters
 
@@ -84,49 +80,44 @@ module _ (P : List ℕ → Type 0) where
   parameter_value_holds ss n ps size k o h p i (default x m free e f g is) = value_holds P k.env x (One m) i.1 (phrase_holds is_default ps p x g) is
   parameter_value_holds ss n ps size k o h p i (nothing free e f g) = tt
 
-  -- the value at a key that is one of the keys
-  value_at_holds : (ss : List Statement) (n : Name) (ps : List Phrase) (size : ℕ) (table : List (Tuple × Member)) (key : Tuple) (ks : List Key) → StatementsHold P ss → PhrasesHold P ps → KeysHold P ks
-      → AllByRecursion (λ (k : Key). IsParameterValue ss n ps size k (at_key table k.key)) ks → IsTrue (has (keys_of ks) key) → OfSome (MemberHolds P) (at_key table key)
-  value_at_holds ss n ps size table key [] h p i v f = absurd (none_has f)
-    where
-      none_has : false ≡ true → ⊥
-      none_has e = cc
-  value_at_holds ss n ps size table key (k ∷ ks) h p i v f = go (same_tuple key k.key) refl f (value_at_holds ss n ps size table key ks h p i.1 v.1)
-    where
-      go : (b : Bool) → same_tuple key k.key ≡ b → (b || has (keys_of ks) key) ≡ true → (IsTrue (has (keys_of ks) key) → OfSome (MemberHolds P) (at_key table key)) → OfSome (MemberHolds P) (at_key table key)
-      go true e f more =
-          subst (λ q. OfSome (MemberHolds P) (at_key table q)) (sym ((tuple_decides key k.key).0 e)) (parameter_value_holds ss n ps size k (at_key table k.key) h p i.0 v.0)
-      go false e f more = more f
+  -- the texts of a key and of the value there have the property, if there is a value
+  abbrev HoldsAt : Tuple → Option Member → Type 0
+  HoldsAt key o = OfSome (λ m. TupleHolds P key × MemberHolds P m) o
 
-  of_some : (o : Option Member) → OfSome (MemberHolds P) o → ForSome o (MemberHolds P)
-  of_some None h m e = absurd (none_is m e)
-  of_some (Some k) h m e = subst (MemberHolds P) (some_is k m e) h
+  with_key : (key : Tuple) (o : Option Member) → TupleHolds P key → OfSome (MemberHolds P) o → HoldsAt key o
+  with_key key None h k = tt
+  with_key key (Some m) h k = (h, k)
 
-  parameter_holds : (w : World) (ss : List Statement) (n : Name) (b : Option Braces) (ps : List Phrase) (x : Entry) → WorldHolds P w → StatementsHold P ss → ForSome b (BracesHold P) → PhrasesHold P ps
-      → IsParameter w ss n b ps x → EntryHolds P x
-  parameter_holds w ss n b ps x h k i p is = subst (EntryHolds P) (sym is.entry) (union_holds P [] (keys_of is.keys) tt (of_keys P is.keys keys), values)
+  -- at a tuple, whether it is one of the keys or not
+  value_at_holds : (ss : List Statement) (n : Name) (ps : List Phrase) (size : ℕ) (f : Tuple → Option Member) (key : Tuple) (ks : List Key) → StatementsHold P ss → PhrasesHold P ps → KeysHold P ks
+      → AllByRecursion (λ (k : Key). IsParameterValue ss n ps size k (f k.key)) ks → (has (keys_of ks) key ≡ false → f key ≡ None) → HoldsAt key (f key)
+  value_at_holds ss n ps size f key [] h p i v none = subst (HoldsAt key) (sym (none refl)) tt
+  value_at_holds ss n ps size f key (k ∷ ks) h p i v none = go (same_tuple key k.key) refl none (value_at_holds ss n ps size f key ks h p i.1 v.1)
     where
-      keys : KeysHold P is.keys
-      keys = indexed_hold w b is.keys h i is.indexed
+      go : (b : Bool) → same_tuple key k.key ≡ b → ((b || has (keys_of ks) key) ≡ false → f key ≡ None) → ((has (keys_of ks) key ≡ false → f key ≡ None) → HoldsAt key (f key)) → HoldsAt key (f key)
+      go true e g more = subst (λ q. HoldsAt q (f q)) (sym ((tuple_decides key k.key).0 e)) (with_key k.key (f k.key) i.0.0 (parameter_value_holds ss n ps size k (f k.key) h p i.0 v.0))
+      go false e g more = more g
 
-      values : (key : Tuple) → ForSome (at_key is.table key) (MemberHolds P)
-      values key m e =
-          let at : Contains is.table (key, m) = Contains-from_lookup (λ (s t : Tuple) f. (tuple_decides s t).0 f) key m is.table e in
-          let inside : IsTrue (has (keys_of is.keys) key) =
-          All-contains (λ (r : Tuple × Member). IsTrue (has (keys_of is.keys) r.0)) is.table (key, m) (All-from_recursion (λ (r : Tuple × Member). IsTrue (has (keys_of is.keys) r.0)) is.table is.only) at in
-          of_some (at_key is.table key) (value_at_holds ss n ps is.size is.table key is.keys k p keys is.values inside) m e
+  of_some : (key : Tuple) (o : Option Member) → HoldsAt key o → ForSome o (λ m. TupleHolds P key × MemberHolds P m)
+  of_some key None h m e = absurd (none_is m e)
+  of_some key (Some k) h m e = subst (λ l. TupleHolds P key × MemberHolds P l) (some_is k m e) h
+
+  parameter_holds : (w : World) (ss : List Statement) (n : Name) (b : Option Braces) (ps : List Phrase) (f : Tuple → Option Member) → WorldHolds P w → StatementsHold P ss → ForSome b (BracesHold P) → PhrasesHold P ps
+      → IsParameter w ss n b ps f → MeaningHolds P (ParameterOf f)
+  parameter_holds w ss n b ps f h k i p is key =
+      of_some key (f key) (value_at_holds ss n ps is.size f key is.keys k p (indexed_hold w b is.keys h i is.indexed) is.values (is.elsewhere key))
 
   -- ---- worlds
 
-  with_entry : (w : World) (n : Name) (x : Entry) → WorldHolds P w → EntryHolds P x → WorldHolds P (w ++ (n, x) ∷ [])
-  with_entry w n x h k = all_append (λ (y : Name × Entry). EntryHolds P y.1) w ((n, x) ∷ []) h (k, tt)
+  with_meaning : (w : World) (n : Name) (x : Meaning) → WorldHolds P w → MeaningHolds P x → WorldHolds P (w ++ (n, x) ∷ [])
+  with_meaning w n x h k = all_append (λ (y : Name × Meaning). MeaningHolds P y.1) w ((n, x) ∷ []) h (k, tt)
 
   bound_holds : (ss : List Statement) (before : World) (ds : List Declaration) (w : World) → StatementsHold P ss → WorldHolds P before → DeclarationsHold P ds → Binds ss before ds w → WorldHolds P w
   bound_holds ss before [] w h k i e = subst (WorldHolds P) (sym e) k
-  bound_holds ss before (set n ps ∷ ds) w h k i (d, ts, is, more) =
-      bound_holds ss (before ++ (n, Set d ts) ∷ []) ds w h (with_entry before n (Set d ts) k (set_holds before ss n ps d ts k h i.0 is)) i.1 more
-  bound_holds ss before (param n b ps ∷ ds) w h k i (x, is, more) =
-      bound_holds ss (before ++ (n, x) ∷ []) ds w h (with_entry before n x k (parameter_holds before ss n b ps x k h i.0.0 i.0.1 is)) i.1 more
+  bound_holds ss before (set n ps ∷ ds) w h k i (ts, is, more) =
+      bound_holds ss (before ++ (n, SetOf ts) ∷ []) ds w h (with_meaning before n (SetOf ts) k (set_holds before ss n ps ts k h i.0 is)) i.1 more
+  bound_holds ss before (param n b ps ∷ ds) w h k i (f, is, more) =
+      bound_holds ss (before ++ (n, ParameterOf f) ∷ []) ds w h (with_meaning before n (ParameterOf f) k (parameter_holds before ss n b ps f k h i.0.0 i.0.1 is)) i.1 more
   bound_holds ss before (check b x ∷ ds) w h k i (keys, is, all, more) = bound_holds ss before ds w h k i.1 more
   bound_holds ss before (node n b c ∷ ds) w h k i more = bound_holds ss before ds w h k i.1 more
   bound_holds ss before (arc n b ps ∷ ds) w h k i more = bound_holds ss before ds w h k i.1 more

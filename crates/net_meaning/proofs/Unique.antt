@@ -72,19 +72,19 @@ joins_unique f x Right h u v (inr (z, r, m)) (inr (a, s, n)) = makes_unique f x 
 
 -- ---- names
 
-some_is : {A : Type 0} (a b : A) → Some a ≡ Some b → a ≡ b
+pub some_is : {A : Type 0} (a b : A) → Some a ≡ Some b → a ≡ b
 some_is a b e = cc
 
 named_unique : (e : Env) (n : Name) (key : Tuple) → Unique (Denotes e n key)
 named_unique e n key u v (dummy m h) (dummy k i) = ap (λ z. One z) (some_is m k (sym h ∙ i))
-named_unique e n key u v (dummy m h) (a_set d ts i j) = cc
-named_unique e n key u v (dummy m h) (parameter k ks rows q l i j g) = cc
-named_unique e n key u v (a_set d ts i j) (dummy m h) = cc
-named_unique e n key u v (a_set d ts i j) (a_set c ss k l) = cc
-named_unique e n key u v (a_set d ts i j) (parameter k ks rows q l a b g) = cc
-named_unique e n key u v (parameter k ks rows q l i j g) (dummy m h) = cc
-named_unique e n key u v (parameter k ks rows q l i j g) (a_set d ts a b) = cc
-named_unique e n key u v (parameter k ks rows q l i j g) (parameter c cs others p m a b d) = cc
+named_unique e n key u v (dummy m h) (a_set ts i j) = cc
+named_unique e n key u v (dummy m h) (parameter f l k i j g) = cc
+named_unique e n key u v (a_set ts i j) (dummy m h) = cc
+named_unique e n key u v (a_set ts i j) (a_set us k l) = cc
+named_unique e n key u v (a_set ts i j) (parameter f l m a b g) = cc
+named_unique e n key u v (parameter f l m i j g) (dummy k h) = cc
+named_unique e n key u v (parameter f l m i j g) (a_set ts a b) = cc
+named_unique e n key u v (parameter f l m i j g) (parameter h o k a b c) = cc
 
 read_unique : (o : Option (Tuple → ℤ)) (key : Tuple) (P : Value → Type 0) → Unique P → (u v : Value) → IsArcOr o key u (P u) → IsArcOr o key v (P v) → u ≡ v
 read_unique None key P h u v p q = h u v p q
@@ -156,13 +156,13 @@ truth_same b c e = cc
 pub number_same : (n m : ℤ) → number n ≡ number m → n ≡ m
 number_same n m e = cc
 
-many_same : (ts us : List Tuple) → Many ts ≡ Many us → ts ≡ us
+pub many_same : (ts us : List Tuple) → Many ts ≡ Many us → ts ≡ us
 many_same ts us e = cc
 
-one_same : (m k : Member) → One m ≡ One k → m ≡ k
+pub one_same : (m k : Member) → One m ≡ One k → m ≡ k
 one_same m k e = cc
 
-zip_unique : {A B : Type 0} (R : A → B → Type 0) → ((a : A) → Unique (R a)) → (xs : List A) → Unique (AllZip R xs)
+pub zip_unique : {A B : Type 0} (R : A → B → Type 0) → ((a : A) → Unique (R a)) → (xs : List A) → Unique (AllZip R xs)
 zip_unique R h [] [] [] p q = refl
 zip_unique R h [] [] (b ∷ bs) p q = absurd q
 zip_unique R h [] (a ∷ az) bs p q = absurd p

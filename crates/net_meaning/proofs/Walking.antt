@@ -24,7 +24,8 @@ use Rattle.net_expr.proofs.Distinct.{IsLong}
 use Rattle.net_meaning.specs.Laws.{meaning_of}
 use Rattle.net_meaning.specs.Operators.{Value, One, Several, Many, IsTuple, HaveOneDimension}
 use Rattle.net_meaning.specs.Operators as meaning
-use Rattle.net_meaning.specs.Values.{env_with, Key, Whether, Filters, Continues, FromEach, Matches, MatchesWhole}
+use Rattle.net_meaning.specs.OfTrees.{env_with}
+use Rattle.net_meaning.specs.Values.{Key, Whether, Filters, Continues, FromEach, Matches, MatchesWhole}
 use Rattle.net_meaning.proofs.Giving.{gives_then, gives_any, gives_if, gives_as}
 
 abbrev no_key : Option Key

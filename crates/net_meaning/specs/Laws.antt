@@ -3,6 +3,10 @@ use Rattle.std.specs.Prelude.{◌≡◌, ℕ, Bool, true, List, map, None, Ok, O
 use Rattle.std.specs.List.{AllByRecursion}
 use Rattle.net_data.specs.declared.statement.Statement.{Statement}
 use Rattle.net_sets.specs.Sets.{Tuple}
+use Rattle.net_tree.specs.declared.role.Begins.TheVariants as begins
+use Rattle.net_tree.specs.declared.role.Relation.TheVariants as relations
+use Rattle.net_tree.specs.declared.role.Role.{Role}
+use Rattle.net_tree.specs.declared.role.Role.TheVariants as roles
 use Rattle.net_tree.specs.Syntax as forms
 use Rattle.net_tree.specs.Tree.{Tree, Links, Part, Braces, leaf, indexed, parens, tuple, negated, braced, signed, reduced, chain, choice, net, none, link, absent, part, empty, filled}
 use Rattle.net_expr.specs.declared.row.Keys.{Keys}
@@ -11,13 +15,14 @@ use Rattle.net_expr.specs.declared.value.Value.{Value as Found}
 use Rattle.net_expr.specs.declared.value.Value.TheVariants as found
 use Rattle.net_expr.specs.SetValues.{HasSets}
 use Rattle.net_expr.specs.Values.{value, index}
-use Rattle.net_expr.specs.Worlds.{Name, World, Scope}
+use Rattle.net_expr.specs.Worlds as code
+use Rattle.net_expr.specs.Worlds.{Name, Scope}
 use Rattle.net_meaning.specs.Operators.{Value, One, Several, Many, Truth}
 use Rattle.net_meaning.specs.Network.{Node, Arc, Network, IsNetwork}
-use Rattle.net_meaning.specs.OfTrees.{IsValue, AreKeys}
+use Rattle.net_meaning.specs.OfTrees.{env_of, env_with, IsValue, AreKeys}
 use Rattle.net_meaning.specs.Texts.{ValueHolds, WorldHolds, EnvHolds, KeysHold, ExpressionHolds, BracesHold, DeclarationsHold, StatementsHold, nodes_in, arcs_in, LabelHolds}
 use Rattle.net_meaning.specs.Values as values
-use Rattle.net_meaning.specs.Values.{Env, Key, env_with, env_of}
+use Rattle.net_meaning.specs.Values.{World, Env, Key}
 use Rattle.net_meaning.specs.World.{IsWorld}
 
 -- the value of the evaluator as a value of these definitions, in which a set is its list of tuples, without a dimension
@@ -56,15 +61,15 @@ abbrev mutual
 
 -- the same in an environment with arcs and a net inflow, for an expression that names neither
 abbrev pub EvaluationIsSoundWith : Type 0
-EvaluationIsSoundWith = (arcs : Name → Option (Tuple → ℤ)) (y : ℤ) (w : World) (s : Scope) (t : Tree) (v : Found) → HasSets w → IsArcFree arcs y t → value w s t ≡ Ok v → IsValue (env_with arcs y w s) t (meaning_of v)
+EvaluationIsSoundWith = (arcs : Name → Option (Tuple → ℤ)) (y : ℤ) (w : code.World) (s : Scope) (t : Tree) (v : Found) → HasSets w → IsArcFree arcs y t → value w s t ≡ Ok v → IsValue (env_with arcs y w s) t (meaning_of v)
 
 -- if the evaluator computes a value of an expression, the expression has this value; the declared sets of the world have to be sets
 abbrev pub EvaluationIsSound : Type 0
-EvaluationIsSound = (w : World) (s : Scope) (t : Tree) (v : Found) → HasSets w → value w s t ≡ Ok v → IsValue (env_of w s) t (meaning_of v)
+EvaluationIsSound = (w : code.World) (s : Scope) (t : Tree) (v : Found) → HasSets w → value w s t ≡ Ok v → IsValue (env_of w s) t (meaning_of v)
 
 -- if the evaluator computes the keys of an indexing expression, these are its keys
 abbrev pub KeysAreSound : Type 0
-KeysAreSound = (w : World) (s : Scope) (b : Braces) (k : Keys) → HasSets w → index w s b ≡ Ok k → AreKeys (env_of w s) b (map (λ (r : Row). record { key = r.key; env = env_of w r.scope }) k.rows)
+KeysAreSound = (w : code.World) (s : Scope) (b : Braces) (k : Keys) → HasSets w → index w s b ≡ Ok k → AreKeys (env_of w s) b (map (λ (r : Row). record { key = r.key; env = env_of w r.scope }) k.rows)
 
 -- an expression has at most one value
 abbrev pub ValuesAreUnique : Type 0
@@ -73,6 +78,22 @@ ValuesAreUnique = (e : Env) (x : forms.Expression) (u v : Value) → values.IsVa
 -- an indexing expression has at most one list of keys
 abbrev pub KeysAreUnique : Type 0
 KeysAreUnique = (e : Env) (b : forms.Braces) (ks js : List Key) → values.AreKeys e b ks → values.AreKeys e b js → ks ≡ js
+
+-- a phrase of a set, as the grammar has it
+abbrev pub IsSetPhrase : Role → forms.Body → Type 0
+IsSetPhrase (roles.Phrase begins.Dimen) (forms.valued x) = ⊤
+IsSetPhrase (roles.Relation relations.Within) (forms.valued x) = ⊤
+IsSetPhrase roles.Becomes (forms.valued x) = ⊤
+IsSetPhrase _ _ = ⊥
+
+-- if the declaration declares a set, its phrases are those of a set
+abbrev pub HasSetPhrases : forms.Declaration → Type 0
+HasSetPhrases (forms.set n ps) = AllByRecursion (λ (p : forms.Phrase). IsSetPhrase p.word p.body) ps
+HasSetPhrases _ = ⊤
+
+-- declarations with data statements have at most one world
+abbrev pub WorldsAreUnique : Type 0
+WorldsAreUnique = (ds : List forms.Declaration) (ss : List Statement) (w u : World) → AllByRecursion HasSetPhrases ds → IsWorld ds ss w → IsWorld ds ss u → w ≡ u
 
 -- the text passes the test
 abbrev pub Passes : (List ℕ → Bool) → List ℕ → Type 0

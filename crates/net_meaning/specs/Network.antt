@@ -12,9 +12,9 @@ use Rattle.net_sets.specs.Sets.{Tuple, same_tuple}
 use Rattle.net_tree.specs.declared.operator.BinOp.{BinOp}
 use Rattle.net_tree.specs.Phrases.{is_at_least, is_at_most, is_from, is_to}
 use Rattle.net_tree.specs.Syntax.{Expression, Expressions, leaf, indexed, Clause, absent, present, Braces, Body, plain, valued, priced, Phrase, Condition, unsaid, one, between, Declaration, set, param, node, arc, objective}
-use Rattle.net_expr.specs.Worlds.{Name, World}
+use Rattle.net_expr.specs.Worlds.{Name}
 use Rattle.net_meaning.specs.Operators.{Value, Truth, number, IsResult}
-use Rattle.net_meaning.specs.Values.{Env, Key, env_of, IsValue, AreValues, AreMembers}
+use Rattle.net_meaning.specs.Values.{World, Env, Key, env_of, IsValue, AreValues, AreMembers}
 use Rattle.net_meaning.specs.World.{phrase_value, AreIndexed}
 
 -- ---- nodes and arcs

@@ -1,9 +1,9 @@
--- For the proofs about the code, which works on syntax trees: what Values, World and Network say of the abstract syntax of a tree. An auditor
--- need not read this file.
-use Rattle.std.specs.Prelude.{ℕ, Bool, List, [], ◌∷◌, map, Option, if◌then◌else◌, option_map, ℤ}
+-- For the proofs about the code, which works on syntax trees and on a world with tables: what Values, World and Network say of the abstract syntax
+-- of a tree, in the world that is meant. An auditor need not read this file.
+use Rattle.std.specs.Prelude.{◌≡◌, ℕ, Bool, List, [], ◌∷◌, map, Option, if◌then◌else◌, option_map, ℤ}
 use Rattle.net_data.specs.declared.statement.Statement.{Statement}
 use Rattle.net_sets.specs.declared.member.Member.{Member}
-use Rattle.net_sets.specs.Sets.{Tuple}
+use Rattle.net_sets.specs.Sets.{Tuple, at_key}
 use Rattle.net_tree.specs.declared.operator.OperatorWords.{OperatorWords as Operator}
 use Rattle.net_tree.specs.declared.role.Role.{Role}
 use Rattle.net_tree.specs.Erasure as erased
@@ -12,13 +12,31 @@ use Rattle.net_tree.specs.Operations.{operation}
 use Rattle.net_tree.specs.Tree.{Tree, Links, Part, Braces, Body, Phrase, Condition, Declaration}
 use Rattle.net_lex.specs.declared.token.Token.{Token}
 use Rattle.net_expr.specs.declared.world.Entry.{Entry}
-use Rattle.net_expr.specs.Worlds.{Name, World}
+use Rattle.net_expr.specs.declared.world.Entry.TheVariants.{Set, Parameter}
+use Rattle.net_expr.specs.Worlds.{Name, World, Scope}
 use Rattle.net_meaning.specs.Operators.{Value}
 use Rattle.net_meaning.specs.Values as values
-use Rattle.net_meaning.specs.Values.{Env, Key}
+use Rattle.net_meaning.specs.Values.{Meaning, SetOf, ParameterOf, Env, Key}
 use Rattle.net_meaning.specs.World as world
 use Rattle.net_meaning.specs.Network as network
 use Rattle.net_meaning.specs.Network.{Node, Arc, Objective, Network}
+
+-- ---- the code's world
+
+-- the meaning of an entry: not the dimension of a set, and of a parameter neither the number of its subscripts nor its keys, nor the order of its table
+abbrev pub meant_entry : Entry → Meaning
+meant_entry (Set d ts) = SetOf ts
+meant_entry (Parameter count keys table) = ParameterOf (at_key table)
+
+-- the world that is meant
+abbrev pub meant_world : World → values.World
+meant_world w = map (λ (x : Name × Entry). (x.0, meant_entry x.1)) w
+
+abbrev pub env_of : World → Scope → Env
+env_of w s = values.env_of (meant_world w) s
+
+abbrev pub env_with : (Name → Option (Tuple → ℤ)) → ℤ → World → Scope → Env
+env_with arcs y w s = values.env_with arcs y (meant_world w) s
 
 -- ---- values
 
@@ -76,13 +94,13 @@ AllAgree k l = values.AllAgree k (expressions l)
 -- ---- worlds
 
 abbrev pub AreIndexed : World → Option Braces → List Key → Type 0
-AreIndexed w b = world.AreIndexed w (indexing b)
+AreIndexed w b = world.AreIndexed (meant_world w) (indexing b)
 
 abbrev pub SatisfiesRole : World → ℕ → List Tuple → Role → Tree → Type 0
-SatisfiesRole w d ts r x = world.SatisfiesRole w d ts r (expression x)
+SatisfiesRole w d ts r x = world.SatisfiesRole (meant_world w) d ts r (expression x)
 
-abbrev pub IsSet : World → List Statement → Name → List Phrase → ℕ → List Tuple → Type 0
-IsSet w ss n ps = world.IsSet w ss n (map erased.phrase ps)
+abbrev pub IsSet : World → List Statement → Name → List Phrase → List Tuple → Type 0
+IsSet w ss n ps = world.IsSet (meant_world w) ss n (map erased.phrase ps)
 
 abbrev pub IsParameterValue : List Statement → Name → List Phrase → ℕ → Key → Option Member → Type 0
 IsParameterValue ss n ps = world.IsParameterValue ss n (map erased.phrase ps)
@@ -91,10 +109,10 @@ abbrev pub IsOfKind : List Phrase → Member → Type 0
 IsOfKind ps = world.IsOfKind (map erased.phrase ps)
 
 abbrev pub IsParameter : World → List Statement → Name → Option Braces → List Phrase → Entry → Type 0
-IsParameter w ss n b ps = world.IsParameter w ss n (indexing b) (map erased.phrase ps)
+IsParameter w ss n b ps x = (f : Tuple → Option Member) × (meant_entry x ≡ ParameterOf f) × world.IsParameter (meant_world w) ss n (indexing b) (map erased.phrase ps) f
 
 abbrev pub Binds : List Statement → World → List Declaration → World → Type 0
-Binds ss before ds = world.Binds ss before (declarations ds)
+Binds ss before ds w = world.Binds ss (meant_world before) (declarations ds) (meant_world w)
 
 abbrev pub sets_in : List Declaration → List Name
 sets_in ds = world.sets_in (declarations ds)
@@ -106,7 +124,7 @@ abbrev pub AreDeclared : List Declaration → Statement → Type 0
 AreDeclared ds = world.AreDeclared (declarations ds)
 
 abbrev pub IsWorld : List Declaration → List Statement → World → Type 0
-IsWorld ds = world.IsWorld (declarations ds)
+IsWorld ds ss w = world.IsWorld (declarations ds) ss (meant_world w)
 
 -- ---- networks
 
@@ -132,22 +150,22 @@ abbrev pub IsNode : Token → Option Braces → Condition → Key → Node → T
 IsNode n b c = network.IsNode n.text (indexing b) (erased.condition c)
 
 abbrev pub AreNodesOf : World → Declaration → List Node → Type 0
-AreNodesOf w d = network.AreNodesOf w (declaration d)
+AreNodesOf w d = network.AreNodesOf (meant_world w) (declaration d)
 
 abbrev pub AreArcsOf : Name → World → Declaration → List Arc → Type 0
-AreArcsOf n w d = network.AreArcsOf n w (declaration d)
+AreArcsOf n w d = network.AreArcsOf n (meant_world w) (declaration d)
 
 abbrev pub entries_after : ℕ → Declaration → ℕ
 entries_after k d = network.entries_after k (declaration d)
 
 abbrev pub objectives : World → ℕ → List Name → List Declaration → List Objective
-objectives w k before ds = network.objectives w k before (declarations ds)
+objectives w k before ds = network.objectives (meant_world w) k before (declarations ds)
 
 abbrev pub IsObjective : Option Name → World → List Declaration → Objective → Type 0
-IsObjective requested w ds = network.IsObjective requested w (declarations ds)
+IsObjective requested w ds = network.IsObjective requested (meant_world w) (declarations ds)
 
 abbrev pub IsNetwork : Option Name → World → List Declaration → Network → Type 0
-IsNetwork requested w ds = network.IsNetwork requested w (declarations ds)
+IsNetwork requested w ds = network.IsNetwork requested (meant_world w) (declarations ds)
 
 abbrev pub Compares : Env → Tree → Operator → Tree → Type 0
 Compares e x o z = network.Compares e (expression x) (operation o) (expression z)

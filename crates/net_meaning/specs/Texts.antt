@@ -10,16 +10,14 @@ use Rattle.net_data.specs.declared.statement.Statement.{Statement}
 use Rattle.net_data.specs.declared.statement.Statement.TheVariants as statements
 use Rattle.net_sets.specs.declared.member.Member.{Member}
 use Rattle.net_sets.specs.declared.member.Member.TheVariants as member
-use Rattle.net_sets.specs.Sets.{Tuple, at_key}
+use Rattle.net_sets.specs.Sets.{Tuple}
 use Rattle.net_sets.specs.Texts.{text_of}
 use Rattle.net_tree.specs.Syntax.{Expression, Expressions, Operands, Clause, Braces, leaf, indexed, parens, tuple, negated, braced, signed, reduced, chain, conditional, net, no_more, more, none, apply, absent, present, empty, filled, Body, plain, valued, priced, Phrase, Condition, unsaid, one, between, Declaration, set, param, check, node, arc, objective}
 use Rattle.net_expr.specs.declared.scope.Binding.{Binding}
-use Rattle.net_expr.specs.declared.world.Entry.{Entry}
-use Rattle.net_expr.specs.declared.world.Entry.TheVariants.{Set, Parameter}
-use Rattle.net_expr.specs.Worlds.{Name, World, Scope}
+use Rattle.net_expr.specs.Worlds.{Name, Scope}
 use Rattle.net_meaning.specs.Operators.{Value, One, Several, Many, Truth}
 use Rattle.net_meaning.specs.Network.{Label}
-use Rattle.net_meaning.specs.Values.{Env, Key}
+use Rattle.net_meaning.specs.Values.{Meaning, SetOf, ParameterOf, World, Env, Key}
 
 -- ---- values and environments
 
@@ -40,13 +38,13 @@ ValueHolds P (Several t) = TupleHolds P t
 ValueHolds P (Many ts) = TuplesHold P ts
 ValueHolds P (Truth b) = ⊤
 
--- the members of a set; the keys of a parameter, and its value at each key
-abbrev pub EntryHolds : (List ℕ → Type 0) → Entry → Type 0
-EntryHolds P (Set d ts) = TuplesHold P ts
-EntryHolds P (Parameter k keys rows) = TuplesHold P keys × ((key : Tuple) → ForSome (at_key rows key) (MemberHolds P))
+-- the members of a set; the keys at which a parameter has a value, and these values
+abbrev pub MeaningHolds : (List ℕ → Type 0) → Meaning → Type 0
+MeaningHolds P (SetOf ts) = TuplesHold P ts
+MeaningHolds P (ParameterOf f) = (key : Tuple) → ForSome (f key) (λ m. TupleHolds P key × MemberHolds P m)
 
 abbrev pub WorldHolds : (List ℕ → Type 0) → World → Type 0
-WorldHolds P w = AllByRecursion (λ (x : Name × Entry). EntryHolds P x.1) w
+WorldHolds P w = AllByRecursion (λ (x : Name × Meaning). MeaningHolds P x.1) w
 
 -- the members of dummy indices
 abbrev pub ScopeHolds : (List ℕ → Type 0) → Scope → Type 0

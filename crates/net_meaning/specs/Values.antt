@@ -5,7 +5,7 @@
 -- Other files use `IsValue` and `AreKeys`, at the end; what precedes them are their parts. For example, {(i, 2) in L, j in B : j > i}, where L has
 -- (1, 2) and (1, 3), and B has 1 and 5: with (1, 2) the first item extends the empty key to (1), where i is 1, and it passes over (1, 3) (`Extends`).
 -- The second extends (1) to (1, 1) and (1, 5), where j is 1 and 5 (`Iterates`). The condition keeps (1, 5) (`Filters`).
-use Rattle.std.specs.Prelude.{◌≡◌, ◌⊎◌, ◌+◌, ◌&&◌, ℕ, Bool, true, false, not, List, [], ◌∷◌, ◌++◌, map, length, Option, None, Some, if◌then◌else◌, ⊤, ℤ, pos}
+use Rattle.std.specs.Prelude.{◌≡◌, ◌⊎◌, ◌+◌, ◌&&◌, ◌||◌, ℕ, Bool, true, false, not, List, [], ◌∷◌, ◌++◌, map, length, Option, None, Some, is_some, if◌then◌else◌, ⊤, ℤ, pos}
 use Rattle.std.specs.List.{AllZip}
 use Rattle.net_lex.specs.Limits.{limits}
 use Rattle.net_lex.specs.Numerals.{IsValue as IsNumeral}
@@ -13,16 +13,25 @@ use Rattle.net_lex.specs.declared.token.Kind.{Kind}
 use Rattle.net_lex.specs.declared.token.Kind.TheVariants as kinds
 use Rattle.net_sets.specs.declared.member.Member.{Member}
 use Rattle.net_sets.specs.declared.member.Member.TheVariants as member
+use Rattle.net_sets.specs.Names.{named}
 use Rattle.net_sets.specs.Operations.{union}
-use Rattle.net_sets.specs.Sets.{Tuple, same_member, same_tuple, at_key}
+use Rattle.net_sets.specs.Sets.{Tuple, same_member, same_tuple}
 use Rattle.net_sets.specs.Texts.{text_of}
 use Rattle.net_tree.specs.Items.{is_in}
 use Rattle.net_tree.specs.Operations.{is_range}
 use Rattle.net_tree.specs.Syntax.{Expression, Expressions, Operands, Clause, Braces, leaf, indexed, parens, tuple, negated, braced, signed, reduced, chain, conditional, net, no_more, more, none, apply, absent, present, empty, filled}
-use Rattle.net_expr.specs.declared.world.Entry.TheVariants.{Set, Parameter}
 use Rattle.net_expr.specs.Numbers.{turned}
-use Rattle.net_expr.specs.Worlds.{Name, World, Scope, entry_of, bound, is_known, with_dummy}
+use Rattle.net_expr.specs.Worlds.{Name, Scope, bound, with_dummy}
 use Rattle.net_meaning.specs.Operators.{Value, One, Several, Many, Truth, number, IsTuple, HaveOneDimension, Reduces, IsRangeOf, Combines}
+
+-- what a declared name denotes: a set, by its tuples, or a parameter, by its value at each key; at any other tuple a parameter has no value (None)
+pub data Meaning : Type 0 where
+  SetOf : List Tuple → Meaning
+  ParameterOf : (Tuple → Option Member) → Meaning
+
+-- the declared sets and parameters, in order
+abbrev pub World : Type 0
+World = List (Name × Meaning)
 
 -- what names denote at a place: declared sets and parameters, dummy indices with their members, the flows of arcs in an objective, and the
 -- net inflow in a node's condition
@@ -50,9 +59,8 @@ Whether false P Q = Q
 -- or parameter (`new_dummy`).
 pub data Denotes (e : Env) (n : Name) : Tuple → Value → Type 0 where
   dummy : (m : Member) → bound e.dummies n ≡ Some m → Denotes e n [] (One m)
-  a_set : (d : ℕ) (ts : List Tuple) → bound e.dummies n ≡ None → entry_of e.world n ≡ Some (Set d ts) → Denotes e n [] (Many ts)
-  parameter : (k : Option ℕ) (keys : List Tuple) (rows : List (Tuple × Member)) (key : Tuple) (m : Member) → bound e.dummies n ≡ None
-      → entry_of e.world n ≡ Some (Parameter k keys rows) → at_key rows key ≡ Some m → Denotes e n key (One m)
+  a_set : (ts : List Tuple) → bound e.dummies n ≡ None → named e.world n ≡ Some (SetOf ts) → Denotes e n [] (Many ts)
+  parameter : (f : Tuple → Option Member) (key : Tuple) (m : Member) → bound e.dummies n ≡ None → named e.world n ≡ Some (ParameterOf f) → f key ≡ Some m → Denotes e n key (One m)
 
 -- extends a key by a member, to which a new dummy index refers from there on
 abbrev pub bind : Name → Member → Key → Key
@@ -124,9 +132,13 @@ abbrev pub is_name : Kind → Bool
 is_name kinds.Name = true
 is_name _ = false
 
+-- the name of a declared set or parameter, or of a dummy index
+abbrev pub is_known : Env → Name → Bool
+is_known e n = is_some (bound e.dummies n) || is_some (named e.world n)
+
 -- the name of a new dummy index: a name alone that is neither declared nor a dummy index
 abbrev pub new_dummy : Env → Expression → Option Name
-new_dummy e (leaf t) = if is_name t.kind && not (is_known e.world e.dummies t.text) then Some t.text else None
+new_dummy e (leaf t) = if is_name t.kind && not (is_known e t.text) then Some t.text else None
 new_dummy e _ = None
 
 -- the set of an item: the one after `in`, or the item itself (`Own v`: the item's expression has the value v)

@@ -16,8 +16,8 @@ use Rattle.net_data.specs.declared.statement.Statement.TheVariants as statements
 use Rattle.net_data.specs.Rows.{DataRow, groups, rows, set_rows, key_rows}
 use Rattle.net_sets.specs.declared.member.Member.{Member}
 use Rattle.net_sets.specs.declared.member.Member.TheVariants as member
-use Rattle.net_sets.specs.Operations.{union, is_within}
-use Rattle.net_sets.specs.Sets.{Tuple, same_tuple, has, at_key}
+use Rattle.net_sets.specs.Operations.{is_within}
+use Rattle.net_sets.specs.Sets.{Tuple, same_tuple, has}
 use Rattle.net_sets.specs.Texts.{text_of}
 use Rattle.net_tree.specs.declared.operator.BinOp.{BinOp}
 use Rattle.net_tree.specs.declared.operator.BinOp.TheVariants as op
@@ -27,11 +27,9 @@ use Rattle.net_tree.specs.declared.role.Role.{Role}
 use Rattle.net_tree.specs.declared.role.Role.TheVariants as roles
 use Rattle.net_tree.specs.Phrases.{is_becomes, is_default}
 use Rattle.net_tree.specs.Syntax.{Expression, Braces, Body, plain, valued, priced, Phrase, Declaration, set, param, check, node, arc, objective}
-use Rattle.net_expr.specs.declared.world.Entry.{Entry}
-use Rattle.net_expr.specs.declared.world.Entry.TheVariants.{Set, Parameter}
-use Rattle.net_expr.specs.Worlds.{Name, World}
+use Rattle.net_expr.specs.Worlds.{Name}
 use Rattle.net_meaning.specs.Operators.{Value, One, Many, Truth, number, IsResult}
-use Rattle.net_meaning.specs.Values.{Whether, Env, Key, start, env_of, IsValue, AreKeys}
+use Rattle.net_meaning.specs.Values.{World, SetOf, ParameterOf, Whether, Env, Key, start, env_of, IsValue, AreKeys}
 
 -- ---- phrases of declarations
 
@@ -148,13 +146,15 @@ abbrev pub AreGivenMembers : List Statement → Name → ℕ → List Tuple → 
 AreGivenMembers ss n d ts (Some x) = mentions n ss ≡ 0
 AreGivenMembers ss n d ts None = (mentions n ss ≡ 1) × AllByRecursion (HasWholeRows d n) ss × AllZip AreDataValues (flat_map (set_rows_of d n) ss) ts
 
-pub record IsSet (w : World) (ss : List Statement) (n : Name) (ps : List Phrase) (d : ℕ) (ts : List Tuple) : Type 0 where
+-- ts are the members of the set n with phrases ps, in the world w of the declarations before it
+pub record IsSet (w : World) (ss : List Statement) (n : Name) (ps : List Phrase) (ts : List Tuple) : Type 0 where
+  pub dimension : ℕ
   pub distinct : IsDistinct same_tuple ts
-  pub lengths : AllByRecursion (λ t. length t ≡ d) ts
+  pub lengths : AllByRecursion (λ t. length t ≡ dimension) ts
   -- a declaration without phrases declares a set of dimension 1
-  pub dimension : ps ≡ [] → d ≡ 1
-  pub phrases : AllByRecursion (Satisfies w d ts) ps
-  pub members : AreGivenMembers ss n d ts (phrase_value is_becomes ps)
+  pub single : ps ≡ [] → dimension ≡ 1
+  pub phrases : AllByRecursion (Satisfies w dimension ts) ps
+  pub members : AreGivenMembers ss n dimension ts (phrase_value is_becomes ps)
 
 -- ---- parameters
 
@@ -209,28 +209,19 @@ abbrev pub IsOfKind : List Phrase → Member → Type 0
 IsOfKind ps (member.Number n) = ⊤
 IsOfKind ps (member.Name t) = IsTrue (list_any (λ (p : Phrase). is_symbolic_word p.word) ps)
 
--- the number of subscripts; None for a parameter without an indexing expression
-abbrev pub key_count : Option Braces → ℕ → Option ℕ
-key_count None size = None
-key_count (Some b) size = Some size
-
 -- the keys without their environments
 abbrev pub keys_of : List Key → List Tuple
 keys_of keys = map (λ k. k.key) keys
 
--- the entry x of a parameter n with indexing expression b and phrases ps, in the world w of the declarations before it. `union []` removes
--- repeated keys. If there are no keys, the size is open; the order of the table always is: no value depends on them.
-pub record IsParameter (w : World) (ss : List Statement) (n : Name) (b : Option Braces) (ps : List Phrase) (x : Entry) : Type 0 where
+-- f gives the values of the parameter n with indexing expression b and phrases ps, in the world w of the declarations before it
+pub record IsParameter (w : World) (ss : List Statement) (n : Name) (b : Option Braces) (ps : List Phrase) (f : Tuple → Option Member) : Type 0 where
   pub keys : List Key
-  pub size : ℕ
-  pub table : List (Tuple × Member)
   pub indexed : AreIndexed w b keys
+  pub size : ℕ
   pub lengths : AllByRecursion (λ (k : Key). length k.key ≡ size) keys
-  pub entry : x ≡ Parameter (key_count b size) (union [] (keys_of keys)) table
-  pub values : AllByRecursion (λ (k : Key). IsParameterValue ss n ps size k (at_key table k.key)) keys
-  -- the table has no other keys
-  pub only : AllByRecursion (λ (r : Tuple × Member). IsTrue (has (keys_of keys) r.0)) table
-  pub fits : AllByRecursion (λ (k : Key). ForSome (at_key table k.key) (λ m. AllByRecursion (Fits k.env m) ps × IsOfKind ps m)) keys
+  pub values : AllByRecursion (λ (k : Key). IsParameterValue ss n ps size k (f k.key)) keys
+  pub elsewhere : (t : Tuple) → has (keys_of keys) t ≡ false → f t ≡ None
+  pub fits : AllByRecursion (λ (k : Key). ForSome (f k.key) (λ m. AllByRecursion (Fits k.env m) ps × IsOfKind ps m)) keys
   -- each row of the data is whole and for one of the keys, and no key has two rows
   pub whole : AllByRecursion (HasWholeRows size n) ss
   pub subscripts : List Tuple
@@ -246,8 +237,8 @@ pub record IsParameter (w : World) (ss : List Statement) (n : Name) (b : Option 
 -- the declarations in order, each in the world of those before it; a `check` is true at each of its keys
 abbrev pub Binds : List Statement → World → List Declaration → World → Type 0
 Binds ss before [] w = w ≡ before
-Binds ss before (set n ps ∷ ds) w = (d : ℕ) × (ts : List Tuple) × IsSet before ss n ps d ts × Binds ss (before ++ (n, Set d ts) ∷ []) ds w
-Binds ss before (param n b ps ∷ ds) w = (x : Entry) × IsParameter before ss n b ps x × Binds ss (before ++ (n, x) ∷ []) ds w
+Binds ss before (set n ps ∷ ds) w = (ts : List Tuple) × IsSet before ss n ps ts × Binds ss (before ++ (n, SetOf ts) ∷ []) ds w
+Binds ss before (param n b ps ∷ ds) w = (f : Tuple → Option Member) × IsParameter before ss n b ps f × Binds ss (before ++ (n, ParameterOf f) ∷ []) ds w
 Binds ss before (check b x ∷ ds) w = (keys : List Key) × AreIndexed before b keys × AllByRecursion (λ (k : Key). IsValue k.env x (Truth true)) keys × Binds ss before ds w
 Binds ss before (d ∷ ds) w = Binds ss before ds w
 
