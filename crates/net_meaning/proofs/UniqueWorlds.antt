@@ -50,7 +50,7 @@ data_values_unique ts = zip_unique IsDataValue data_value_unique ts
 abbrev HasKey : DataRow → Tuple → Type 0
 HasKey r key = AreDataValues r.keys key
 
--- no row has a key that is none of these
+-- if a key differs from those of the rows, no row has it
 no_later : (rows : List DataRow) (keys : List Tuple) (key : Tuple) → AllZip HasKey rows keys → AllByRecursion (λ t. same_tuple key t ≡ false) keys → (r : DataRow) → Contains rows r → HasKey r key → ⊥
 no_later [] keys key z d r (i, l, e) h = omega (arith, l)
 no_later (x ∷ rows) [] key z d r at h = absurd z
@@ -58,7 +58,7 @@ no_later (x ∷ rows) (k ∷ keys) key z d r (zero, l, e) h =
     let same : key ≡ k = data_values_unique r.keys key k h (subst (λ q. HasKey q k) e z.0) in absurd (true≢false (sym ((tuple_decides key k).1 same) ∙ d.0))
 no_later (x ∷ rows) (k ∷ keys) key z d r (suc i, l, e) h = no_later rows keys key z.1 d.1 r (i, omega (arith, l), e) h
 
--- rows with different keys have a key once
+-- if the rows have distinct keys, at most one has this key
 rows_once : (key : Tuple) (rows : List DataRow) (keys : List Tuple) → AllZip HasKey rows keys → IsDistinct same_tuple keys → (r q : DataRow) → Contains rows r → Contains rows q → HasKey r key → HasKey q key → r ≡ q
 unfolding IsDistinct
 rows_once key [] keys z d r q (i, l, e) at h j = absurd (omega (arith, l))
@@ -86,7 +86,7 @@ none_within : (ts : List Tuple) → IsTrue (is_within ts []) → ts ≡ []
 none_within [] h = refl
 none_within (t ∷ ts) h = cc
 
--- two sets with these dimensions are empty, or the dimensions are equal
+-- the dimensions are equal, or both sets are empty
 abbrev Meet : ℕ → ℕ → List Tuple → List Tuple → Type 0
 Meet d e ts us = (d ≡ e) ⊎ ((ts ≡ []) × (us ≡ []))
 
