@@ -50,12 +50,16 @@ named_as word p = record { word = word; keys = p.keys; index = p.index }
 abbrev pub with_value : Language → Span → Tuple → Member → Table → Outcome Table
 with_value text at key m t = if nat_lt (length t) tuples_limit then Ok (t ++ (key, m) ∷ []) else rejected_as text TooMany at Nothing
 
--- adds a row; its key must be in the index set and have no value yet
+-- adds a value for a key that begins at a position; it must be in the index set and have no value yet
+abbrev pub with_key : NamedParameter → Span → Tuple → Token → Taken → Outcome Taken
+with_key p at key value t =
+    if is_some (at_key t.0 key) then rejected_as Data DoubleValue at (reference p.word.text p.keys key)
+    else if has p.index key then and_then (with_value Data at key (member_in value) t.0) (λ u. Ok (u, t.1 ++ value.span ∷ []))
+    else rejected_as Data OutsideSet at (reference p.word.text p.keys key)
+
+-- adds a row
 abbrev pub with_row : NamedParameter → List Token → Token → Taken → Outcome Taken
-with_row p key value t =
-    if is_some (at_key t.0 (tuple_in key)) then rejected_as Data DoubleValue (begins_at value.span key) (reference p.word.text p.keys (tuple_in key))
-    else if has p.index (tuple_in key) then and_then (with_value Data (begins_at value.span key) (tuple_in key) (member_in value) t.0) (λ u. Ok (u, t.1 ++ value.span ∷ []))
-    else rejected_as Data OutsideSet (begins_at value.span key) (reference p.word.text p.keys (tuple_in key))
+with_row p key value t = with_key p (begins_at value.span key) (tuple_in key) value t
 
 -- adds a cell with a value; a missing-value dot gives none
 abbrev pub with_cell : NamedParameter → List Token → Option Token → Taken → Outcome Taken

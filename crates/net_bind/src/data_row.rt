@@ -1,6 +1,6 @@
 //! Rows of a parameter's data, each a key and its value.
 
-ghost use Rattle.std.specs.Prelude.{◌≡◌, ◌+◌, [], IfOk, None, Some, slice_get};
+ghost use Rattle.std.specs.Prelude.{◌≡◌, ◌+◌, [], ◌∷◌, IfOk, None, Some, slice_get};
 ghost use Rattle.std.specs.Option.{option_copied};
 ghost use Rattle.net_base.specs.declared.error_code.ErrorCode.TheVariants.{TooMany};
 ghost use Rattle.net_base.specs.declared.diagnostic.Fault.TheVariants.{At};
@@ -11,7 +11,7 @@ ghost use Rattle.net_bind.specs.ParameterViews.{named_of};
 ghost use Rattle.net_bind.specs.Rows as rows;
 ghost use Rattle.net_base.specs.Outcomes.{Updates, each, bare, diagnostic_at};
 
-use crate::cell::{member_in, tuple_in};
+use crate::cell::{KeyWord, member_in, pair_in, tuple_in};
 use crate::cell_group::{begins_at, front, is_point};
 use crate::given::Line;
 use net_base::{Detail, ErrorCode, Fault, Items, Language, Span};
@@ -111,35 +111,34 @@ fn too_many(text: Language, at: Span) -> Fault
     Fault::of_text(text, ErrorCode::TooMany, at, Detail::Nothing)
 }
 
-/// Adds a row; its key must be in the index set and have no value yet.
-fn with_row<'s>(
+/// Adds a value for a key that begins at `at`; it must be in the index set and have no value yet.
+fn with_key<'s>(
     alloc: Global,
     parameter: &NamedParameter<'_, '_, 's>,
-    cells: &[Word<'_, 's>],
+    at: Span,
+    key: &Tuple<'s>,
     value: &Word<'_, 's>,
     values: &mut Values<'s>,
 ) -> Result<(), Fault>
-    ensures { Updates (rows.with_row (named_of parameter.now) cells.now value.now values.old) result values.new }
+    ensures { Updates (rows.with_key (named_of parameter.now) at key.now value.now values.old) result values.new }
 {
-    let key = tuple_in(cells);
-    let at = begins_at(value.span(), cells);
     let next = values.table.next();
-    let Some(near) = parameter.index.position_with_hint(next, &key) else {
-        let error_code = if values.table.get(&key).is_some() {
+    let Some(near) = parameter.index.position_with_hint(next, key) else {
+        let error_code = if values.table.get(key).is_some() {
             ErrorCode::DoubleValue
         } else {
             ErrorCode::OutsideSet
         };
-        return Err(reject_row(alloc, parameter, error_code, at, &key)?);
+        return Err(reject_row(alloc, parameter, error_code, at, key)?);
     };
-    match values.table.insert_new(near, &key, member_in(value)) {
+    match values.table.insert_new(near, key, member_in(value)) {
         Ok(true) => {
             values.places.push(value.span())?;
             Ok(())
         }
         Ok(false) => {
             let error_code = ErrorCode::DoubleValue;
-            Err(reject_row(alloc, parameter, error_code, at, &key)?)
+            Err(reject_row(alloc, parameter, error_code, at, key)?)
         }
         Err(SetFault::OutOfMemory) => Err(Fault::OutOfMemory),
         Err(SetFault::TooMany) => Err(too_many(Language::Data, at)),
@@ -160,7 +159,28 @@ pub(crate) fn with_cell<'s>(
     if is_point(value.kind()) {
         Ok(())
     } else {
-        with_row(alloc, parameter, cells, value, values)
+        let at = begins_at(value.span(), cells);
+        with_key(alloc, parameter, at, &tuple_in(cells), value, values)
+    }
+}
+
+/// Adds a cell with a value for a key of two members; a missing-value dot gives none.
+pub(crate) fn with_pair<'s>(
+    alloc: Global,
+    parameter: &NamedParameter<'_, '_, 's>,
+    first: &KeyWord<'_, 's>,
+    second: &KeyWord<'_, 's>,
+    value: &Word<'_, 's>,
+    values: &mut Values<'s>,
+) -> Result<(), Fault>
+    ensures { Updates (rows.with_cell (named_of parameter.now) (first.now ∷ second.now ∷ []) (Some value.now) values.old) result
+        values.new }
+{
+    if is_point(value.kind()) {
+        Ok(())
+    } else {
+        let key = pair_in(first, second);
+        with_key(alloc, parameter, first.span(), &key, value, values)
     }
 }
 
@@ -200,17 +220,17 @@ pub(crate) fn with_groups<'s>(
     Ok(())
 }
 
-/// Returns the key of a value in a table; `(tr)` puts the column's member first.
-pub(crate) fn pair_of<'t, 's>(
+/// Returns the tokens of a key in a table in order; `(tr)` puts the column's member first.
+pub(crate) fn pair_of<'c, 't, 's>(
     transposed: bool,
-    row: &Word<'t, 's>,
-    column: &Word<'t, 's>,
-) -> [Word<'t, 's>; 2]
-    ensures { result ≡ rows.pair_of transposed row.now column.now }
+    row: &'c KeyWord<'t, 's>,
+    column: &'c KeyWord<'t, 's>,
+) -> (&'c KeyWord<'t, 's>, &'c KeyWord<'t, 's>)
+    ensures { result.0.now ∷ result.1.now ∷ [] ≡ rows.pair_of transposed row.entry.now column.entry.now }
 {
     if transposed {
-        [column.copied(), row.copied()]
+        (column, row)
     } else {
-        [row.copied(), column.copied()]
+        (row, column)
     }
 }

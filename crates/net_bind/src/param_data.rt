@@ -1,40 +1,64 @@
 //! The data statements of a parameter.
 
-ghost use Rattle.std.specs.Prelude.{◌≡◌, [], None};
+ghost use Rattle.std.specs.Prelude.{◌≡◌, [], None, IfOk};
 ghost use Rattle.net_expr.specs.Worlds.{key_count};
 ghost use Rattle.net_bind.specs.declared.given.DataContent.TheVariants as given;
 ghost use Rattle.net_bind.specs.ParameterViews.{named_of, parameter_of};
 ghost use Rattle.net_bind.specs.Rows as rows;
 ghost use Rattle.net_base.specs.Outcomes.{Updates, each};
 
+use crate::cell::KeyWord;
 use crate::cell_group::whole_rows;
-use crate::data_row::{NamedParameter, Values, pair_of, with_cell, with_groups};
+use crate::data_row::{NamedParameter, Values, pair_of, with_groups, with_pair};
 use crate::given::{DataContent, Grid, Groups, Line, NamedData};
 use crate::parameter::Parameter;
 use crate::set_declaration::{agrees, doubled, leading_size};
 use net_base::Fault;
 use net_expr::key_count;
 use net_lex::Word;
-use std::alloc::Global;
+use std::alloc::{AllocError, Global};
+
+/// The heading of a table, with the members of its columns.
+#[derive(Drop)]
+struct Heading<'t, 's> {
+    /// Whether the column's member is the first in a key.
+    transposed: bool,
+    columns: Vec<KeyWord<'t, 's>>,
+}
+
+/// Returns the heading of a table. Fails only if memory runs out.
+fn heading_of<'t, 's>(alloc: Global, grid: &Grid<'_, 't, 's>) -> Result<Heading<'t, 's>, AllocError>
+    ensures transposed { IfOk result (λ h. h.transposed ≡ grid.now.transposed) }
+    ensures columns { IfOk result (λ h. h.columns.items ≡ grid.now.columns) }
+{
+    let mut columns = Vec::new(alloc);
+    for word in grid.columns.cells() {
+        columns.push(KeyWord::new(word))?;
+    }
+    Ok(Heading {
+        transposed: grid.transposed,
+        columns,
+    })
+}
 
 /// Adds the cells of a row in a table, column by column.
-fn across<'t, 's>(
+fn across<'c, 't, 's>(
     alloc: Global,
     parameter: &NamedParameter<'_, '_, 's>,
-    grid: &Grid<'_, 't, 's>,
-    row: &Word<'t, 's>,
+    heading: &'c Heading<'t, 's>,
+    row: &'c KeyWord<'t, 's>,
     cells: &[Word<'t, 's>],
     values: &mut Values<'s>,
 ) -> Result<(), Fault>
-    ensures { Updates (rows.across (named_of parameter.now) grid.now.transposed row.now grid.now.columns
+    ensures { Updates (rows.across (named_of parameter.now) heading.entry.now.transposed row.entry.now heading.entry.now.columns.items
         cells.now values.old) result values.new }
 {
-    for (place, column) in grid.columns.cells().iter().enumerate() {
+    for (place, column) in heading.columns.iter().enumerate() {
         let Some(cell) = cells.get(place) else {
             return Ok(());
         };
-        let key = pair_of(grid.transposed, row, column);
-        with_cell(alloc, parameter, &key, cell, values)?;
+        let (first, second) = pair_of(heading.transposed, row, column);
+        with_pair(alloc, parameter, first, second, cell, values)?;
     }
     Ok(())
 }
@@ -50,9 +74,11 @@ fn with_lines<'t, 's>(
     ensures { Updates (each (rows.with_line (named_of parameter.now) grid.now.transposed grid.now.columns)
         lines.now values.old) result values.new }
 {
+    let heading = heading_of(alloc, grid)?;
     for line in lines {
         if let [row, cells @ ..] = line.cells() {
-            across(alloc, parameter, grid, row, cells, values)?;
+            let row = KeyWord::new(row);
+            across(alloc, parameter, &heading, &row, cells, values)?;
         }
     }
     Ok(())

@@ -8,8 +8,8 @@ loop-place-preserved c = grind (arith, common_steps)
 pub returns : goal.returns
 returns c = grind (arith, common_steps)
 
-pub returns-in_err-with_cell : goal.returns-in_err-with_cell
-returns-in_err-with_cell c = grind (arith, common_steps)
+pub returns-in_err-with_pair : goal.returns-in_err-with_pair
+returns-in_err-with_pair c = grind (arith, common_steps)
 
 pub returns-in_default : goal.returns-in_default
 returns-in_default c = grind (arith, common_steps)
