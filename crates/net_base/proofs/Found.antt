@@ -1,12 +1,19 @@
 -- How diagnostics go through what definitions are made of.
-use Rattle.std.specs.Prelude.{⊤, Bool, true, false, List, [], ◌∷◌, Option, None, Some, if◌then◌else◌, Ok, Err}
+use Rattle.std.specs.Prelude.{◌≡◌, ⊤, Bool, true, false, List, [], ◌∷◌, Option, None, Some, if◌then◌else◌, Ok, Err}
 use Rattle.std.specs.List.{AllByRecursion}
+use Rattle.std.proofs.Common.{refl}
 use Rattle.net_base.specs.Outcomes.{Outcome, and_then, each}
-use Rattle.net_base.specs.Places.{Places, Finds}
+use Rattle.net_base.specs.ErrorCodes.{says_no_network}
+use Rattle.net_base.specs.Places.{Places, Finds, region}
 
 pub finds_then : (P : Places) {A B : Type 0} (o : Outcome A) (f : A → Outcome B) → Finds P o → ((a : A) → Finds P (f a)) → Finds P (and_then o f)
 finds_then P (Ok a) f h k = k a
 finds_then P (Err r) f h k = h
+
+-- the same, knowing the value
+pub finds_then_is : (P : Places) {A B : Type 0} (o : Outcome A) (f : A → Outcome B) → Finds P o → ((a : A) → o ≡ Ok a → Finds P (f a)) → Finds P (and_then o f)
+finds_then_is P (Ok a) f h k = k a refl
+finds_then_is P (Err r) f h k = h
 
 pub finds_if : (P : Places) {A : Type 0} (b : Bool) (o u : Outcome A) → Finds P o → Finds P u → Finds P (if b then o else u)
 finds_if P true o u h k = h
@@ -19,7 +26,7 @@ finds_each P f h (x ∷ xs) y = finds_then P (f x y) (each f xs) (h x y) (finds_
 -- what comes out is so, or what is found stands at one of the places
 abbrev pub Gives : Places → {A : Type 0} → (A → Type 0) → Outcome A → Type 0
 Gives P Q (Ok a) = Q a
-Gives P Q (Err r) = P r.text r.at
+Gives P Q (Err r) = P (region (says_no_network r.error_code) r.text) r.at
 
 pub gives_then : (P : Places) {A B : Type 0} (Q : A → Type 0) (R : B → Type 0) (o : Outcome A) (f : A → Outcome B) → Gives P Q o → ((a : A) → Q a → Gives P R (f a)) → Gives P R (and_then o f)
 gives_then P Q R (Ok a) f h k = k a h

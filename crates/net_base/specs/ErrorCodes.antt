@@ -1,5 +1,5 @@
--- The numbers and names of errors in a model or its data, as they are printed.
-use Rattle.std.specs.Prelude.{ℕ, List, codes}
+-- The numbers and names of errors in a model or its data, as they are printed, and which errors show that there is no network.
+use Rattle.std.specs.Prelude.{ℕ, Bool, true, false, List, codes}
 use Rattle.net_base.specs.declared.error_code.ErrorCode.{ErrorCode}
 use Rattle.net_base.specs.declared.error_code.ErrorCode.TheVariants.{BadCharacter, OpenString, OpenComment, NotWhole, NumeralTooLarge, NotUtf8, TextTooLong, ModelSyntax, TooDeep, Undeclared, Redeclared, LeftOut, Gain, NetPlace, DataSyntax, RowWidth, TableWidth, NoSuchName, DoubleValue, NoValue, OutsideSet, Restriction, CheckFailed, KindMismatch, Arity, DivMod, ValueTooLarge, TooMany, NoSuchNode, NoLower, NoUpper, ArcCrossed, NodeCrossed, NoEnds, NoObjective, TwoObjectives, NotLinear, TooManyNodes, TooManyArcs, NoSuchObjective}
 
@@ -86,3 +86,27 @@ name_of NotLinear = codes "NotLinear"
 name_of TooManyNodes = codes "TooManyNodes"
 name_of TooManyArcs = codes "TooManyArcs"
 name_of NoSuchObjective = codes "NoSuchObjective"
+
+-- An error with one of these codes shows that the inputs mean no network (AMPL book, chapter 15). The other codes either stand for netflow's own
+-- rules, so that inputs with a network can have the error, or no theorem is about them. Netflow's own rules are limits of length, nesting, size and
+-- values, parts of AMPL that are left out, and rules for parts of a model that its network does not depend on. For example, each name is declared
+-- before it is used, even in an expression that is never evaluated.
+abbrev pub says_no_network : ErrorCode → Bool
+says_no_network BadCharacter = true
+says_no_network OpenString = true
+says_no_network OpenComment = true
+says_no_network NotWhole = true
+says_no_network NumeralTooLarge = true
+says_no_network NotUtf8 = true
+says_no_network ModelSyntax = true
+says_no_network Redeclared = true
+says_no_network Gain = true
+says_no_network NetPlace = true
+says_no_network DataSyntax = true
+says_no_network RowWidth = true
+says_no_network TableWidth = true
+says_no_network NoSuchName = true
+says_no_network NoObjective = true
+says_no_network TwoObjectives = true
+says_no_network NoSuchObjective = true
+says_no_network _ = false

@@ -2,7 +2,7 @@
 use Rattle.std.specs.Prelude.{ℕ, ◌+◌, Bool, true, false, List, [], ◌∷◌, ◌++◌, length, slice_index_or, Option, None, Some}
 use Rattle.std.specs.List.{AllByRecursion}
 use Rattle.net_base.specs.declared.diagnostic.Span.{Span}
-use Rattle.net_base.specs.declared.diagnostic.Language.TheVariants.{Data}
+use Rattle.net_base.specs.declared.diagnostic.Language.TheVariants as languages
 use Rattle.net_base.specs.Outcomes.{and_then}
 use Rattle.net_lex.specs.declared.token.Token.{Token}
 use Rattle.net_data.specs.declared.statement.DefaultValue.{DefaultValue}
@@ -16,7 +16,7 @@ use Rattle.net_bind.specs.declared.given.NamedData.{NamedData}
 use Rattle.net_sets.specs.Names.{located}
 use Rattle.net_bind.specs.Names.{Declared, at_place, as_wanted, target}
 use Rattle.net_bind.specs.DataByName.{Sorted, no_data, with_named_data, default_word, given_cells, grouped, named, with_named, lesser, set_first, first_of, or_zero, headed, set_headed, in_columns, in_statement, data_by_name}
-use Rattle.net_base.specs.Places.{Places, Finds}
+use Rattle.net_base.specs.Places.{Places, Finds, Data, Refuted}
 use Rattle.net_base.proofs.Found.{finds_then, Gives, gives_then, gives_each, gives_after}
 use Rattle.net_base.proofs.Elements.{OfSome, all_append, all_set, all_index}
 use Rattle.net_data.specs.Standing.{TokensHaveSpans, DefaultHasSpan, GivenHasSpans, NamedSetHasSpan, StatementHasSpans, StatementsHaveSpans}
@@ -44,12 +44,12 @@ cells_stand : (P : Span → Type 0) (g : Option Cells) → GivenHasSpans P g →
 cells_stand P None h = tt
 cells_stand P (Some g) h = h
 
-module _ (P : Places) where
+module _ (P : Places) (unnamed : (at : Span) → P Data at → P (Refuted languages.Data) at) where
   pub finds_target : (ds : Declared) (is_set : Bool) (t : Token) → P Data t.span → Finds P (target ds is_set t)
   finds_target ds is_set t h = go (as_wanted is_set (located 0 ds t.text))
     where
       go : (o : Option ℕ) → Finds P (at_place t o)
-      go None = h
+      go None = unnamed t.span h
       go (Some i) = tt
 
   unsaid_stands : (ds : Declared) → SortedStands (P Data) (no_data ds)

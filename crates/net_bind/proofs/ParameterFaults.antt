@@ -4,7 +4,7 @@ use Rattle.std.specs.List.{AllByRecursion}
 use Rattle.net_base.specs.declared.diagnostic.Span.{Span}
 use Rattle.net_base.specs.declared.diagnostic.Detail.{Detail}
 use Rattle.net_base.specs.declared.diagnostic.Language.{Language}
-use Rattle.net_base.specs.declared.diagnostic.Language.TheVariants.{Model, Data}
+use Rattle.net_base.specs.declared.diagnostic.Language.TheVariants as languages
 use Rattle.net_base.specs.Outcomes.{and_then, each}
 use Rattle.net_lex.specs.declared.token.Token.{Token}
 use Rattle.net_sets.specs.Limits.{tuples_limit}
@@ -37,7 +37,7 @@ use Rattle.net_bind.specs.Restrictions.{relation, ordered, compared, related, ho
 use Rattle.net_bind.specs.Rows.{KeyedParameter, NamedParameter, named_as, Table, Taken, All, with_value, with_row, with_cell, with_group, pair_of, across, with_line, has_two, shaped, with_rows, taken, either, with_statement}
 use Rattle.net_bind.specs.BoundParameters.{PlacedValues, placed, keyed, source_in, takes_texts, span_or, index_list, Source, source, source_text, place_in, source_at, member_by, from_source, insert_value, with_key, is_number, cell_of, no_text, fit_kind, keys_with, fit_value, fit_row, fit_values, untaken, data_of, valued_by, values, fill_table, bound_parameter}
 use Rattle.net_sets.specs.Sets.{place_of}
-use Rattle.net_base.specs.Places.{Places, Finds}
+use Rattle.net_base.specs.Places.{Places, Finds, Model, Data, region}
 use Rattle.net_tree.specs.Standing.{Stands, IndexingHasSpans, BodyHasSpans, PhrasesHaveSpans}
 use Rattle.net_base.proofs.Found.{finds_then, finds_if, finds_each, Gives, gives_then, gives_if, gives_each, gives_after, finds_after}
 use Rattle.net_base.proofs.Elements.{OfSome, all_take, all_append, all_get}
@@ -65,15 +65,15 @@ module _ (P : Places) where
 
   -- ---- what data say
 
-  finds_with_value : (text : Language) (at : Span) → P text at → (key : Tuple) (m : Member) (t : Table) → Finds P (with_value text at key m t)
+  finds_with_value : (text : Language) (at : Span) → P (region false text) at → (key : Tuple) (m : Member) (t : Table) → Finds P (with_value text at key m t)
   finds_with_value text at h key m t = finds_if P (nat_lt (length t) tuples_limit) _ _ tt h
 
   gives_with_row : (p : NamedParameter) (key : List Token) → TokensHaveSpans (P Data) key → (v : Token) → P Data v.span → (t : Taken) → TakenStands t → Gives P TakenStands (with_row p key v t)
   gives_with_row p key h v k t j =
       gives_if P TakenStands (is_some (at_key t.0 (tuple_in key))) _ _ (begins_stands (P Data) v.span k key h)
       (gives_if P TakenStands (has p.index (tuple_in key)) _ _
-      (gives_after P TakenStands (with_value Data (begins_at v.span key) (tuple_in key) (member_in v) t.0) _
-      (finds_with_value Data (begins_at v.span key) (begins_stands (P Data) v.span k key h) (tuple_in key) (member_in v) t.0) (λ u. all_append (P Data) t.1 (v.span ∷ []) j (k, tt)))
+      (gives_after P TakenStands (with_value languages.Data (begins_at v.span key) (tuple_in key) (member_in v) t.0) _
+      (finds_with_value languages.Data (begins_at v.span key) (begins_stands (P Data) v.span k key h) (tuple_in key) (member_in v) t.0) (λ u. all_append (P Data) t.1 (v.span ∷ []) j (k, tt)))
       (begins_stands (P Data) v.span k key h))
 
   gives_with_cell : (p : NamedParameter) (key : List Token) → TokensHaveSpans (P Data) key → (v : Option Token) → OfSome (λ (c : Token). P Data c.span) v
@@ -182,7 +182,7 @@ module _ (P : Places) where
   finds_index_list : (at : Span) → P Model at → (rows : List Row) → Finds P (index_list at rows)
   finds_index_list at h rows = finds_if P (nat_le (length (union [] (keys_of rows))) tuples_limit) _ _ tt h
 
-  source_stands : (at : Span) → P Model at → (x : Option Tree) (c : Option Token) → SourceStands P x c → P (source_text c) (place_in at x c)
+  source_stands : (at : Span) → P Model at → (x : Option Tree) (c : Option Token) → SourceStands P x c → P (region false (source_text c)) (place_in at x c)
   source_stands at h (Some x) None k = whole_stands (P Model) x k
   source_stands at h (Some x) (Some c) k = absurd k
   source_stands at h None (Some c) k = k
@@ -196,7 +196,7 @@ module _ (P : Places) where
   finds_member_by w s None (Some c) h = tt
   finds_member_by w s None None h = tt
 
-  finds_with_found : (text : Language) (at : Span) → P text at → (key : Tuple) (m : Option Member) (t : Table) → Finds P (insert_value text at key m t)
+  finds_with_found : (text : Language) (at : Span) → P (region false text) at → (key : Tuple) (m : Option Member) (t : Table) → Finds P (insert_value text at key m t)
   finds_with_found text at h key None t = tt
   finds_with_found text at h key (Some m) t = finds_with_value text at h key m t
 
@@ -205,7 +205,7 @@ module _ (P : Places) where
       finds_if P (is_some (at_key t r.key)) _ _ tt
       (finds_then P (from_source w r.scope x) _ (finds_member_by w r.scope x.0 x.1 k) (λ m. finds_with_found (source_text x.1) (source_at at x) (source_stands at h x.0 x.1 k) r.key m t))
 
-  finds_fit_kind : (texts : Bool) (text : Language) (at : Span) → P text at → (cell : Option Span) → OfSome (P Data) cell → (m : Member) → Finds P (fit_kind texts text at cell m)
+  finds_fit_kind : (texts : Bool) (text : Language) (at : Span) → P (region false text) at → (cell : Option Span) → OfSome (P Data) cell → (m : Member) → Finds P (fit_kind texts text at cell m)
   finds_fit_kind texts text at h cell k m = finds_if P (texts || is_number m) _ _ tt (go cell k)
     where
       go : (cell : Option Span) → OfSome (P Data) cell → Finds P (no_text text at cell)
@@ -216,7 +216,7 @@ module _ (P : Places) where
   cell_stands cells h None = tt
   cell_stands cells h (Some i) = all_get (P Data) cells i h
 
-  finds_fit_value : (w : World) (p : KeyedParameter) → PhrasesHaveSpans (P Model) p.phrases → (v : PlacedValues) → P v.text v.at → AllByRecursion (P Data) v.cells → (r : Row) (m : Option Member)
+  finds_fit_value : (w : World) (p : KeyedParameter) → PhrasesHaveSpans (P Model) p.phrases → (v : PlacedValues) → P (region false v.text) v.at → AllByRecursion (P Data) v.cells → (r : Row) (m : Option Member)
       → Finds P (fit_value w p v r m)
   finds_fit_value w p h v k j r None = tt
   finds_fit_value w p h v k j r (Some m) =
@@ -224,7 +224,7 @@ module _ (P : Places) where
       (finds_fit_kind (takes_texts p.phrases) v.text v.at k (cell_of v.cells (place_of (keys_with v.table) r.key)) (cell_stands v.cells j (place_of (keys_with v.table) r.key)) m)
       (λ u. finds_restricted w r.scope (reference p.name.text p.keys r.key) m p.phrases h)
 
-  finds_fit_values : (w : World) (p : KeyedParameter) → PhrasesHaveSpans (P Model) p.phrases → (v : PlacedValues) → P v.text v.at → AllByRecursion (P Data) v.cells → (rows : List Row) → Finds P (fit_values w p v rows)
+  finds_fit_values : (w : World) (p : KeyedParameter) → PhrasesHaveSpans (P Model) p.phrases → (v : PlacedValues) → P (region false v.text) v.at → AllByRecursion (P Data) v.cells → (rows : List Row) → Finds P (fit_values w p v rows)
   finds_fit_values w p h v k j [] = tt
   finds_fit_values w p h v k j (r ∷ rows) =
       finds_then P (fit_row w p v r) _ (finds_fit_value w p h v k j r (at_key v.table r.key)) (λ u. finds_fit_values w p h v k j rows)

@@ -6,11 +6,10 @@ use Rattle.std.proofs.lemmas.Bool.{le-leb, leb-true}
 use Rattle.std.proofs.lemmas.List.{take_min, drop_min, length-append}
 use Rattle.std.proofs.lemmas.List.Folds.{list_any-append}
 use Rattle.std.proofs.Math.Bool.{or_assoc, or-true, or-false, and-false, and-or_distrib_left, and-or_distrib_right}
-use Rattle.net_base.specs.declared.diagnostic.Language.TheVariants.{Model}
 use Rattle.net_base.specs.declared.diagnostic.Span.{Span}
 use Rattle.net_base.specs.declared.error_code.ErrorCode.TheVariants.{Arity}
 use Rattle.net_base.specs.Outcomes.{Outcome, and_then, rejected}
-use Rattle.net_base.specs.Places.{Places, Finds}
+use Rattle.net_base.specs.Places.{Places, Finds, Model}
 use Rattle.net_base.proofs.Found.{finds_then, finds_if}
 use Rattle.net_sets.specs.Limits.{arity_limit}
 use Rattle.net_sets.specs.Operations.{AreLong, union, joined_to, product, widest, narrowest}

@@ -2,7 +2,6 @@
 use Rattle.std.specs.Prelude.{ℕ, zero, suc, ◌+◌, Bool, true, false, ◌||◌, List, [], ◌∷◌, ◌++◌, length, map, take, drop, nat_eq, nat_le, unwrap_or, is_some, codes, if◌then◌else◌, Option, None, Some}
 use Rattle.std.specs.List.{AllByRecursion, fold}
 use Rattle.net_base.specs.declared.diagnostic.Span.{Span}
-use Rattle.net_base.specs.declared.diagnostic.Language.TheVariants.{Model, Data}
 use Rattle.net_base.specs.Outcomes.{each}
 use Rattle.net_lex.specs.declared.token.Token.{Token}
 use Rattle.net_sets.specs.Limits.{tuples_limit}
@@ -33,7 +32,7 @@ use Rattle.net_bind.specs.SetPhrases.{set_word, is_dimension, dimension, as_set,
 use Rattle.net_bind.specs.SetData.{items_from, items, closed_with, closed, opened, with_item, set_rows, begins_at, all_of_size, without_points, whole_group, whole_groups, cut, leading_size, agrees, given_rows, with_member, with_statement, given_set}
 use Rattle.net_bind.specs.Cells.{tuple_in}
 use Rattle.net_bind.specs.BoundSets.{one_of, is_allowed, allowed, set_of, bound_set}
-use Rattle.net_base.specs.Places.{Places, Finds}
+use Rattle.net_base.specs.Places.{Places, Finds, Model, Data}
 use Rattle.net_tree.specs.Standing.{Stands, BodyHasSpans, PhrasesHaveSpans}
 use Rattle.net_base.proofs.Found.{finds_then, finds_if, Gives, gives_then, gives_after, finds_after, finds_each_of}
 use Rattle.net_base.proofs.Elements.{all_take, all_drop, all_append, all_filter}

@@ -1,6 +1,7 @@
 -- What a model and its data are refused for together stands at their parts.
 use Rattle.std.specs.Prelude.{ℕ, List, [], ◌∷◌, length, take, Option}
-use Rattle.net_base.specs.declared.diagnostic.Language.TheVariants.{Model, Data}
+use Rattle.net_base.specs.declared.diagnostic.Language.TheVariants as languages
+use Rattle.net_base.specs.declared.diagnostic.Span.{Span}
 use Rattle.net_base.specs.Outcomes.{and_then, each}
 use Rattle.net_tree.specs.Spans.{span_of}
 use Rattle.net_tree.specs.Tree.{Tree, Braces, Declaration, set, param, check, node, arc, objective}
@@ -14,7 +15,7 @@ use Rattle.net_bind.specs.DataByName.{Sorted, data_by_name}
 use Rattle.net_bind.specs.BoundSets.{bound_set}
 use Rattle.net_bind.specs.BoundParameters.{bound_parameter}
 use Rattle.net_bind.specs.Binding.{widths, next_data, declare, judged, hold, checked, check_one, after_checks, with_given, world}
-use Rattle.net_base.specs.Places.{Places, Finds}
+use Rattle.net_base.specs.Places.{Places, Finds, Model, Data, Refuted}
 use Rattle.net_tree.specs.Standing.{Stands, IndexingHasSpans, DeclarationHasSpans, DeclarationsHaveSpans}
 use Rattle.net_base.proofs.Found.{finds_then, finds_if, finds_after}
 use Rattle.net_base.proofs.Elements.{all_index}
@@ -65,9 +66,12 @@ module _ (P : Places) where
   finds_checks w [] h known = tt
   finds_checks w (d ∷ ds) h known = finds_then P (check_one w d known) (each (check_one w) ds) (finds_check_one w d h.0 known) (finds_checks w ds h.1)
 
-  pub finds_world : (ds : List Declaration) (ss : List Statement) → DeclarationsHaveSpans (P Model) ds → StatementsHaveSpans (P Data) ss → Finds P (world ds ss)
+  -- only the names in the data can show that there is no network
+  pub finds_with_given : (given : Sorted) → SortedStands (P Data) given → (ds : List Declaration) → DeclarationsHaveSpans (P Model) ds → Finds P (with_given ds given)
+  finds_with_given given g ds h =
+      finds_then P (each (declare given) ds []) (after_checks ds) (finds_declarations given g ds h []) (λ w. finds_then P (each (check_one w) ds 0) _ (finds_checks w ds h 0) (λ known. tt))
+
+  pub finds_world : ((at : Span) → P Data at → P (Refuted languages.Data) at) → (ds : List Declaration) (ss : List Statement) → DeclarationsHaveSpans (P Model) ds → StatementsHaveSpans (P Data) ss → Finds P (world ds ss)
   unfolding world
-  finds_world ds ss h k =
-      finds_after P (SortedStands (P Data)) (data_by_name (declared ds) ss) (with_given ds) (gives_said P (declared ds) ss k) (λ given g.
-      finds_then P (each (declare given) ds []) (after_checks ds) (finds_declarations given g ds h []) (λ w.
-      finds_then P (each (check_one w) ds 0) _ (finds_checks w ds h 0) (λ known. tt)))
+  finds_world unnamed ds ss h k =
+      finds_after P (SortedStands (P Data)) (data_by_name (declared ds) ss) (with_given ds) (gives_said P unnamed (declared ds) ss k) (λ given g. finds_with_given given g ds h)

@@ -1,5 +1,5 @@
 -- The first fault of two texts lies in its text.
-use Rattle.std.specs.Prelude.{◌≡◌, ℕ, List, length, Option, Result, Ok, Err}
+use Rattle.std.specs.Prelude.{◌≡◌, ℕ, Bool, true, false, List, length, Option, Result, Ok, Err}
 use Rattle.std.proofs.Common.{refl, sym, subst}
 use Rattle.net_base.specs.declared.diagnostic.Detail.TheVariants.{Nothing}
 use Rattle.net_base.specs.declared.diagnostic.Diagnostic.{Diagnostic}
@@ -9,7 +9,8 @@ use Rattle.net_base.specs.declared.diagnostic.Language.{Language}
 use Rattle.net_base.specs.declared.diagnostic.Language.TheVariants.{Model, Data}
 use Rattle.net_base.specs.declared.diagnostic.Span.{Span}
 use Rattle.net_base.specs.Outcomes.{Outcome}
-use Rattle.net_base.specs.Places.{IsSpanIn, IsInFiles, Places, Finds}
+use Rattle.net_base.specs.ErrorCodes.{says_no_network}
+use Rattle.net_base.specs.Places.{IsSpanIn, IsInFiles, Places, Finds, region}
 use Rattle.net_lex.proofs.Rising.{tokens_rise, first_fault_lies}
 use Rattle.net_tree.specs.Tree.{Declaration}
 use Rattle.net_tree.specs.Standing.{ModelHasSpans}
@@ -41,29 +42,31 @@ data_lies m d _ (faults.IsDataFault.token error_code at first) = first_fault_lie
 data_lies m d _ (faults.statement tokens s read is) = stop_lies (length d) tokens s (rising_stand (length d) 0 tokens (tokens_rise Data d tokens read)) is
 
 -- of a diagnostic at one of the places in the two texts
-found_lies : (m d : List ℕ) (f : Diagnostic) → IsInFiles (length m) (length d) f.text f.at → IsSpanIn (length (text_of m d f.text)) f.at
-found_lies m d f h = go f.text f.at h
+found_lies : (m d : List ℕ) (f : Diagnostic) → IsInFiles (length m) (length d) (region (says_no_network f.error_code) f.text) f.at → IsSpanIn (length (text_of m d f.text)) f.at
+found_lies m d f h = go (says_no_network f.error_code) f.text f.at h
   where
-    go : (t : Language) (at : Span) → IsInFiles (length m) (length d) t at → IsSpanIn (length (text_of m d t)) at
-    go Model at k = k
-    go Data at k = k
+    go : (b : Bool) (t : Language) (at : Span) → IsInFiles (length m) (length d) (region b t) at → IsSpanIn (length (text_of m d t)) at
+    go false Model at k = k
+    go false Data at k = k
+    go true Model at k = k
+    go true Data at k = k
 
-rejected_lies : {A : Type 0} (P : Places) (o : Outcome A) (f : Diagnostic) → Finds P o → o ≡ Err f → P f.text f.at
+rejected_lies : {A : Type 0} (P : Places) (o : Outcome A) (f : Diagnostic) → Finds P o → o ≡ Err f → P (region (says_no_network f.error_code) f.text) f.at
 rejected_lies P o f h is = subst (Finds P) is h
 
-declarations_lie : (m : List ℕ) (ds : List Declaration) → IsModel m ds → ModelHasSpans (IsSpanIn (length m)) ds
+pub declarations_lie : (m : List ℕ) (ds : List Declaration) → IsModel m ds → ModelHasSpans (IsSpanIn (length m)) ds
 declarations_lie m ds is = model_stands (length m) ds (rw is.means.printed (tokens_rise Model m is.tokens is.read))
 
-statements_lie : (d : List ℕ) (x : Tables) → IsData d x → StatementsHaveSpans (IsSpanIn (length d)) x.statements
+pub statements_lie : (d : List ℕ) (x : Tables) → IsData d x → StatementsHaveSpans (IsSpanIn (length d)) x.statements
 statements_lie d x is = mean_stand (IsSpanIn (length d)) is.tokens x is.written (rising_stand (length d) 0 is.tokens (tokens_rise Data d is.tokens is.read))
 
 network_lies : (wanted : Option Name) (m d : List ℕ) (ds : List Declaration) (x : Tables) (f : Diagnostic) → IsModel m ds → IsData d x → IsNetworkFault wanted ds x f
     → IsSpanIn (length (text_of m d f.text)) f.at
 network_lies wanted m d ds x f is are (faults.unbound _ rejected) =
     found_lies m d f (rejected_lies (IsInFiles (length m) (length d)) (binding.world ds x.statements) f
-    (finds_world (IsInFiles (length m) (length d)) ds x.statements (declarations_lie m ds is).1 (statements_lie d x are)) rejected)
+    (finds_world (IsInFiles (length m) (length d)) (λ at k. k) ds x.statements (declarations_lie m ds is).1 (statements_lie d x are)) rejected)
 network_lies wanted m d ds x f is are (faults.unbuilt w _ bound rejected) =
-    found_lies m d f (rejected_lies (IsInFiles (length m) (length d)) (network wanted w ds) f (finds_network (IsInFiles (length m) (length d)) wanted w ds (declarations_lie m ds is)) rejected)
+    found_lies m d f (rejected_lies (IsInFiles (length m) (length d)) (network wanted w ds) f (finds_network (IsInFiles (length m) (length d)) ⊥ (λ f at k. k) wanted w ds (declarations_lie m ds is) (λ q. absurd q)) rejected)
 
 pub fault_lies : (wanted : Option Name) (m d : List ℕ) (f : Diagnostic) → IsFirstFault wanted m d f → IsSpanIn (length (text_of m d f.text)) f.at
 fault_lies wanted m d f (faults.model _ is) = model_lies m d f is

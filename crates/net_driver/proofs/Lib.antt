@@ -33,6 +33,7 @@ mod NetworkNames
 mod Compilations
 mod DataNames
 mod TextFaults
+mod NoNetwork
 mod Extremes
 mod PricedForms
 mod PriceBounds

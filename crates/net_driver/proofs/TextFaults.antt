@@ -1,10 +1,11 @@
--- Errors of the texts that are no rules of netflow's own show that the inputs mean no network.
+-- Errors of the texts that are no rules of netflow's own: the inputs mean no network.
 use Rattle.std.specs.Prelude.{◌≡◌, ℕ, Bool, true, false, List, [], ◌∷◌, ◌++◌, length, Option, None, Some, Result, Ok, Err, ⊤, if◌then◌else◌}
 use Rattle.std.specs.List.{AllByRecursion, IsDistinct}
 use Rattle.std.specs.Str.{bytes_eq}
 use Rattle.std.proofs.Common.{refl, sym, ap, subst, inl, inr, ◌∙◌}
 use Rattle.std.proofs.lemmas.Bool.{cases_lt}
 use Rattle.std.proofs.lemmas.Map.Keys.{IsDistinct-head, IsDistinct-tail}
+use Rattle.net_base.specs.ErrorCodes.{says_no_network}
 use Rattle.net_base.specs.Places.{IsSpanIn}
 use Rattle.net_base.specs.declared.diagnostic.Diagnostic.{Diagnostic}
 use Rattle.net_base.specs.declared.diagnostic.Fault.{Fault}
@@ -51,13 +52,14 @@ use Rattle.net_bind.specs.DataByName.{data_by_name}
 use Rattle.net_bind.specs.Names.{declared as data_names}
 use Rattle.net_driver.specs.FirstFaults as faults
 use Rattle.net_driver.specs.FirstFaults.{IsModelFault, IsDataFault}
-use Rattle.net_driver.specs.Meaning.{ContainsModel, ContainsData}
+use Rattle.net_driver.specs.Meaning.{ContainsModel, ContainsData, MeanNetwork}
 use Rattle.net_driver.specs.Reading.{IsModel, IsData}
-use Rattle.net_driver.specs.OwnRules.{is_own_rule, of_model, of_data, of_names, TextFaultsAreFirst, TextFaultsAreSound}
+use Rattle.net_driver.specs.NoNetwork.{IsTextFault, of_model, of_data, of_names, TextFaultsAreFirst}
 use Rattle.net_driver.proofs.DataNames.{no_name_is_rejected}
 use Rattle.net_driver.proofs.Meant.{data_meant}
 use Rattle.net_driver.proofs.OneFault.{same_tokens}
 use Rattle.net_inst.specs.Soundness.{names_in}
+use Rattle.net_meaning.specs.Network.{Network}
 use Rattle.net_meaning.specs.World as worlds
 use Rattle.net_driver.proofs.Compilations.{names_are}
 
@@ -70,9 +72,9 @@ record AreNew (s : NameScope) (ns : List Name) : Type 0 where
 
 -- the error, if there is one, is a rule of netflow's own
 abbrev IsOwn : Option names.Fault → Type 0
-IsOwn f = OfSome (λ (x : names.Fault). is_own_rule x.0 ≡ true) f
+IsOwn f = OfSome (λ (x : names.Fault). says_no_network x.0 ≡ false) f
 
-used_own : (size : ℕ) (d : ErrorCode) (t : Token) → IsOfUse d → IsSpanIn size t.span → is_own_rule d ≡ true
+used_own : (size : ℕ) (d : ErrorCode) (t : Token) → IsOfUse d → IsSpanIn size t.span → says_no_network d ≡ false
 used_own size error_codes.Undeclared t i h = refl
 used_own size error_codes.LeftOut t i h = refl
 used_own size _ t i h = absurd i
@@ -143,7 +145,7 @@ nothing_means (n ∷ ns) = (refl, nothing_means ns)
 -- the error, if there is one, is a rule of netflow's own
 abbrev ErrIsOwn : {A : Type 0} → Result A Fault → Type 0
 ErrIsOwn (Ok x) = ⊤
-ErrIsOwn (Err (At d)) = is_own_rule d.error_code ≡ true
+ErrIsOwn (Err (At d)) = says_no_network d.error_code ≡ false
 ErrIsOwn (Err _) = ⊤
 
 named_own : (ds : List Declaration) (o : Option names.Fault) → IsOwn o → ErrIsOwn (unless_fault ds o)
@@ -162,17 +164,17 @@ meant_own size ds are stand once =
       | inr within ↦ rw (model-complete nesting_limit ds are within) (named_own ds (names_fault [] ds) (names_own size [] ds (record { unknown = nothing_means (names_in ds); once = once }) stand))
     ]
 
-own_or_not : (b : Bool) → b ≡ true → b ≡ false → ⊥
+own_or_not : (b : Bool) → b ≡ false → b ≡ true → ⊥
 own_or_not b h k = cc
 
 no_grammar_fault : (text : List ℕ) (ts : List Token) (d : Diagnostic) (ds : List Declaration) → AreTokensOf languages.Model text ts → AreDeclarations ds → print ds ≡ ts → IsDistinct bytes_eq (names_in ds)
-    → meant ts ≡ Err (At d) → is_own_rule d.error_code ≡ false → ⊥
+    → meant ts ≡ Err (At d) → says_no_network d.error_code ≡ true → ⊥
 no_grammar_fault text ts d ds read are printed once found own =
     let stand = model_stands (length text) ds (rw printed (tokens_rise languages.Model text ts read)) in
     let fault = meant_own (length text) ds are stand.1 once in
-    own_or_not (is_own_rule d.error_code) (subst ErrIsOwn (ap meant printed ∙ found) fault) own
+    own_or_not (says_no_network d.error_code) (subst ErrIsOwn (ap meant printed ∙ found) fault) own
 
-no_model_fault : (text : List ℕ) (d : Diagnostic) (xs : List forms.Declaration) → IsModelFault text d → is_own_rule d.error_code ≡ false → ContainsModel text xs → IsDistinct bytes_eq (worlds.names_in xs) → ⊥
+no_model_fault : (text : List ℕ) (d : Diagnostic) (xs : List forms.Declaration) → IsModelFault text d → says_no_network d.error_code ≡ true → ContainsModel text xs → IsDistinct bytes_eq (worlds.names_in xs) → ⊥
 no_model_fault text _ xs (faults.IsModelFault.token code at fault) own has once = lexer.read_or_rejected languages.Model text has.tokens code at has.read fault
 no_model_fault text d xs (faults.grammar ts _ read found) own has once =
     let (ds, are, printed, erased) = model-sound xs has.tokens has.derived in
@@ -192,7 +194,7 @@ no_data_fault text _ tables (faults.statement ts s read found) has =
 
 -- ---- names in the data
 
-same_model : (text : List ℕ) (ds : List Declaration) (xs : List forms.Declaration) → IsModel text ds → ContainsModel text xs → xs ≡ declarations ds
+pub same_model : (text : List ℕ) (ds : List Declaration) (xs : List forms.Declaration) → IsModel text ds → ContainsModel text xs → xs ≡ declarations ds
 same_model text ds xs is has =
     model-unique xs (declarations ds) has.tokens has.derived
     (subst (λ ts. grammar.IsModel (declarations ds) ts) (is.means.printed ∙ same_tokens languages.Model text is.tokens has.tokens is.read has.read) (model-derived ds is.means.level))
@@ -220,8 +222,8 @@ text_faults_are_first requested m d x (of_model h) = faults.model x h
 text_faults_are_first requested m d x (of_data ds is h) = faults.statements ds x is h
 text_faults_are_first requested m d x (of_names ds tables is are h) = faults.both ds tables x is are (faults.unbound x (first_unbound ds tables x h))
 
-pub text_faults_are_sound : TextFaultsAreSound
-text_faults_are_sound requested m d x (of_model h) own network mean = no_model_fault m x mean.declarations h own mean.model mean.names_once
-text_faults_are_sound requested m d x (of_data ds is h) own network mean = no_data_fault d x mean.tables h mean.data_statements
-text_faults_are_sound requested m d x (of_names ds tables is are h) own network mean =
+pub text_faults_are_sound : (requested : Option Name) (m d : List ℕ) (x : Diagnostic) → IsTextFault m d x → says_no_network x.error_code ≡ true → (network : Network) → MeanNetwork requested m d network → ⊥
+text_faults_are_sound requested m d x (of_model h) says network mean = no_model_fault m x mean.declarations h says mean.model mean.names_once
+text_faults_are_sound requested m d x (of_data ds is h) says network mean = no_data_fault d x mean.tables h mean.data_statements
+text_faults_are_sound requested m d x (of_names ds tables is are h) says network mean =
     no_names_fault m d ds tables x is are h mean.declarations mean.tables mean.model mean.data_statements mean.names_once mean.is_world.declared

@@ -17,7 +17,7 @@ pub mod Accepted
 pub mod OneAnswer
 pub mod Meaning
 pub mod MeaningLaws
-pub mod OwnRules
+pub mod NoNetwork
 pub mod LineNames
 pub mod SolvedOutcomes
 pub mod PricedPlans

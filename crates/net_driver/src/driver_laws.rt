@@ -26,7 +26,7 @@ ghost use Rattle.net_base.specs.declared.diagnostic.Language.TheVariants as lang
 ghost use Rattle.net_driver.specs.PlanProofs.{PricedPlansAreProved, PricesProve};
 ghost use Rattle.net_driver.specs.MeaningLaws.{CompilationsAreSound, SolutionsAreSound, AnswersSolveModels, CompiledProblemsRepresent};
 ghost use Rattle.net_driver.specs.MeaningLaws.{NetworksAreUnique, MeantNetworksAreUnique, CutsAreMissed};
-ghost use Rattle.net_driver.specs.OwnRules.{TextFaultsAreFirst, TextFaultsAreSound};
+ghost use Rattle.net_driver.specs.NoNetwork.{TextFaultsAreFirst, ErrorsAreSound};
 
 /// Theorem: a model without name errors declares no name of nodes twice, and no name of arcs.
 pub fn names_are_declared_once()
@@ -56,11 +56,11 @@ pub fn read_or_rejected()
         → IsNetworkOf wanted model_text data_text n → IsFirstFault wanted model_text data_text diagnostic → ⊥ }
 {}
 
-/// Theorem: an error that is found in the texts, before anything is evaluated, is the first error,
-/// and shows that the two inputs mean no network. Excepted are the codes of netflow's own rules.
-pub fn errors_of_texts_are_sound()
+/// Theorem: a first error with one of the codes of `says_no_network` shows that the two inputs mean
+/// no network. An error that is found in the texts, before anything is evaluated, is the first error.
+pub fn errors_are_sound()
     ensures first { TextFaultsAreFirst }
-    ensures value { TextFaultsAreSound }
+    ensures value { ErrorsAreSound }
 {}
 
 /// Theorem: the span of the first error is within its file.

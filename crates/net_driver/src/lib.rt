@@ -22,11 +22,11 @@ pub use compiled::{Compiled, CompiledText, Options, compile, compile_with};
 pub use driver_fault::{Fault, LineRejection, Rejection, TextName};
 pub use driver_laws::{
     answers_are_accepted, answers_solve_models, compilations_are_read_back, compilations_are_sound,
-    compiled_problems_represent_models, cuts_are_missed, first_error_is_in_its_file,
-    inputs_mean_one_network, line_names_are_exact, models_have_one_network,
-    names_are_declared_once, nodes_and_arcs_are_apart, one_first_fault, one_of_network_and_error,
-    prices_prove_plans, printed_prices_prove_plans, read_or_rejected, solutions_are_sound,
-    texts_have_one_answer, well_named,
+    compiled_problems_represent_models, cuts_are_missed, errors_are_sound,
+    first_error_is_in_its_file, inputs_mean_one_network, line_names_are_exact,
+    models_have_one_network, names_are_declared_once, nodes_and_arcs_are_apart, one_first_fault,
+    one_of_network_and_error, prices_prove_plans, printed_prices_prove_plans, read_or_rejected,
+    solutions_are_sound, texts_have_one_answer, well_named,
 };
 pub use line_runs::{run_check, run_min, solve_min};
 pub use net_base::{ErrorCode, Span};

@@ -2,7 +2,6 @@
 use Rattle.std.specs.Prelude.{ℕ, ◌+◌, Bool, true, false, ◌&&◌, List, [], ◌∷◌, length, nat_eq, nat_le, int_lt, Option, None, Some, ℤ, pos}
 use Rattle.net_base.specs.declared.diagnostic.Span.{Span}
 use Rattle.net_base.specs.declared.diagnostic.Detail.{Detail}
-use Rattle.net_base.specs.declared.diagnostic.Language.TheVariants.{Model}
 use Rattle.net_base.specs.Outcomes.{Outcome, and_then}
 use Rattle.net_sets.specs.Sets.{Tuple}
 use Rattle.net_sets.specs.Limits.{arity_limit, tuples_limit}
@@ -22,7 +21,7 @@ use Rattle.net_expr.specs.Operators.{of_numbers, of_two, compared, same, of_sets
 use Rattle.net_expr.specs.Operators as operators
 use Rattle.net_expr.specs.Sets.{counted, shared, fits, within_size, set_of, cross, membership, inclusion}
 use Rattle.net_expr.specs.Worlds.{Name, World, key_count, entry_of, missing, value_at, entry_at, name_at}
-use Rattle.net_base.specs.Places.{Places, Finds}
+use Rattle.net_base.specs.Places.{Places, Finds, Model}
 use Rattle.net_base.proofs.Found.{finds_then, finds_if}
 
 module _ (P : Places) (at : Span) (h : P Model at) where

@@ -1,7 +1,6 @@
 -- What items of braces and reductions are refused for stands at the place that they are given.
 use Rattle.std.specs.Prelude.{ℕ, Bool, ◌||◌, List, [], ◌∷◌, ◌++◌, length, nat_eq, nat_le, nat_lt, Option, None, Some, if◌then◌else◌, ℤ}
 use Rattle.net_base.specs.declared.diagnostic.Span.{Span}
-use Rattle.net_base.specs.declared.diagnostic.Language.TheVariants.{Model}
 use Rattle.net_base.specs.Outcomes.{Outcome}
 use Rattle.net_sets.specs.Sets.{Tuple}
 use Rattle.net_sets.specs.Limits.{tuples_limit}
@@ -18,7 +17,7 @@ use Rattle.net_expr.specs.Items.{fits_needed, chosen, tuples_of, is_set, Opening
 use Rattle.net_expr.specs.Numbers.{number, gathered}
 use Rattle.net_expr.specs.Rows.{matches_member, matches_tuple, matches_as_tuple, match_component, bound_first, match_whole, if_fits, go_on, onward, same_arity, add_row, finished_key, finished, keep, filter_rows, width_of, selected, keys_of, as_set, tuple_in, tuples_in, all_of, listed_as, listed, gathered_over, nothing_reduced, reduced_to, reduce}
 use Rattle.net_expr.specs.Worlds.{Name, Scope}
-use Rattle.net_base.specs.Places.{Places, Finds}
+use Rattle.net_base.specs.Places.{Places, Finds, Model}
 use Rattle.net_base.proofs.Found.{finds_then, finds_if}
 use Rattle.net_expr.proofs.OperatorFaults.{finds_number, finds_sized}
 

@@ -1,7 +1,6 @@
 -- What an expression is refused for stands at one of its parts.
 use Rattle.std.specs.Prelude.{Bool, List, [], ◌∷◌, ◌++◌, nat_le, Option, None, Some, if◌then◌else◌, Ok, ℤ}
 use Rattle.net_base.specs.declared.diagnostic.Span.{Span}
-use Rattle.net_base.specs.declared.diagnostic.Language.TheVariants.{Model}
 use Rattle.net_base.specs.Outcomes.{Outcome, and_then, each}
 use Rattle.net_lex.specs.declared.token.Token.{Token}
 use Rattle.net_sets.specs.Limits.{arity_limit}
@@ -23,7 +22,7 @@ use Rattle.net_expr.specs.Rows.{start, match_component, if_fits, onward, selecte
 use Rattle.net_expr.specs.Values.{number_value, token_value, subscripted, tupled, with_sign, either, value, otherwise, values, chained, index, walk, set_after, place, left_place, places, holds}
 use Rattle.net_expr.specs.Widths.{width_by_form, begin, with_item, with_items}
 use Rattle.net_expr.specs.Worlds.{Name, World, Scope, bound}
-use Rattle.net_base.specs.Places.{Places, Finds}
+use Rattle.net_base.specs.Places.{Places, Finds, Model}
 use Rattle.net_tree.specs.Standing.{Stands, LinksStand, PartStands, BracesStand}
 use Rattle.net_base.proofs.Found.{finds_then, finds_if, finds_each}
 use Rattle.net_expr.proofs.OperatorFaults.{finds_number, finds_sized, finds_range_of, finds_truth, finds_apply, finds_decided, finds_tuple_of, finds_name_at}

@@ -1,7 +1,6 @@
 -- What arcs of declarations are refused for stands at the name or at one of the phrases.
 use Rattle.std.specs.Prelude.{ℕ, Bool, true, false, List, [], ◌∷◌, length, nat_lt, Option, None, Some, if◌then◌else◌, ℤ, int_lt, ⊤}
 use Rattle.net_base.specs.declared.diagnostic.Span.{Span}
-use Rattle.net_base.specs.declared.diagnostic.Language.TheVariants.{Model}
 use Rattle.net_lex.specs.declared.token.Token.{Token}
 use Rattle.net_tree.specs.Role.{role_of}
 use Rattle.net_tree.specs.Spans.{span_of}
@@ -18,7 +17,7 @@ use Rattle.net_expr.specs.Indexings.{indexing_in}
 use Rattle.net_inst.specs.Nodes.{BuiltNodes, node_named}
 use Rattle.net_inst.specs.Numbers.{number}
 use Rattle.net_inst.specs.Phrases.{Parts, parts_from, parts_of}
-use Rattle.net_base.specs.Places.{Places, Finds}
+use Rattle.net_base.specs.Places.{Places, Finds, Model}
 use Rattle.net_tree.specs.Standing.{Stands, IndexingHasSpans, BodyHasSpans, PhrasesHaveSpans}
 use Rattle.net_base.proofs.Found.{Gives, finds_then, finds_if, finds_after}
 use Rattle.net_linear.proofs.FormFaults.{finds_priced}

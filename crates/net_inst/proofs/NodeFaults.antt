@@ -2,7 +2,6 @@
 use Rattle.std.specs.Prelude.{ℕ, ◌+◌, List, [], ◌∷◌, length, nat_eq, nat_lt, Option, None, Some}
 use Rattle.net_base.specs.declared.diagnostic.Span.{Span}
 use Rattle.net_base.specs.declared.diagnostic.Detail.{Detail}
-use Rattle.net_base.specs.declared.diagnostic.Language.TheVariants.{Model}
 use Rattle.net_base.specs.Outcomes.{and_then}
 use Rattle.net_lex.specs.declared.token.Token.{Token}
 use Rattle.net_sets.specs.Sets.{Tuple, place_of}
@@ -23,7 +22,7 @@ use Rattle.net_linear.specs.Objectives.{key_of}
 use Rattle.net_expr.specs.Indexings.{indexing_in}
 use Rattle.net_inst.specs.Nodes.{BuiltNodes, of_node, node_sides, next_range, ranges_at, nodes_by, with_nodes, index_within, numbered, node_at, indexed_node, node_named}
 use Rattle.net_inst.specs.Numbers.{number_in, number}
-use Rattle.net_base.specs.Places.{Places, Finds}
+use Rattle.net_base.specs.Places.{Places, Finds, Model}
 use Rattle.net_tree.specs.Standing.{Stands, LinksStand, ConditionHasSpans, IndexingHasSpans}
 use Rattle.net_base.proofs.Found.{finds_then, finds_if}
 use Rattle.net_expr.proofs.OperatorFaults.{finds_member}

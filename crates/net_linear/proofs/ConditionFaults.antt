@@ -1,7 +1,6 @@
 -- What a node's condition is refused for stands at one of its expressions, or at the whole of them.
 use Rattle.std.specs.Prelude.{◌&&◌, Option, None, Some, ℤ}
 use Rattle.net_base.specs.declared.diagnostic.Span.{Span}
-use Rattle.net_base.specs.declared.diagnostic.Language.TheVariants.{Model}
 use Rattle.net_lex.specs.declared.token.Token.{Token}
 use Rattle.net_tree.specs.Role.{role_of}
 use Rattle.net_tree.specs.Tree.{Tree, Condition, unsaid, one, between}
@@ -15,7 +14,7 @@ use Rattle.net_linear.specs.declared.net_term.NetTerm.TheVariants.{Absent, Inflo
 use Rattle.net_linear.specs.Amounts.{number_or_none}
 use Rattle.net_linear.specs.Conditions.{comparison_in, solved, solved_sides, met_ends, met, from_to, one_in, between_in, sides_in, range_in}
 use Rattle.net_linear.specs.NetTerms.{net_side}
-use Rattle.net_base.specs.Places.{Places, Finds}
+use Rattle.net_base.specs.Places.{Places, Finds, Model}
 use Rattle.net_tree.specs.Standing.{Stands, ConditionHasSpans}
 use Rattle.net_base.proofs.Found.{finds_then, finds_if}
 use Rattle.net_expr.proofs.ValueFaults.{finds_value}

@@ -2,7 +2,6 @@
 use Rattle.std.specs.Prelude.{ℕ, Bool, true, false, ◌&&◌, List, [], ◌∷◌, length, nat_eq, Option, None, Some, ℤ, pos, int_div, int_rem}
 use Rattle.net_base.specs.declared.diagnostic.Span.{Span}
 use Rattle.net_base.specs.declared.diagnostic.Detail.{Detail}
-use Rattle.net_base.specs.declared.diagnostic.Language.TheVariants.{Model}
 use Rattle.net_base.specs.Outcomes.{Outcome}
 use Rattle.net_sets.specs.Sets.{Tuple, place_of}
 use Rattle.net_expr.specs.Limits.{is_small}
@@ -14,7 +13,7 @@ use Rattle.net_tree.specs.declared.operator.BinOp.TheVariants as joints
 use Rattle.net_linear.specs.Arcs.{numbered, arc_at}
 use Rattle.net_linear.specs.Forms.{Linear, Term, just, one_arc, combined, is_number, if_sized, within, sized, minus_one, times, quotient, divided, joined, join, scaled, turn}
 use Rattle.net_linear.specs.Forms.{or_too_large, priced, gathered, gathered_over, total, as_form}
-use Rattle.net_base.specs.Places.{Places, Finds}
+use Rattle.net_base.specs.Places.{Places, Finds, Model}
 use Rattle.net_base.proofs.Found.{finds_then, finds_if}
 
 module _ (P : Places) (at : Span) (h : P Model at) where

@@ -1,7 +1,6 @@
 -- What an objective's expression is refused for stands at one of its parts.
 use Rattle.std.specs.Prelude.{Bool, true, false, not, ◌&&◌, [], ◌∷◌, Option, None, Some, if◌then◌else◌, Ok, ℤ}
 use Rattle.net_base.specs.declared.diagnostic.Span.{Span}
-use Rattle.net_base.specs.declared.diagnostic.Language.TheVariants.{Model}
 use Rattle.net_base.specs.Outcomes.{Outcome, and_then}
 use Rattle.net_sets.specs.Sets.{Tuple}
 use Rattle.net_tree.specs.Spans.{span_of}
@@ -15,7 +14,7 @@ use Rattle.net_linear.specs.Arcs.{Arcs, declared, arc_at}
 use Rattle.net_linear.specs.Forms.{Term, just, join, turn, total, as_form}
 use Rattle.net_linear.specs.Objectives.{names_arc, braces_arc, first_or_any, is_linear, is_sum, plain_term, mixed, linear, key_of, arc_term, condition, objective, otherwise, chained}
 use Rattle.net_linear.specs.Objectives.{with_arcs, objective_form}
-use Rattle.net_base.specs.Places.{Places, Finds}
+use Rattle.net_base.specs.Places.{Places, Finds, Model}
 use Rattle.net_tree.specs.Standing.{Stands, LinksStand, PartStands}
 use Rattle.net_base.proofs.Found.{finds_then, finds_if}
 use Rattle.net_expr.proofs.OperatorFaults.{finds_truth, finds_tuple_of}

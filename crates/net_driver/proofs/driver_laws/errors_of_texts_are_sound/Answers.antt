@@ -1,8 +1,0 @@
-use Rattle.net_driver.proofs.TextFaults.{text_faults_are_first, text_faults_are_sound}
-use Rattle.net_driver.proofs.driver_laws.errors_of_texts_are_sound.Goals as goal
-
-pub returns-clause-first : goal.returns-clause-first
-returns-clause-first c = text_faults_are_first
-
-pub returns-clause-value : goal.returns-clause-value
-returns-clause-value c = text_faults_are_sound
