@@ -59,6 +59,10 @@ pub finds_after : (P : Places) {A B : Type 0} (Q : A → Type 0) (o : Outcome A)
 finds_after P Q (Ok a) f h k = k a h
 finds_after P Q (Err r) f h k = h
 
+pub finds_after_is : (P : Places) {A B : Type 0} (Q : A → Type 0) (o : Outcome A) (f : A → Outcome B) → Gives P Q o → ((a : A) → o ≡ Ok a → Q a → Finds P (f a)) → Finds P (and_then o f)
+finds_after_is P Q (Ok a) f h k = k a refl h
+finds_after_is P Q (Err r) f h k = h
+
 pub finds_each_of : (P : Places) {A B : Type 0} (R : A → Type 0) (f : A → B → Outcome B) → ((x : A) → R x → (y : B) → Finds P (f x y)) → (xs : List A) → AllByRecursion R xs → (y : B) → Finds P (each f xs y)
 finds_each_of P R f h [] k y = tt
 finds_each_of P R f h (x ∷ xs) k y = finds_then P (f x y) (each f xs) (h x k.0 y) (finds_each_of P R f h xs k.1)

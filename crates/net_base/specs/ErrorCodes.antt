@@ -106,6 +106,7 @@ says_no_network DataSyntax = true
 says_no_network RowWidth = true
 says_no_network TableWidth = true
 says_no_network NoSuchName = true
+says_no_network ArcCrossed = true
 says_no_network NoObjective = true
 says_no_network TwoObjectives = true
 says_no_network NoSuchObjective = true

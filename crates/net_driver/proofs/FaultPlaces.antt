@@ -66,7 +66,7 @@ network_lies wanted m d ds x f is are (faults.unbound _ rejected) =
     found_lies m d f (rejected_lies (IsInFiles (length m) (length d)) (binding.world ds x.statements) f
     (finds_world (IsInFiles (length m) (length d)) (λ at k. k) ds x.statements (declarations_lie m ds is).1 (statements_lie d x are)) rejected)
 network_lies wanted m d ds x f is are (faults.unbuilt w _ bound rejected) =
-    found_lies m d f (rejected_lies (IsInFiles (length m) (length d)) (network wanted w ds) f (finds_network (IsInFiles (length m) (length d)) ⊥ (λ f at k. k) wanted w ds (declarations_lie m ds is) (λ q. absurd q)) rejected)
+    found_lies m d f (rejected_lies (IsInFiles (length m) (length d)) (network wanted w ds) f (finds_network (IsInFiles (length m) (length d)) ⊥ (λ f at k. k) wanted w ds (declarations_lie m ds is) (λ q. absurd q) (λ q. absurd q)) rejected)
 
 pub fault_lies : (wanted : Option Name) (m d : List ℕ) (f : Diagnostic) → IsFirstFault wanted m d f → IsSpanIn (length (text_of m d f.text)) f.at
 fault_lies wanted m d f (faults.model _ is) = model_lies m d f is

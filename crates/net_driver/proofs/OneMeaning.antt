@@ -41,7 +41,7 @@ set_phrases : (ps : List Phrase) (ts rest : List Token) → grammar.ArePhrases g
 set_phrases [] ts rest h = tt
 set_phrases (p ∷ ps) ts rest (a, comma, (b, phrase, more)) = (set_phrase p.word p.body a b phrase, set_phrases ps b rest more)
 
-have_set_phrases : (ds : List Declaration) (ts rest : List Token) → grammar.AreDeclarations ds ts rest → AllByRecursion HasSetPhrases ds
+pub have_set_phrases : (ds : List Declaration) (ts rest : List Token) → grammar.AreDeclarations ds ts rest → AllByRecursion HasSetPhrases ds
 have_set_phrases [] ts rest h = tt
 have_set_phrases (set n ps ∷ ds) ts rest (a, (b, keyword, (c, own, (d, (once, phrases), end))), more) = (set_phrases ps c d phrases, have_set_phrases ds a rest more)
 have_set_phrases (param n b ps ∷ ds) ts rest (a, h, more) = (tt, have_set_phrases ds a rest more)

@@ -199,7 +199,7 @@ same_model text ds xs is has =
     model-unique xs (declarations ds) has.tokens has.derived
     (subst (λ ts. grammar.IsModel (declarations ds) ts) (is.means.printed ∙ same_tokens languages.Model text is.tokens has.tokens is.read has.read) (model-derived ds is.means.level))
 
-same_data : (text : List ℕ) (x y : Tables) → IsData text x → ContainsData text y → y ≡ x
+pub same_data : (text : List ℕ) (x y : Tables) → IsData text x → ContainsData text y → y ≡ x
 same_data text x y are has =
     unambiguous has.tokens y x has.derived
     (subst (IsDataFile x) (same_tokens languages.Data text are.tokens has.tokens are.read has.read) (complete are.tokens x are.written are.full))

@@ -54,7 +54,7 @@ use Rattle.net_inst.proofs.Zips.{ok_then, ok_is}
 
 -- ---- numbers, ends and coefficients
 
-number_is : (w : World) → HasSets w → (s : Scope) (t : Tree) (n : ℤ) → number w s t ≡ Ok n → IsValue (env_of w s) t (values.number n)
+pub number_is : (w : World) → HasSets w → (s : Scope) (t : Tree) (n : ℤ) → number w s t ≡ Ok n → IsValue (env_of w s) t (values.number n)
 number_is w sets s t n e = evaluation_is_sound w s t (found.One (member.Number n)) sets (placing.number_is w s t n e)
 
 end_is : (ns : BuiltNodes) (w : World) → HasSets w → (s : Scope) (o : Option Tree) (v : Option ℕ) → end_at ns w s o ≡ Ok v → IsEnd (env_of w s) o (written.end_of w s o)
@@ -119,14 +119,14 @@ coefficient_is goal g w sets s a (p ∷ ps) f new h e =
 
 -- ---- an arc at a key
 
-record AreParts (l u t h : Option Tree) (p : Parts) : Type 0 where
-  lower : l ≡ Some p.lower
-  upper : u ≡ Some p.upper
-  tail : p.tail ≡ t
-  head : p.head ≡ h
-  ended : IsTrue (is_some p.tail || is_some p.head)
+pub record AreParts (l u t h : Option Tree) (p : Parts) : Type 0 where
+  pub lower : l ≡ Some p.lower
+  pub upper : u ≡ Some p.upper
+  pub tail : p.tail ≡ t
+  pub head : p.head ≡ h
+  pub ended : IsTrue (is_some p.tail || is_some p.head)
 
-parts_are : (n : Token) (l u t h : Option Tree) (p : Parts) → parts_from n l u t h ≡ Ok p → AreParts l u t h p
+pub parts_are : (n : Token) (l u t h : Option Tree) (p : Parts) → parts_from n l u t h ≡ Ok p → AreParts l u t h p
 parts_are n None u t h p e = cc
 parts_are n (Some l) None t h p e = cc
 parts_are n (Some l) (Some u) None None p e = cc
